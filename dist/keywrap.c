@@ -54,13 +54,21 @@ typedef uint64_t u64;
 typedef int64_t s64;
 
 /* The bytes of the module's stack that a call takes, and that a step takes; the bytes of its
- * constants, and their address. */
+ * constants, and their address, of all and of those that the steps read. */
 #define STACK 2160
-#define STEPS_STACK 16
-#define DATA 3400
+#define STEPS_STACK 80
+#define DATA 3440
 #define TOP 65536
-#ifndef KEYWRAP_STEPS_ONLY
-static const u8 constants[DATA] = {
+#define STEPS_AT 68780
+#define STEPS_DATA 48
+#ifdef KEYWRAP_STEPS_ONLY
+enum { CONSTANTS = STEPS_DATA, CONSTANTS_AT = STEPS_AT };
+static const u8 constants[CONSTANTS] = {
+    0x10, 0x00, 0x00, 0x00, 0x14, 0x00, 0x00, 0x00, 0x20, 0x00, 0x00, 0x00, 0x13, 0x00, 0x00, 0x00, 0x17, 0x00, 0x00, 0x00, 0x23, 0x00, 0x00, 0x00, 0x12, 0x00, 0x00, 0x00, 0x16, 0x00, 0x00, 0x00, 0x22, 0x00, 0x00, 0x00, 0x04, 0x00, 0x00, 0x00, 0x05, 0x00, 0x00, 0x00, 0x08, 0x00, 0x00, 0x00
+};
+#else
+enum { CONSTANTS = DATA, CONSTANTS_AT = TOP };
+static const u8 constants[CONSTANTS] = {
   0x00, 0x00, 0x00, 0x01, 0x00, 0x00, 0x00, 0x02, 0x00, 0x00, 0x00, 0x04, 
   0x00, 0x00, 0x00, 0x08, 0x00, 0x00, 0x00, 0x10, 0x00, 0x00, 0x00, 0x20, 
   0x00, 0x00, 0x00, 0x40, 0x00, 0x00, 0x00, 0x80, 0x00, 0x00, 0x00, 0x1b, 
@@ -331,20 +339,23 @@ static const u8 constants[DATA] = {
   0x20, 0x68, 0x61, 0x73, 0x20, 0x74, 0x68, 0x65, 0x20, 0x6c, 0x65, 0x6e, 
   0x67, 0x74, 0x68, 0x20, 0x6f, 0x66, 0x20, 0x74, 0x68, 0x65, 0x20, 0x6b, 
   0x65, 0x79, 0x75, 0x6e, 0x6b, 0x6e, 0x6f, 0x77, 0x6e, 0x20, 0x73, 0x74, 
-  0x61, 0x74, 0x75, 0x73, 0x04, 0x00, 0x00, 0x00, 0x05, 0x00, 0x00, 0x00, 
-  0x08, 0x00, 0x00, 0x00, 0x04, 0x00, 0x00, 0x00, 0x00, 0x00, 0x00, 0x00, 
-  0x0e, 0x00, 0x00, 0x00, 0x00, 0x00, 0x00, 0x00, 0x40, 0x00, 0x00, 0x00, 
-  0x00, 0x00, 0x00, 0x00, 0x24, 0x00, 0x00, 0x00, 0x00, 0x00, 0x00, 0x00, 
-  0x0a, 0x00, 0x00, 0x00, 0x00, 0x00, 0x00, 0x00, 0x16, 0x00, 0x00, 0x00, 
+  0x61, 0x74, 0x75, 0x73, 0x10, 0x00, 0x00, 0x00, 0x14, 0x00, 0x00, 0x00, 
+  0x20, 0x00, 0x00, 0x00, 0x13, 0x00, 0x00, 0x00, 0x17, 0x00, 0x00, 0x00, 
+  0x23, 0x00, 0x00, 0x00, 0x12, 0x00, 0x00, 0x00, 0x16, 0x00, 0x00, 0x00, 
+  0x22, 0x00, 0x00, 0x00, 0x04, 0x00, 0x00, 0x00, 0x05, 0x00, 0x00, 0x00, 
+  0x08, 0x00, 0x00, 0x00, 0x00, 0x00, 0x00, 0x00, 0x04, 0x00, 0x00, 0x00, 
   0x00, 0x00, 0x00, 0x00, 0x0e, 0x00, 0x00, 0x00, 0x00, 0x00, 0x00, 0x00, 
-  0x0d, 0x00, 0x00, 0x00, 0x00, 0x00, 0x00, 0x00, 0x26, 0x00, 0x00, 0x00, 
-  0x00, 0x00, 0x00, 0x00, 0xe3, 0x0b, 0x01, 0x00, 0x00, 0x00, 0x00, 0x00, 
-  0x9e, 0x0c, 0x01, 0x00, 0x00, 0x00, 0x00, 0x00, 0xe7, 0x0b, 0x01, 0x00, 
-  0x00, 0x00, 0x00, 0x00, 0x27, 0x0c, 0x01, 0x00, 0x00, 0x00, 0x00, 0x00, 
-  0x4b, 0x0c, 0x01, 0x00, 0x00, 0x00, 0x00, 0x00, 0x55, 0x0c, 0x01, 0x00, 
+  0x40, 0x00, 0x00, 0x00, 0x00, 0x00, 0x00, 0x00, 0x24, 0x00, 0x00, 0x00, 
+  0x00, 0x00, 0x00, 0x00, 0x0a, 0x00, 0x00, 0x00, 0x00, 0x00, 0x00, 0x00, 
+  0x16, 0x00, 0x00, 0x00, 0x00, 0x00, 0x00, 0x00, 0x0e, 0x00, 0x00, 0x00, 
+  0x00, 0x00, 0x00, 0x00, 0x0d, 0x00, 0x00, 0x00, 0x00, 0x00, 0x00, 0x00, 
+  0x26, 0x00, 0x00, 0x00, 0x00, 0x00, 0x00, 0x00, 0xe3, 0x0b, 0x01, 0x00, 
   0x00, 0x00, 0x00, 0x00, 0x9e, 0x0c, 0x01, 0x00, 0x00, 0x00, 0x00, 0x00, 
-  0x6b, 0x0c, 0x01, 0x00, 0x00, 0x00, 0x00, 0x00, 0x78, 0x0c, 0x01, 0x00, 
-  0x00, 0x00, 0x00, 0x00, 
+  0xe7, 0x0b, 0x01, 0x00, 0x00, 0x00, 0x00, 0x00, 0x27, 0x0c, 0x01, 0x00, 
+  0x00, 0x00, 0x00, 0x00, 0x4b, 0x0c, 0x01, 0x00, 0x00, 0x00, 0x00, 0x00, 
+  0x55, 0x0c, 0x01, 0x00, 0x00, 0x00, 0x00, 0x00, 0x9e, 0x0c, 0x01, 0x00, 
+  0x00, 0x00, 0x00, 0x00, 0x6b, 0x0c, 0x01, 0x00, 0x00, 0x00, 0x00, 0x00, 
+  0x78, 0x0c, 0x01, 0x00, 0x00, 0x00, 0x00, 0x00, 
 };
 #endif
 
@@ -379,8 +390,9 @@ struct call {
     int count, most_used; /* how many buffers, and the number of one */
     u64 number;           /* an argument that is no buffer */
     u32 flags;            /* and one beside it */
+    const u64 *numbers;   /* or more than these */
     size_t *key_len;      /* receives the number, if any */
-    uint32_t *flag;       /* receives the flag, if any */
+    uint32_t *flag;       /* receives the flag, if any; with steps it is the flag */
     uint64_t *steps;      /* is the number, if any */
     u8 *block;            /* is the block, if any */
     int begins;           /* whether these two may be undefined before the call */
@@ -437,19 +449,15 @@ INLINE u8 *written_at(struct memory memory, u64 address, u64 len) {
 /* Returns the place of the bytes that the module reads at an address. */
 INLINE const u8 *read_at(struct memory memory, u64 address, u64 len) {
     if (holds(OWN, address - FIRST, len)) return memory.own + (address - FIRST);
-#ifndef KEYWRAP_STEPS_ONLY
-    if (holds(DATA, address - TOP, len)) return constants + (address - TOP);
-#endif
+    if (holds(CONSTANTS, address - CONSTANTS_AT, len)) return constants + (address - CONSTANTS_AT);
     return read_in(memory.call, address, len);
 }
 
-#ifndef KEYWRAP_STEPS_ONLY
 /* Returns the place of bytes that can only be constants. */
 INLINE const u8 *constant_at(u64 address, u64 len) {
-    if (address - TOP > DATA - len) KEYWRAP_TRAP();
-    return constants + (address - TOP);
+    if (address - CONSTANTS_AT > CONSTANTS - len) KEYWRAP_TRAP();
+    return constants + (address - CONSTANTS_AT);
 }
-#endif
 
 /* The bytes of a number in the other order. */
 INLINE u64 reversed(u64 value, unsigned len) {
@@ -484,8 +492,8 @@ STORE(i32_store, u32, u32)
 STORE(i64_store, u64, u64)
 STORE(i32_store8, u8, u32)
 STORE(i32_store16, u16, u32)
-#ifndef KEYWRAP_STEPS_ONLY
 LOAD_CONSTANT(i32_load, u32, u32)
+#ifndef KEYWRAP_STEPS_ONLY
 LOAD_CONSTANT(i64_load, u64, u64)
 LOAD_CONSTANT(i32_load8_u, u8, u32)
 #endif
@@ -545,6 +553,8 @@ ALWAYS_INLINE u64 perform_in(struct call *call, size_t stack) {
     memset(used, 0, stack + BESIDE);
     lay_out(call);
     if (call->steps && !call->begins) i64_store(module.w2c_memory, NUMBER, *call->steps);
+    if (call->steps && call->flag && !call->begins)
+        i32_store(module.w2c_memory, FLAG, *call->flag);
     if (call->block && !call->begins) memcpy(block, call->block, 16);
     status = call->run(&module, call);
     changed = status == KEYWRAP_OK || status == KEYWRAP_INTEGRITY;
@@ -555,6 +565,9 @@ ALWAYS_INLINE u64 perform_in(struct call *call, size_t stack) {
     clear(used, stack + BESIDE);
     return status;
 }
+
+/* For a call that has numbers only, and uses no memory. */
+#define WITHOUT_MEMORY {TOP - BESIDE, 0, {NULL, NULL}}
 
 #define READS(bytes, len, longest) {(bytes), NULL, (len), (longest), 0, 0}
 #define WRITES(bytes, len, longest) {(bytes), (bytes), (len), (longest), 0, 0}
@@ -573,84 +586,132 @@ static void w2c_f4(struct instance *, u64, u64, u64);
 static void w2c_f5(struct instance *, u64, u64, u64, u64, u64, u64, u64);
 static u64 w2c_f6(struct instance *, u64, u64, u64, u64);
 static void w2c_f7(struct instance *, u64, u64, u64, u64, u64, u64, u64, u64);
-static void w2c_f8(struct instance *, u64, u64, u64, u32, u64, u64);
-static void w2c_f9(struct instance *, u64, u64, u64, u64, u64);
-static u32 w2c_f10(struct instance *, u64, u64, u64, u64, u64);
-static void w2c_f11(struct instance *, u64, u64, u64, u64);
-static void w2c_f12(struct instance *, u64, u64, u64);
-static void w2c_f13(struct instance *, u64, u64, u32, u64, u64, u64, u64);
-static u32 w2c_f14(struct instance *, u64, u64, u64, u64, u64, u64);
-static u32 w2c_f15(struct instance *, u64, u64, u64);
-static u32 w2c_f16(struct instance *, u64, u64, u64, u64, u64, u64);
-static u32 w2c_f17(struct instance *, u64, u64, u64, u64);
-static u32 w2c_f18(struct instance *, u64, u64, u64, u64, u64, u64);
-static u32 w2c_f19(struct instance *, u64, u64, u64, u64, u64, u64, u64);
-static void w2c_f20(struct instance *, u64, u32, u64, u64, u64, u64, u64);
-static void w2c_f21(struct instance *, u64, u32, u64, u64, u64, u64, u64);
 #endif
+static void w2c_f8(struct instance *, u64, u64, u64, u64, u64);
+static void w2c_f9(struct instance *, u64, u64, u32, u64, u64, u64);
+#ifndef KEYWRAP_STEPS_ONLY
+static void w2c_f10(struct instance *, u64, u64, u64, u32, u64, u64);
+static void w2c_f11(struct instance *, u64, u64, u64, u64, u64);
+static u32 w2c_f12(struct instance *, u64, u64, u64, u64, u64);
+static void w2c_f13(struct instance *, u64, u64, u64, u64);
+static void w2c_f14(struct instance *, u64, u64, u64);
+static void w2c_f15(struct instance *, u64, u64, u32, u64, u64, u64, u64);
+static u32 w2c_f16(struct instance *, u64, u64, u64, u64, u64, u64);
+static u32 w2c_f17(struct instance *, u64, u64, u64);
+static u32 w2c_f18(struct instance *, u64, u64, u64, u64, u64, u64);
+static u32 w2c_f19(struct instance *, u64, u64, u64, u64);
+static u32 w2c_f20(struct instance *, u64, u64, u64, u64, u64, u64);
+static u32 w2c_f21(struct instance *, u64, u64, u64, u64, u64, u64, u64);
+static void w2c_f22(struct instance *, u64, u32, u64, u64, u64, u64, u64);
+static void w2c_f23(struct instance *, u64, u32, u64, u64, u64, u64, u64);
+#endif
+static u32 w2c_keywrap_begin_rewrap(struct instance *, u32, u64, u64, u64, u64, u64);
+static u32 w2c_f25(struct instance *, u32, u64, u64, u64, u64, u64);
 static u32 w2c_keywrap_begin_unwrap(struct instance *, u64, u64, u64, u64, u64);
-static u32 w2c_f23(struct instance *, u64, u64, u64, u64, u64);
+static u32 w2c_f27(struct instance *, u64, u64, u64, u64, u64);
 static u32 w2c_keywrap_begin_unwrap_padded(struct instance *, u64, u64, u64, u64, u64);
-static u32 w2c_f25(struct instance *, u64, u64, u64, u64, u64);
-static u32 w2c_keywrap_begin_wrap(struct instance *, u64, u64, u64, u64, u64, u64);
-static u32 w2c_f27(struct instance *, u64, u64, u64, u64, u64, u64);
-static u32 w2c_keywrap_begin_wrap_padded(struct instance *, u64, u64, u64, u64, u64);
 static u32 w2c_f29(struct instance *, u64, u64, u64, u64, u64);
-static u32 w2c_keywrap_end_unwrap(struct instance *, u64, u64, u64, u64, u64, u64);
+static u32 w2c_keywrap_begin_wrap(struct instance *, u64, u64, u64, u64, u64, u64);
 static u32 w2c_f31(struct instance *, u64, u64, u64, u64, u64, u64);
-static u32 w2c_keywrap_end_unwrap_padded(struct instance *, u64, u64, u64, u64, u64);
+static u32 w2c_keywrap_begin_wrap_padded(struct instance *, u64, u64, u64, u64, u64);
 static u32 w2c_f33(struct instance *, u64, u64, u64, u64, u64);
+#ifdef WITH_AES
+static u32 w2c_keywrap_begin_wrap_slot(struct instance *, u32, u64, u64, u64, u64, u64);
+static u32 w2c_f35(struct instance *, u32, u64, u64, u64, u64, u64);
+static u32 w2c_keywrap_check_keks(struct instance *, u64, u64);
+static u32 w2c_f37(struct instance *, u64, u64);
+static u32 w2c_keywrap_check_kind(struct instance *, u64, u64, u64);
+static u32 w2c_f39(struct instance *, u64, u64, u64);
+static u32 w2c_keywrap_check_kind_many(struct instance *, u64, u64, u64, u64, u64, u64);
+static u32 w2c_f41(struct instance *, u64, u64, u64, u64, u64, u64);
+static u32 w2c_keywrap_check_padded(struct instance *, u64, u64, u64);
+static u32 w2c_f43(struct instance *, u64, u64, u64);
+static u32 w2c_keywrap_check_plain(struct instance *, u64, u64, u64, u64, u64);
+static u32 w2c_f45(struct instance *, u64, u64, u64, u64, u64);
+static u32 w2c_keywrap_check_rewrap_in_place(struct instance *, u64, u64, u32);
+static u32 w2c_f47(struct instance *, u64, u64, u32);
+static u32 w2c_keywrap_check_rewrap_many(struct instance *, u64, u64, u64, u32, u64);
+static u32 w2c_f49(struct instance *, u64, u64, u64, u32, u64);
+static u32 w2c_keywrap_check_room(struct instance *, u64, u64, u64);
+static u32 w2c_f51(struct instance *, u64, u64, u64);
+static u32 w2c_keywrap_check_unwrap_many(struct instance *, u64, u64, u32, u64, u64);
+static u32 w2c_f53(struct instance *, u64, u64, u32, u64, u64);
+static u32 w2c_keywrap_check_wrap_many(struct instance *, u64, u64, u64, u32, u64);
+static u32 w2c_f55(struct instance *, u64, u64, u64, u32, u64);
+static u32 w2c_keywrap_end_rewrap(struct instance *, u32, u64);
+static u32 w2c_f57(struct instance *, u32, u64);
+static u32 w2c_keywrap_end_rewrap_in_place(struct instance *, u32, u64, u64);
+static u32 w2c_f59(struct instance *, u32, u64, u64);
+#endif
+static u32 w2c_keywrap_end_unwrap(struct instance *, u64, u64, u64, u64, u64, u64);
+static u32 w2c_f61(struct instance *, u64, u64, u64, u64, u64, u64);
+static u32 w2c_keywrap_end_unwrap_any(struct instance *, u64, u64, u64, u64, u64, u64);
+static u32 w2c_f63(struct instance *, u64, u64, u64, u64, u64, u64);
+static u32 w2c_keywrap_end_unwrap_padded(struct instance *, u64, u64, u64, u64, u64);
+static u32 w2c_f65(struct instance *, u64, u64, u64, u64, u64);
+#ifdef WITH_AES
+static u32 w2c_keywrap_end_unwrap_slot(struct instance *, u32, u64, u64, u64, u64, u64);
+static u32 w2c_f67(struct instance *, u32, u64, u64, u64, u64, u64);
+#endif
 static u32 w2c_keywrap_end_wrap(struct instance *, u64, u64, u64, u64, u64);
-static u32 w2c_f35(struct instance *, u64, u64, u64, u64);
+static u32 w2c_f69(struct instance *, u64, u64, u64, u64);
 #ifndef KEYWRAP_STEPS_ONLY
 static u32 w2c_keywrap_kind(struct instance *, u64, u64, u64, u64, u64, u64, u64, u64);
-static u32 w2c_f37(struct instance *, u64, u64, u64, u64, u64, u64, u64, u64);
+static u32 w2c_f71(struct instance *, u64, u64, u64, u64, u64, u64, u64, u64);
 static u32 w2c_keywrap_kind_many(struct instance *, u64, u64, u64, u64, u64, u64, u64, u64, u64, u64, u64, u64);
-static u32 w2c_f39(struct instance *, u64, u64, u64, u64, u64, u64, u64, u64, u64, u64, u64, u64);
-static u32 w2c_keywrap_rewrap(struct instance *, u64, u64, u64, u64, u64, u64, u32, u64);
-static u32 w2c_f41(struct instance *, u64, u64, u64, u64, u64, u64, u32, u64);
-static u32 w2c_keywrap_rewrap_in_place(struct instance *, u64, u64, u64, u64, u64, u64, u32);
-static u32 w2c_f43(struct instance *, u64, u64, u64, u64, u64, u64, u32);
-static u32 w2c_keywrap_rewrap_many(struct instance *, u64, u64, u64, u64, u64, u64, u32, u64, u64);
-static u32 w2c_f45(struct instance *, u64, u64, u64, u64, u64, u64, u32, u64, u64);
-static u32 w2c_keywrap_self_test(struct instance *);
-static u32 w2c_f47(struct instance *);
-static u64 w2c_keywrap_status_text(struct instance *, u32, u64, u64);
-static u64 w2c_f49(struct instance *, u32, u64, u64);
+static u32 w2c_f73(struct instance *, u64, u64, u64, u64, u64, u64, u64, u64, u64, u64, u64, u64);
 #endif
+static u32 w2c_keywrap_next_rewrap(struct instance *, u32, u64, u64, u64, u64, u64);
+static u32 w2c_f75(struct instance *, u32, u64, u64, u64, u64, u64);
+static u32 w2c_keywrap_next_rewrap_from(struct instance *, u32, u64, u64, u64, u64, u64, u64, u64);
+static u32 w2c_f77(struct instance *, u32, u64, u64, u64, u64, u64, u64, u64);
+#ifndef KEYWRAP_STEPS_ONLY
+static u32 w2c_keywrap_rewrap(struct instance *, u64, u64, u64, u64, u64, u64, u32, u64);
+static u32 w2c_f79(struct instance *, u64, u64, u64, u64, u64, u64, u32, u64);
+static u32 w2c_keywrap_rewrap_in_place(struct instance *, u64, u64, u64, u64, u64, u64, u32);
+static u32 w2c_f81(struct instance *, u64, u64, u64, u64, u64, u64, u32);
+static u32 w2c_keywrap_rewrap_many(struct instance *, u64, u64, u64, u64, u64, u64, u32, u64, u64);
+static u32 w2c_f83(struct instance *, u64, u64, u64, u64, u64, u64, u32, u64, u64);
+static u32 w2c_keywrap_self_test(struct instance *);
+static u32 w2c_f85(struct instance *);
+static u64 w2c_keywrap_status_text(struct instance *, u32, u64, u64);
+static u64 w2c_f87(struct instance *, u32, u64, u64);
+#endif
+static u64 w2c_keywrap_step_count(struct instance *, u64);
+static u64 w2c_f89(struct instance *, u64);
 static u32 w2c_keywrap_step_unwrap(struct instance *, u64, u64, u64, u64);
-static u32 w2c_f51(struct instance *, u64, u64, u64, u64);
+static u32 w2c_f91(struct instance *, u64, u64, u64, u64);
 static u32 w2c_keywrap_step_wrap(struct instance *, u64, u64, u64, u64);
-static u32 w2c_f53(struct instance *, u64, u64, u64, u64);
+static u32 w2c_f93(struct instance *, u64, u64, u64, u64);
 #ifndef KEYWRAP_STEPS_ONLY
 static u32 w2c_keywrap_unwrap(struct instance *, u64, u64, u64, u64, u64, u64);
-static u32 w2c_f55(struct instance *, u64, u64, u64, u64, u64, u64);
+static u32 w2c_f95(struct instance *, u64, u64, u64, u64, u64, u64);
 static u32 w2c_keywrap_unwrap_any(struct instance *, u64, u64, u64, u64, u64, u64, u64, u64);
-static u32 w2c_f57(struct instance *, u64, u64, u64, u64, u64, u64, u64, u64);
+static u32 w2c_f97(struct instance *, u64, u64, u64, u64, u64, u64, u64, u64);
 static u32 w2c_keywrap_unwrap_in_place(struct instance *, u64, u64, u64, u64);
-static u32 w2c_f59(struct instance *, u64, u64, u64, u64);
+static u32 w2c_f99(struct instance *, u64, u64, u64, u64);
 static u32 w2c_keywrap_unwrap_many(struct instance *, u64, u64, u64, u64, u32, u64, u64, u64, u64);
-static u32 w2c_f61(struct instance *, u64, u64, u64, u64, u32, u64, u64, u64, u64);
+static u32 w2c_f101(struct instance *, u64, u64, u64, u64, u32, u64, u64, u64, u64);
 static u32 w2c_keywrap_unwrap_padded(struct instance *, u64, u64, u64, u64, u64, u64, u64);
-static u32 w2c_f63(struct instance *, u64, u64, u64, u64, u64, u64, u64);
+static u32 w2c_f103(struct instance *, u64, u64, u64, u64, u64, u64, u64);
 static u32 w2c_keywrap_unwrap_padded_in_place(struct instance *, u64, u64, u64, u64, u64);
-static u32 w2c_f65(struct instance *, u64, u64, u64, u64, u64);
+static u32 w2c_f105(struct instance *, u64, u64, u64, u64, u64);
 static u32 w2c_keywrap_unwrap_with(struct instance *, u64, u64, u64, u64, u64, u64, u64, u64);
-static u32 w2c_f67(struct instance *, u64, u64, u64, u64, u64, u64, u64, u64);
+static u32 w2c_f107(struct instance *, u64, u64, u64, u64, u64, u64, u64, u64);
 static u32 w2c_keywrap_version(struct instance *);
-static void w2c_f69(struct instance *);
+static void w2c_f109(struct instance *);
 static u32 w2c_keywrap_wrap(struct instance *, u64, u64, u64, u64, u64, u64);
-static u32 w2c_f71(struct instance *, u64, u64, u64, u64, u64, u64);
+static u32 w2c_f111(struct instance *, u64, u64, u64, u64, u64, u64);
 static u32 w2c_keywrap_wrap_in_place(struct instance *, u64, u64, u64, u64);
-static u32 w2c_f73(struct instance *, u64, u64, u64, u64);
+static u32 w2c_f113(struct instance *, u64, u64, u64, u64);
 static u32 w2c_keywrap_wrap_many(struct instance *, u64, u64, u64, u64, u64, u32, u64, u64);
-static u32 w2c_f75(struct instance *, u64, u64, u64, u64, u64, u32, u64, u64);
+static u32 w2c_f115(struct instance *, u64, u64, u64, u64, u64, u32, u64, u64);
 static u32 w2c_keywrap_wrap_padded(struct instance *, u64, u64, u64, u64, u64, u64);
-static u32 w2c_f77(struct instance *, u64, u64, u64, u64, u64, u64);
+static u32 w2c_f117(struct instance *, u64, u64, u64, u64, u64, u64);
 static u32 w2c_keywrap_wrap_padded_in_place(struct instance *, u64, u64, u64, u64, u64);
-static u32 w2c_f79(struct instance *, u64, u64, u64, u64, u64);
+static u32 w2c_f119(struct instance *, u64, u64, u64, u64, u64);
 static u32 w2c_keywrap_wrap_with(struct instance *, u64, u64, u64, u64, u64, u64, u64, u64);
-static u32 w2c_f81(struct instance *, u64, u64, u64, u64, u64, u64, u64, u64);
+static u32 w2c_f121(struct instance *, u64, u64, u64, u64, u64, u64, u64, u64);
 #endif
 static u32 w2c_f0(struct instance *instance) {
   u32 w2c_l0 = 0;
@@ -1451,7 +1512,7 @@ static void w2c_f5(struct instance *instance, u64 w2c_p0, u64 w2c_p1, u64 w2c_p2
   w2c_j0 = 0ull;
   w2c_l7 = w2c_j0;
   w2c_j0 = w2c_l8;
-  w2c_j1 = 16ull;
+  w2c_j1 = 8ull;
   w2c_j0 += w2c_j1;
   w2c_j1 = w2c_p6;
   w2c_j2 = 8ull;
@@ -1596,11 +1657,9 @@ static void w2c_f5(struct instance *instance, u64 w2c_p0, u64 w2c_p1, u64 w2c_p2
   w2c_f3(instance, w2c_j0, w2c_j1, w2c_j2, w2c_j3);
   w2c_j0 = w2c_l8;
   w2c_i0 = (u32)(w2c_j0);
-  w2c_i0 = i32_load8_u(memory, (u64)(w2c_i0) + 16u);
+  w2c_i0 = i32_load8_u(memory, (u64)(w2c_i0) + 8u);
   if (w2c_i0) {goto w2c_B10;}
   w2c_j0 = w2c_l8;
-  w2c_j1 = 8ull;
-  w2c_j0 += w2c_j1;
   w2c_j1 = w2c_p4;
   w2c_j2 = w2c_l8;
   w2c_j3 = 31ull;
@@ -1621,7 +1680,7 @@ static void w2c_f5(struct instance *instance, u64 w2c_p0, u64 w2c_p1, u64 w2c_p2
   w2c_j1 = w2c_l9;
   w2c_j2 = w2c_l8;
   w2c_i2 = (u32)(w2c_j2);
-  w2c_i2 = i32_load8_u(memory, (u64)(w2c_i2) + 8u);
+  w2c_i2 = i32_load8_u(memory, (u64)(w2c_i2));
   w2c_l13 = w2c_i2;
   w2c_j0 = w2c_i2 ? w2c_j0 : w2c_j1;
   w2c_l7 = w2c_j0;
@@ -1634,7 +1693,7 @@ static void w2c_f5(struct instance *instance, u64 w2c_p0, u64 w2c_p1, u64 w2c_p2
   w2c_B10:;
   w2c_j0 = w2c_l8;
   w2c_i0 = (u32)(w2c_j0);
-  w2c_i0 = i32_load8_u(memory, (u64)(w2c_i0) + 17u);
+  w2c_i0 = i32_load8_u(memory, (u64)(w2c_i0) + 9u);
   w2c_l14 = w2c_i0;
   w2c_i0 = 0u;
   w2c_l13 = w2c_i0;
@@ -1649,10 +1708,18 @@ static void w2c_f5(struct instance *instance, u64 w2c_p0, u64 w2c_p1, u64 w2c_p2
   w2c_i0 = 1u;
   w2c_l12 = w2c_i0;
   w2c_B9:;
-  w2c_j0 = w2c_p0;
+  w2c_j0 = w2c_l8;
   w2c_i0 = (u32)(w2c_j0);
-  w2c_i1 = w2c_l12;
-  i32_store8(memory, (u64)(w2c_i0), w2c_i1);
+  w2c_j1 = w2c_l8;
+  w2c_i1 = (u32)(w2c_j1);
+  w2c_i1 = i32_load(memory, (u64)(w2c_i1) + 27u);
+  i32_store(memory, (u64)(w2c_i0) + 19, w2c_i1);
+  w2c_j0 = w2c_l8;
+  w2c_i0 = (u32)(w2c_j0);
+  w2c_j1 = w2c_l8;
+  w2c_i1 = (u32)(w2c_j1);
+  w2c_i1 = i32_load(memory, (u64)(w2c_i1) + 24u);
+  i32_store(memory, (u64)(w2c_i0) + 16, w2c_i1);
   w2c_j0 = w2c_p0;
   w2c_j1 = 8ull;
   w2c_j0 += w2c_j1;
@@ -1666,12 +1733,16 @@ static void w2c_f5(struct instance *instance, u64 w2c_p0, u64 w2c_p1, u64 w2c_p2
   w2c_i1 = w2c_l14;
   i32_store8(memory, (u64)(w2c_i0), w2c_i1);
   w2c_j0 = w2c_p0;
+  w2c_i0 = (u32)(w2c_j0);
+  w2c_i1 = w2c_l12;
+  i32_store8(memory, (u64)(w2c_i0), w2c_i1);
+  w2c_j0 = w2c_p0;
   w2c_j1 = 9ull;
   w2c_j0 += w2c_j1;
   w2c_i0 = (u32)(w2c_j0);
   w2c_j1 = w2c_l8;
   w2c_i1 = (u32)(w2c_j1);
-  w2c_i1 = i32_load(memory, (u64)(w2c_i1) + 24u);
+  w2c_i1 = i32_load(memory, (u64)(w2c_i1) + 16u);
   i32_store(memory, (u64)(w2c_i0), w2c_i1);
   w2c_j0 = w2c_p0;
   w2c_j1 = 12ull;
@@ -1679,7 +1750,7 @@ static void w2c_f5(struct instance *instance, u64 w2c_p0, u64 w2c_p1, u64 w2c_p2
   w2c_i0 = (u32)(w2c_j0);
   w2c_j1 = w2c_l8;
   w2c_i1 = (u32)(w2c_j1);
-  w2c_i1 = i32_load(memory, (u64)(w2c_i1) + 27u);
+  w2c_i1 = i32_load(memory, (u64)(w2c_i1) + 19u);
   i32_store(memory, (u64)(w2c_i0), w2c_i1);
   w2c_j0 = w2c_p0;
   w2c_j1 = 16ull;
@@ -2936,7 +3007,747 @@ static void w2c_f7(struct instance *instance, u64 w2c_p0, u64 w2c_p1, u64 w2c_p2
   w2c_j0 += w2c_j1;
   instance->w2c_g0 = w2c_j0;
 }
-static void w2c_f8(struct instance *instance, u64 w2c_p0, u64 w2c_p1, u64 w2c_p2, u32 w2c_p3, u64 w2c_p4, u64 w2c_p5) {
+#endif
+static void w2c_f8(struct instance *instance, u64 w2c_p0, u64 w2c_p1, u64 w2c_p2, u64 w2c_p3, u64 w2c_p4) {
+  u64 w2c_l5 = 0, w2c_l6 = 0, w2c_l7 = 0, w2c_l8 = 0, w2c_l9 = 0, w2c_l10 = 0;
+  const struct memory memory = instance->w2c_memory;
+  (void)memory;
+  u32 w2c_i0, w2c_i1, w2c_i2;
+  u64 w2c_j0, w2c_j1, w2c_j2, w2c_j3, w2c_j4, w2c_j5, w2c_j6;
+  w2c_j0 = instance->w2c_g0;
+  w2c_j1 = 16ull;
+  w2c_j0 -= w2c_j1;
+  w2c_l5 = w2c_j0;
+  instance->w2c_g0 = w2c_j0;
+  w2c_j0 = w2c_l5;
+  w2c_l6 = w2c_j0;
+  w2c_j1 = 16ull;
+  w2c_i0 = (u64)((s64)w2c_j0 < (s64)w2c_j1);
+  if (w2c_i0) {goto w2c_B2;}
+  w2c_j0 = w2c_p4;
+  w2c_i0 = (u32)(w2c_j0);
+  w2c_j0 = i64_load(memory, (u64)(w2c_i0));
+  w2c_l5 = w2c_j0;
+  w2c_j1 = 56ull;
+  w2c_j0 <<= (w2c_j1 & 63);
+  w2c_j1 = w2c_l5;
+  w2c_j2 = 65280ull;
+  w2c_j1 &= w2c_j2;
+  w2c_j2 = 40ull;
+  w2c_j1 <<= (w2c_j2 & 63);
+  w2c_j0 |= w2c_j1;
+  w2c_j1 = w2c_l5;
+  w2c_j2 = 16711680ull;
+  w2c_j1 &= w2c_j2;
+  w2c_j2 = 24ull;
+  w2c_j1 <<= (w2c_j2 & 63);
+  w2c_j2 = w2c_l5;
+  w2c_j3 = 4278190080ull;
+  w2c_j2 &= w2c_j3;
+  w2c_j3 = 8ull;
+  w2c_j2 <<= (w2c_j3 & 63);
+  w2c_j1 |= w2c_j2;
+  w2c_j0 |= w2c_j1;
+  w2c_j1 = w2c_l5;
+  w2c_j2 = 8ull;
+  w2c_j1 >>= (w2c_j2 & 63);
+  w2c_j2 = 4278190080ull;
+  w2c_j1 &= w2c_j2;
+  w2c_j2 = w2c_l5;
+  w2c_j3 = 24ull;
+  w2c_j2 >>= (w2c_j3 & 63);
+  w2c_j3 = 16711680ull;
+  w2c_j2 &= w2c_j3;
+  w2c_j1 |= w2c_j2;
+  w2c_j2 = w2c_l5;
+  w2c_j3 = 40ull;
+  w2c_j2 >>= (w2c_j3 & 63);
+  w2c_j3 = 65280ull;
+  w2c_j2 &= w2c_j3;
+  w2c_j3 = w2c_l5;
+  w2c_j4 = 56ull;
+  w2c_j3 >>= (w2c_j4 & 63);
+  w2c_j2 |= w2c_j3;
+  w2c_j1 |= w2c_j2;
+  w2c_j0 |= w2c_j1;
+  w2c_l7 = w2c_j0;
+  w2c_j0 = w2c_p3;
+  w2c_j1 = 18446744073709551608ull;
+  w2c_j0 += w2c_j1;
+  w2c_l8 = w2c_j0;
+  w2c_j0 = w2c_p1;
+  w2c_i0 = (u32)(w2c_j0);
+  w2c_i0 = i32_load8_u(memory, (u64)(w2c_i0));
+  w2c_i0 = !(w2c_i0);
+  if (w2c_i0) {goto w2c_B1;}
+  w2c_j0 = w2c_p1;
+  w2c_j1 = 8ull;
+  w2c_j0 += w2c_j1;
+  w2c_i0 = (u32)(w2c_j0);
+  w2c_i0 = i32_load8_u(memory, (u64)(w2c_i0));
+  if (w2c_i0) {goto w2c_B3;}
+  w2c_j0 = 1ull;
+  w2c_j1 = w2c_p1;
+  w2c_j2 = 16ull;
+  w2c_j1 += w2c_j2;
+  w2c_i1 = (u32)(w2c_j1);
+  w2c_j1 = i64_load(memory, (u64)(w2c_i1));
+  w2c_j2 = w2c_l7;
+  w2c_j1 ^= w2c_j2;
+  w2c_j2 = w2c_l8;
+  w2c_j3 = 8ull;
+  w2c_i2 = w2c_j2 == w2c_j3;
+  w2c_j0 = w2c_i2 ? w2c_j0 : w2c_j1;
+  w2c_l5 = w2c_j0;
+  w2c_j0 = w2c_p1;
+  w2c_j1 = 24ull;
+  w2c_j0 += w2c_j1;
+  w2c_i0 = (u32)(w2c_j0);
+  w2c_i0 = i32_load8_u(memory, (u64)(w2c_i0));
+  w2c_i1 = 1u;
+  w2c_i0 = w2c_i0 != w2c_i1;
+  if (w2c_i0) {goto w2c_B4;}
+  w2c_j0 = w2c_p3;
+  w2c_j1 = 11986710452722728952ull;
+  w2c_j0 += w2c_j1;
+  w2c_l7 = w2c_j0;
+  w2c_j0 = 0ull;
+  w2c_l9 = w2c_j0;
+  goto w2c_B0;
+  w2c_B4:;
+  w2c_j0 = w2c_p1;
+  w2c_j1 = 32ull;
+  w2c_j0 += w2c_j1;
+  w2c_i0 = (u32)(w2c_j0);
+  w2c_j0 = i64_load(memory, (u64)(w2c_i0));
+  w2c_l7 = w2c_j0;
+  w2c_j0 = 0ull;
+  w2c_l9 = w2c_j0;
+  goto w2c_B0;
+  w2c_B3:;
+  w2c_j0 = w2c_l8;
+  w2c_j1 = w2c_l7;
+  w2c_j2 = 4294967295ull;
+  w2c_j1 &= w2c_j2;
+  w2c_l10 = w2c_j1;
+  w2c_j0 -= w2c_j1;
+  w2c_l9 = w2c_j0;
+  w2c_j1 = 3ull;
+  w2c_j0 >>= (w2c_j1 & 63);
+  w2c_j1 = w2c_l7;
+  w2c_j2 = 32ull;
+  w2c_j1 >>= (w2c_j2 & 63);
+  w2c_j2 = 2790873510ull;
+  w2c_j1 ^= w2c_j2;
+  w2c_j0 |= w2c_j1;
+  w2c_j1 = w2c_p2;
+  w2c_j2 = w2c_p3;
+  w2c_j1 += w2c_j2;
+  w2c_j2 = 18446744073709551608ull;
+  w2c_j1 += w2c_j2;
+  w2c_i1 = (u32)(w2c_j1);
+  w2c_j1 = i64_load(memory, (u64)(w2c_i1));
+  w2c_l5 = w2c_j1;
+  w2c_j2 = 56ull;
+  w2c_j1 <<= (w2c_j2 & 63);
+  w2c_j2 = w2c_l5;
+  w2c_j3 = 65280ull;
+  w2c_j2 &= w2c_j3;
+  w2c_j3 = 40ull;
+  w2c_j2 <<= (w2c_j3 & 63);
+  w2c_j1 |= w2c_j2;
+  w2c_j2 = w2c_l5;
+  w2c_j3 = 16711680ull;
+  w2c_j2 &= w2c_j3;
+  w2c_j3 = 24ull;
+  w2c_j2 <<= (w2c_j3 & 63);
+  w2c_j3 = w2c_l5;
+  w2c_j4 = 4278190080ull;
+  w2c_j3 &= w2c_j4;
+  w2c_j4 = 8ull;
+  w2c_j3 <<= (w2c_j4 & 63);
+  w2c_j2 |= w2c_j3;
+  w2c_j1 |= w2c_j2;
+  w2c_j2 = w2c_l5;
+  w2c_j3 = 8ull;
+  w2c_j2 >>= (w2c_j3 & 63);
+  w2c_j3 = 4278190080ull;
+  w2c_j2 &= w2c_j3;
+  w2c_j3 = w2c_l5;
+  w2c_j4 = 24ull;
+  w2c_j3 >>= (w2c_j4 & 63);
+  w2c_j4 = 16711680ull;
+  w2c_j3 &= w2c_j4;
+  w2c_j2 |= w2c_j3;
+  w2c_j3 = w2c_l5;
+  w2c_j4 = 40ull;
+  w2c_j3 >>= (w2c_j4 & 63);
+  w2c_j4 = 65280ull;
+  w2c_j3 &= w2c_j4;
+  w2c_j4 = w2c_l5;
+  w2c_j5 = 56ull;
+  w2c_j4 >>= (w2c_j5 & 63);
+  w2c_j3 |= w2c_j4;
+  w2c_j2 |= w2c_j3;
+  w2c_j1 |= w2c_j2;
+  w2c_j2 = 18446744073709551615ull;
+  w2c_j3 = w2c_l9;
+  w2c_j4 = 3ull;
+  w2c_j3 <<= (w2c_j4 & 63);
+  w2c_j2 <<= (w2c_j3 & 63);
+  w2c_j3 = 18446744073709551615ull;
+  w2c_j2 ^= w2c_j3;
+  w2c_j1 &= w2c_j2;
+  w2c_j0 |= w2c_j1;
+  w2c_l5 = w2c_j0;
+  w2c_j0 = 0ull;
+  w2c_l9 = w2c_j0;
+  w2c_j0 = w2c_p1;
+  w2c_j1 = 24ull;
+  w2c_j0 += w2c_j1;
+  w2c_i0 = (u32)(w2c_j0);
+  w2c_i0 = i32_load8_u(memory, (u64)(w2c_i0));
+  if (w2c_i0) {goto w2c_B0;}
+  w2c_j0 = w2c_l10;
+  w2c_j1 = w2c_l8;
+  w2c_j0 ^= w2c_j1;
+  w2c_j1 = w2c_l8;
+  w2c_j2 = 8ull;
+  w2c_i1 = w2c_j1 == w2c_j2;
+  w2c_j1 = (u64)(w2c_i1);
+  w2c_j0 |= w2c_j1;
+  w2c_l9 = w2c_j0;
+  w2c_j0 = w2c_p1;
+  w2c_j1 = 32ull;
+  w2c_j0 += w2c_j1;
+  w2c_i0 = (u32)(w2c_j0);
+  w2c_j0 = i64_load(memory, (u64)(w2c_i0));
+  w2c_l7 = w2c_j0;
+  goto w2c_B0;
+  w2c_B2:;
+  UNREACHABLE;
+  w2c_B1:;
+  w2c_j0 = 0ull;
+  w2c_l9 = w2c_j0;
+  w2c_j0 = w2c_l8;
+  w2c_j1 = 8ull;
+  w2c_i0 = w2c_j0 == w2c_j1;
+  w2c_j1 = w2c_l5;
+  w2c_j2 = 12008468691120727718ull;
+  w2c_i1 = w2c_j1 != w2c_j2;
+  w2c_i0 |= w2c_i1;
+  w2c_j1 = w2c_l8;
+  w2c_j2 = w2c_l7;
+  w2c_j3 = 4294967295ull;
+  w2c_j2 &= w2c_j3;
+  w2c_j1 -= w2c_j2;
+  w2c_p1 = w2c_j1;
+  w2c_j2 = 3ull;
+  w2c_j1 >>= (w2c_j2 & 63);
+  w2c_j2 = w2c_l7;
+  w2c_j3 = 32ull;
+  w2c_j2 >>= (w2c_j3 & 63);
+  w2c_j3 = 2790873510ull;
+  w2c_j2 ^= w2c_j3;
+  w2c_j1 |= w2c_j2;
+  w2c_j2 = w2c_p2;
+  w2c_j3 = w2c_p3;
+  w2c_j2 += w2c_j3;
+  w2c_j3 = 18446744073709551608ull;
+  w2c_j2 += w2c_j3;
+  w2c_i2 = (u32)(w2c_j2);
+  w2c_j2 = i64_load(memory, (u64)(w2c_i2));
+  w2c_l5 = w2c_j2;
+  w2c_j3 = 56ull;
+  w2c_j2 <<= (w2c_j3 & 63);
+  w2c_j3 = w2c_l5;
+  w2c_j4 = 65280ull;
+  w2c_j3 &= w2c_j4;
+  w2c_j4 = 40ull;
+  w2c_j3 <<= (w2c_j4 & 63);
+  w2c_j2 |= w2c_j3;
+  w2c_j3 = w2c_l5;
+  w2c_j4 = 16711680ull;
+  w2c_j3 &= w2c_j4;
+  w2c_j4 = 24ull;
+  w2c_j3 <<= (w2c_j4 & 63);
+  w2c_j4 = w2c_l5;
+  w2c_j5 = 4278190080ull;
+  w2c_j4 &= w2c_j5;
+  w2c_j5 = 8ull;
+  w2c_j4 <<= (w2c_j5 & 63);
+  w2c_j3 |= w2c_j4;
+  w2c_j2 |= w2c_j3;
+  w2c_j3 = w2c_l5;
+  w2c_j4 = 8ull;
+  w2c_j3 >>= (w2c_j4 & 63);
+  w2c_j4 = 4278190080ull;
+  w2c_j3 &= w2c_j4;
+  w2c_j4 = w2c_l5;
+  w2c_j5 = 24ull;
+  w2c_j4 >>= (w2c_j5 & 63);
+  w2c_j5 = 16711680ull;
+  w2c_j4 &= w2c_j5;
+  w2c_j3 |= w2c_j4;
+  w2c_j4 = w2c_l5;
+  w2c_j5 = 40ull;
+  w2c_j4 >>= (w2c_j5 & 63);
+  w2c_j5 = 65280ull;
+  w2c_j4 &= w2c_j5;
+  w2c_j5 = w2c_l5;
+  w2c_j6 = 56ull;
+  w2c_j5 >>= (w2c_j6 & 63);
+  w2c_j4 |= w2c_j5;
+  w2c_j3 |= w2c_j4;
+  w2c_j2 |= w2c_j3;
+  w2c_j3 = 18446744073709551615ull;
+  w2c_j4 = w2c_p1;
+  w2c_j5 = 3ull;
+  w2c_j4 <<= (w2c_j5 & 63);
+  w2c_j3 <<= (w2c_j4 & 63);
+  w2c_j4 = 18446744073709551615ull;
+  w2c_j3 ^= w2c_j4;
+  w2c_j2 &= w2c_j3;
+  w2c_j1 |= w2c_j2;
+  w2c_j2 = 0ull;
+  w2c_i1 = w2c_j1 != w2c_j2;
+  w2c_i0 &= w2c_i1;
+  w2c_j0 = (u64)(w2c_i0);
+  w2c_l5 = w2c_j0;
+  w2c_B0:;
+  w2c_j0 = w2c_l6;
+  w2c_j1 = 8ull;
+  w2c_j0 += w2c_j1;
+  w2c_j1 = w2c_l5;
+  w2c_j2 = w2c_l6;
+  w2c_j3 = 15ull;
+  w2c_j2 += w2c_j3;
+  w2c_j3 = 0ull;
+  w2c_f3(instance, w2c_j0, w2c_j1, w2c_j2, w2c_j3);
+  w2c_j0 = w2c_l6;
+  w2c_i0 = (u32)(w2c_j0);
+  w2c_i0 = i32_load8_u(memory, (u64)(w2c_i0) + 8u);
+  w2c_i0 = !(w2c_i0);
+  if (w2c_i0) {goto w2c_B6;}
+  w2c_j0 = w2c_p4;
+  w2c_i0 = (u32)(w2c_j0);
+  w2c_j1 = w2c_p2;
+  w2c_j2 = 8ull;
+  w2c_j1 += w2c_j2;
+  w2c_i1 = (u32)(w2c_j1);
+  w2c_j1 = i64_load(memory, (u64)(w2c_i1));
+  i64_store(memory, (u64)(w2c_i0) + 8, w2c_j1);
+  w2c_j0 = w2c_p0;
+  w2c_j1 = 2ull;
+  w2c_j0 += w2c_j1;
+  w2c_i0 = (u32)(w2c_j0);
+  w2c_i1 = 0u;
+  i32_store8(memory, (u64)(w2c_i0), w2c_i1);
+  w2c_j0 = w2c_p0;
+  w2c_i0 = (u32)(w2c_j0);
+  w2c_i1 = 257u;
+  i32_store16(memory, (u64)(w2c_i0), w2c_i1);
+  goto w2c_B5;
+  w2c_B6:;
+  w2c_j0 = w2c_l6;
+  w2c_j1 = w2c_l9;
+  w2c_j2 = w2c_l6;
+  w2c_j3 = 15ull;
+  w2c_j2 += w2c_j3;
+  w2c_j3 = 0ull;
+  w2c_f3(instance, w2c_j0, w2c_j1, w2c_j2, w2c_j3);
+  w2c_j0 = w2c_l6;
+  w2c_i0 = (u32)(w2c_j0);
+  w2c_i0 = i32_load8_u(memory, (u64)(w2c_i0));
+  w2c_i0 = !(w2c_i0);
+  if (w2c_i0) {goto w2c_B7;}
+  w2c_j0 = w2c_p4;
+  w2c_i0 = (u32)(w2c_j0);
+  w2c_j1 = w2c_p2;
+  w2c_j2 = 8ull;
+  w2c_j1 += w2c_j2;
+  w2c_i1 = (u32)(w2c_j1);
+  w2c_j1 = i64_load(memory, (u64)(w2c_i1));
+  i64_store(memory, (u64)(w2c_i0) + 8, w2c_j1);
+  w2c_j0 = w2c_p0;
+  w2c_j1 = 2ull;
+  w2c_j0 += w2c_j1;
+  w2c_i0 = (u32)(w2c_j0);
+  w2c_i1 = 0u;
+  i32_store8(memory, (u64)(w2c_i0), w2c_i1);
+  w2c_j0 = w2c_p0;
+  w2c_i0 = (u32)(w2c_j0);
+  w2c_i1 = 513u;
+  i32_store16(memory, (u64)(w2c_i0), w2c_i1);
+  goto w2c_B5;
+  w2c_B7:;
+  w2c_j0 = w2c_p4;
+  w2c_i0 = (u32)(w2c_j0);
+  w2c_j1 = w2c_p2;
+  w2c_j2 = 8ull;
+  w2c_j1 += w2c_j2;
+  w2c_i1 = (u32)(w2c_j1);
+  w2c_j1 = i64_load(memory, (u64)(w2c_i1));
+  i64_store(memory, (u64)(w2c_i0) + 8, w2c_j1);
+  w2c_j0 = w2c_p4;
+  w2c_i0 = (u32)(w2c_j0);
+  w2c_j1 = w2c_l7;
+  w2c_j2 = 56ull;
+  w2c_j1 <<= (w2c_j2 & 63);
+  w2c_j2 = w2c_l7;
+  w2c_j3 = 65280ull;
+  w2c_j2 &= w2c_j3;
+  w2c_j3 = 40ull;
+  w2c_j2 <<= (w2c_j3 & 63);
+  w2c_j1 |= w2c_j2;
+  w2c_j2 = w2c_l7;
+  w2c_j3 = 16711680ull;
+  w2c_j2 &= w2c_j3;
+  w2c_j3 = 24ull;
+  w2c_j2 <<= (w2c_j3 & 63);
+  w2c_j3 = w2c_l7;
+  w2c_j4 = 4278190080ull;
+  w2c_j3 &= w2c_j4;
+  w2c_j4 = 8ull;
+  w2c_j3 <<= (w2c_j4 & 63);
+  w2c_j2 |= w2c_j3;
+  w2c_j1 |= w2c_j2;
+  w2c_j2 = w2c_l7;
+  w2c_j3 = 8ull;
+  w2c_j2 >>= (w2c_j3 & 63);
+  w2c_j3 = 4278190080ull;
+  w2c_j2 &= w2c_j3;
+  w2c_j3 = w2c_l7;
+  w2c_j4 = 24ull;
+  w2c_j3 >>= (w2c_j4 & 63);
+  w2c_j4 = 16711680ull;
+  w2c_j3 &= w2c_j4;
+  w2c_j2 |= w2c_j3;
+  w2c_j3 = w2c_l7;
+  w2c_j4 = 40ull;
+  w2c_j3 >>= (w2c_j4 & 63);
+  w2c_j4 = 65280ull;
+  w2c_j3 &= w2c_j4;
+  w2c_j4 = w2c_l7;
+  w2c_j5 = 56ull;
+  w2c_j4 >>= (w2c_j5 & 63);
+  w2c_j3 |= w2c_j4;
+  w2c_j2 |= w2c_j3;
+  w2c_j1 |= w2c_j2;
+  i64_store(memory, (u64)(w2c_i0), w2c_j1);
+  w2c_j0 = w2c_p0;
+  w2c_j1 = 2ull;
+  w2c_j0 += w2c_j1;
+  w2c_i0 = (u32)(w2c_j0);
+  w2c_i1 = 0u;
+  i32_store8(memory, (u64)(w2c_i0), w2c_i1);
+  w2c_j0 = w2c_p0;
+  w2c_i0 = (u32)(w2c_j0);
+  w2c_i1 = 3u;
+  i32_store16(memory, (u64)(w2c_i0), w2c_i1);
+  w2c_B5:;
+  w2c_j0 = w2c_l6;
+  w2c_j1 = 16ull;
+  w2c_j0 += w2c_j1;
+  instance->w2c_g0 = w2c_j0;
+}
+static void w2c_f9(struct instance *instance, u64 w2c_p0, u64 w2c_p1, u32 w2c_p2, u64 w2c_p3, u64 w2c_p4, u64 w2c_p5) {
+  u32 w2c_l10 = 0;
+  u64 w2c_l6 = 0, w2c_l7 = 0, w2c_l8 = 0, w2c_l9 = 0;
+  const struct memory memory = instance->w2c_memory;
+  (void)memory;
+  u32 w2c_i0, w2c_i1, w2c_i2, w2c_i3;
+  u64 w2c_j0, w2c_j1, w2c_j2, w2c_j3, w2c_j4, w2c_j5, w2c_j6;
+  w2c_j0 = instance->w2c_g0;
+  w2c_j1 = 16ull;
+  w2c_j0 -= w2c_j1;
+  w2c_l6 = w2c_j0;
+  instance->w2c_g0 = w2c_j0;
+  w2c_j0 = w2c_l6;
+  w2c_l7 = w2c_j0;
+  w2c_j1 = 16ull;
+  w2c_i0 = (u64)((s64)w2c_j0 < (s64)w2c_j1);
+  if (w2c_i0) {goto w2c_B0;}
+  w2c_j0 = w2c_p5;
+  w2c_i0 = (u32)(w2c_j0);
+  w2c_j0 = i64_load(memory, (u64)(w2c_i0));
+  w2c_l6 = w2c_j0;
+  w2c_j1 = 56ull;
+  w2c_j0 <<= (w2c_j1 & 63);
+  w2c_j1 = w2c_l6;
+  w2c_j2 = 65280ull;
+  w2c_j1 &= w2c_j2;
+  w2c_j2 = 40ull;
+  w2c_j1 <<= (w2c_j2 & 63);
+  w2c_j0 |= w2c_j1;
+  w2c_j1 = w2c_l6;
+  w2c_j2 = 16711680ull;
+  w2c_j1 &= w2c_j2;
+  w2c_j2 = 24ull;
+  w2c_j1 <<= (w2c_j2 & 63);
+  w2c_j2 = w2c_l6;
+  w2c_j3 = 4278190080ull;
+  w2c_j2 &= w2c_j3;
+  w2c_j3 = 8ull;
+  w2c_j2 <<= (w2c_j3 & 63);
+  w2c_j1 |= w2c_j2;
+  w2c_j0 |= w2c_j1;
+  w2c_j1 = w2c_l6;
+  w2c_j2 = 8ull;
+  w2c_j1 >>= (w2c_j2 & 63);
+  w2c_j2 = 4278190080ull;
+  w2c_j1 &= w2c_j2;
+  w2c_j2 = w2c_l6;
+  w2c_j3 = 24ull;
+  w2c_j2 >>= (w2c_j3 & 63);
+  w2c_j3 = 16711680ull;
+  w2c_j2 &= w2c_j3;
+  w2c_j1 |= w2c_j2;
+  w2c_j2 = w2c_l6;
+  w2c_j3 = 40ull;
+  w2c_j2 >>= (w2c_j3 & 63);
+  w2c_j3 = 65280ull;
+  w2c_j2 &= w2c_j3;
+  w2c_j3 = w2c_l6;
+  w2c_j4 = 56ull;
+  w2c_j3 >>= (w2c_j4 & 63);
+  w2c_j2 |= w2c_j3;
+  w2c_j1 |= w2c_j2;
+  w2c_j0 |= w2c_j1;
+  w2c_l8 = w2c_j0;
+  w2c_j0 = w2c_p4;
+  w2c_j1 = 18446744073709551608ull;
+  w2c_j0 += w2c_j1;
+  w2c_l9 = w2c_j0;
+  w2c_j0 = w2c_p1;
+  w2c_i0 = (u32)(w2c_j0);
+  w2c_i0 = i32_load8_u(memory, (u64)(w2c_i0));
+  if (w2c_i0) {goto w2c_B2;}
+  w2c_j0 = w2c_l9;
+  w2c_j1 = 8ull;
+  w2c_i0 = w2c_j0 == w2c_j1;
+  w2c_j1 = w2c_l6;
+  w2c_j2 = 12008468691120727718ull;
+  w2c_i1 = w2c_j1 != w2c_j2;
+  w2c_i0 |= w2c_i1;
+  w2c_j1 = w2c_l9;
+  w2c_j2 = w2c_l8;
+  w2c_j3 = 4294967295ull;
+  w2c_j2 &= w2c_j3;
+  w2c_j1 -= w2c_j2;
+  w2c_p1 = w2c_j1;
+  w2c_j2 = 3ull;
+  w2c_j1 >>= (w2c_j2 & 63);
+  w2c_j2 = w2c_l8;
+  w2c_j3 = 32ull;
+  w2c_j2 >>= (w2c_j3 & 63);
+  w2c_j3 = 2790873510ull;
+  w2c_j2 ^= w2c_j3;
+  w2c_j1 |= w2c_j2;
+  w2c_j2 = w2c_p3;
+  w2c_j3 = w2c_p4;
+  w2c_j2 += w2c_j3;
+  w2c_j3 = 18446744073709551608ull;
+  w2c_j2 += w2c_j3;
+  w2c_i2 = (u32)(w2c_j2);
+  w2c_j2 = i64_load(memory, (u64)(w2c_i2));
+  w2c_l6 = w2c_j2;
+  w2c_j3 = 56ull;
+  w2c_j2 <<= (w2c_j3 & 63);
+  w2c_j3 = w2c_l6;
+  w2c_j4 = 65280ull;
+  w2c_j3 &= w2c_j4;
+  w2c_j4 = 40ull;
+  w2c_j3 <<= (w2c_j4 & 63);
+  w2c_j2 |= w2c_j3;
+  w2c_j3 = w2c_l6;
+  w2c_j4 = 16711680ull;
+  w2c_j3 &= w2c_j4;
+  w2c_j4 = 24ull;
+  w2c_j3 <<= (w2c_j4 & 63);
+  w2c_j4 = w2c_l6;
+  w2c_j5 = 4278190080ull;
+  w2c_j4 &= w2c_j5;
+  w2c_j5 = 8ull;
+  w2c_j4 <<= (w2c_j5 & 63);
+  w2c_j3 |= w2c_j4;
+  w2c_j2 |= w2c_j3;
+  w2c_j3 = w2c_l6;
+  w2c_j4 = 8ull;
+  w2c_j3 >>= (w2c_j4 & 63);
+  w2c_j4 = 4278190080ull;
+  w2c_j3 &= w2c_j4;
+  w2c_j4 = w2c_l6;
+  w2c_j5 = 24ull;
+  w2c_j4 >>= (w2c_j5 & 63);
+  w2c_j5 = 16711680ull;
+  w2c_j4 &= w2c_j5;
+  w2c_j3 |= w2c_j4;
+  w2c_j4 = w2c_l6;
+  w2c_j5 = 40ull;
+  w2c_j4 >>= (w2c_j5 & 63);
+  w2c_j5 = 65280ull;
+  w2c_j4 &= w2c_j5;
+  w2c_j5 = w2c_l6;
+  w2c_j6 = 56ull;
+  w2c_j5 >>= (w2c_j6 & 63);
+  w2c_j4 |= w2c_j5;
+  w2c_j3 |= w2c_j4;
+  w2c_j2 |= w2c_j3;
+  w2c_j3 = 18446744073709551615ull;
+  w2c_j4 = w2c_p1;
+  w2c_j5 = 3ull;
+  w2c_j4 <<= (w2c_j5 & 63);
+  w2c_j3 <<= (w2c_j4 & 63);
+  w2c_j4 = 18446744073709551615ull;
+  w2c_j3 ^= w2c_j4;
+  w2c_j2 &= w2c_j3;
+  w2c_j1 |= w2c_j2;
+  w2c_j2 = 0ull;
+  w2c_i1 = w2c_j1 != w2c_j2;
+  w2c_i0 &= w2c_i1;
+  w2c_j0 = (u64)(w2c_i0);
+  w2c_l6 = w2c_j0;
+  goto w2c_B1;
+  w2c_B2:;
+  w2c_j0 = w2c_p1;
+  w2c_j1 = 24ull;
+  w2c_j0 += w2c_j1;
+  w2c_i0 = (u32)(w2c_j0);
+  w2c_i0 = i32_load8_u(memory, (u64)(w2c_i0));
+  if (w2c_i0) {goto w2c_B3;}
+  w2c_j0 = 1ull;
+  w2c_j1 = w2c_p1;
+  w2c_j2 = 32ull;
+  w2c_j1 += w2c_j2;
+  w2c_i1 = (u32)(w2c_j1);
+  w2c_j1 = i64_load(memory, (u64)(w2c_i1));
+  w2c_j2 = w2c_l8;
+  w2c_j1 ^= w2c_j2;
+  w2c_j2 = w2c_l9;
+  w2c_j3 = 8ull;
+  w2c_i2 = w2c_j2 == w2c_j3;
+  w2c_j0 = w2c_i2 ? w2c_j0 : w2c_j1;
+  w2c_l6 = w2c_j0;
+  goto w2c_B1;
+  w2c_B3:;
+  w2c_j0 = w2c_l9;
+  w2c_j1 = w2c_l8;
+  w2c_j2 = 4294967295ull;
+  w2c_j1 &= w2c_j2;
+  w2c_j0 -= w2c_j1;
+  w2c_p1 = w2c_j0;
+  w2c_j1 = 3ull;
+  w2c_j0 >>= (w2c_j1 & 63);
+  w2c_j1 = w2c_l8;
+  w2c_j2 = 32ull;
+  w2c_j1 >>= (w2c_j2 & 63);
+  w2c_j2 = 2790873510ull;
+  w2c_j1 ^= w2c_j2;
+  w2c_j0 |= w2c_j1;
+  w2c_j1 = w2c_p3;
+  w2c_j2 = w2c_p4;
+  w2c_j1 += w2c_j2;
+  w2c_j2 = 18446744073709551608ull;
+  w2c_j1 += w2c_j2;
+  w2c_i1 = (u32)(w2c_j1);
+  w2c_j1 = i64_load(memory, (u64)(w2c_i1));
+  w2c_l6 = w2c_j1;
+  w2c_j2 = 56ull;
+  w2c_j1 <<= (w2c_j2 & 63);
+  w2c_j2 = w2c_l6;
+  w2c_j3 = 65280ull;
+  w2c_j2 &= w2c_j3;
+  w2c_j3 = 40ull;
+  w2c_j2 <<= (w2c_j3 & 63);
+  w2c_j1 |= w2c_j2;
+  w2c_j2 = w2c_l6;
+  w2c_j3 = 16711680ull;
+  w2c_j2 &= w2c_j3;
+  w2c_j3 = 24ull;
+  w2c_j2 <<= (w2c_j3 & 63);
+  w2c_j3 = w2c_l6;
+  w2c_j4 = 4278190080ull;
+  w2c_j3 &= w2c_j4;
+  w2c_j4 = 8ull;
+  w2c_j3 <<= (w2c_j4 & 63);
+  w2c_j2 |= w2c_j3;
+  w2c_j1 |= w2c_j2;
+  w2c_j2 = w2c_l6;
+  w2c_j3 = 8ull;
+  w2c_j2 >>= (w2c_j3 & 63);
+  w2c_j3 = 4278190080ull;
+  w2c_j2 &= w2c_j3;
+  w2c_j3 = w2c_l6;
+  w2c_j4 = 24ull;
+  w2c_j3 >>= (w2c_j4 & 63);
+  w2c_j4 = 16711680ull;
+  w2c_j3 &= w2c_j4;
+  w2c_j2 |= w2c_j3;
+  w2c_j3 = w2c_l6;
+  w2c_j4 = 40ull;
+  w2c_j3 >>= (w2c_j4 & 63);
+  w2c_j4 = 65280ull;
+  w2c_j3 &= w2c_j4;
+  w2c_j4 = w2c_l6;
+  w2c_j5 = 56ull;
+  w2c_j4 >>= (w2c_j5 & 63);
+  w2c_j3 |= w2c_j4;
+  w2c_j2 |= w2c_j3;
+  w2c_j1 |= w2c_j2;
+  w2c_j2 = 18446744073709551615ull;
+  w2c_j3 = w2c_p1;
+  w2c_j4 = 3ull;
+  w2c_j3 <<= (w2c_j4 & 63);
+  w2c_j2 <<= (w2c_j3 & 63);
+  w2c_j3 = 18446744073709551615ull;
+  w2c_j2 ^= w2c_j3;
+  w2c_j1 &= w2c_j2;
+  w2c_j0 |= w2c_j1;
+  w2c_l6 = w2c_j0;
+  w2c_B1:;
+  w2c_j0 = w2c_p5;
+  w2c_i0 = (u32)(w2c_j0);
+  w2c_j1 = w2c_p3;
+  w2c_j2 = 8ull;
+  w2c_j1 += w2c_j2;
+  w2c_i1 = (u32)(w2c_j1);
+  w2c_j1 = i64_load(memory, (u64)(w2c_i1));
+  i64_store(memory, (u64)(w2c_i0) + 8, w2c_j1);
+  w2c_j0 = w2c_l7;
+  w2c_j1 = 8ull;
+  w2c_j0 += w2c_j1;
+  w2c_j1 = w2c_l6;
+  w2c_j2 = w2c_l7;
+  w2c_j3 = 15ull;
+  w2c_j2 += w2c_j3;
+  w2c_j3 = 0ull;
+  w2c_f3(instance, w2c_j0, w2c_j1, w2c_j2, w2c_j3);
+  w2c_j0 = w2c_p0;
+  w2c_i0 = (u32)(w2c_j0);
+  w2c_j1 = w2c_l7;
+  w2c_i1 = (u32)(w2c_j1);
+  w2c_i1 = i32_load8_u(memory, (u64)(w2c_i1) + 8u);
+  w2c_l10 = w2c_i1;
+  i32_store8(memory, (u64)(w2c_i0), w2c_i1);
+  w2c_j0 = w2c_p0;
+  w2c_i0 = (u32)(w2c_j0);
+  w2c_i1 = w2c_p2;
+  w2c_i2 = 1u;
+  w2c_i3 = w2c_l10;
+  w2c_i1 = w2c_i3 ? w2c_i1 : w2c_i2;
+  i32_store8(memory, (u64)(w2c_i0) + 1, w2c_i1);
+  w2c_j0 = w2c_l7;
+  w2c_j1 = 16ull;
+  w2c_j0 += w2c_j1;
+  instance->w2c_g0 = w2c_j0;
+  goto w2c_Bfunc;
+  w2c_B0:;
+  UNREACHABLE;
+  w2c_Bfunc:;
+}
+#ifndef KEYWRAP_STEPS_ONLY
+static void w2c_f10(struct instance *instance, u64 w2c_p0, u64 w2c_p1, u64 w2c_p2, u32 w2c_p3, u64 w2c_p4, u64 w2c_p5) {
   u32 w2c_l12 = 0, w2c_l13 = 0, w2c_l14 = 0, w2c_l15 = 0;
   u64 w2c_l6 = 0, w2c_l7 = 0, w2c_l8 = 0, w2c_l9 = 0, w2c_l10 = 0, w2c_l11 = 0;
   const struct memory memory = instance->w2c_memory;
@@ -3096,7 +3907,7 @@ static void w2c_f8(struct instance *instance, u64 w2c_p0, u64 w2c_p1, u64 w2c_p2
   w2c_j2 = w2c_l6;
   w2c_j3 = w2c_p4;
   w2c_j4 = w2c_p5;
-  w2c_f9(instance, w2c_j0, w2c_j1, w2c_j2, w2c_j3, w2c_j4);
+  w2c_f11(instance, w2c_j0, w2c_j1, w2c_j2, w2c_j3, w2c_j4);
   w2c_j0 = w2c_l6;
   w2c_i0 = (u32)(w2c_j0);
   w2c_i0 = i32_load8_u(memory, (u64)(w2c_i0) + 40u);
@@ -3153,7 +3964,7 @@ static void w2c_f8(struct instance *instance, u64 w2c_p0, u64 w2c_p1, u64 w2c_p2
   w2c_j2 = w2c_l10;
   w2c_j3 = w2c_p4;
   w2c_j4 = w2c_p5;
-  w2c_i0 = w2c_f10(instance, w2c_j0, w2c_j1, w2c_j2, w2c_j3, w2c_j4);
+  w2c_i0 = w2c_f12(instance, w2c_j0, w2c_j1, w2c_j2, w2c_j3, w2c_j4);
   w2c_i1 = 255u;
   w2c_i0 &= w2c_i1;
   if (w2c_i0) {goto w2c_B9;}
@@ -3161,7 +3972,7 @@ static void w2c_f8(struct instance *instance, u64 w2c_p0, u64 w2c_p1, u64 w2c_p2
   w2c_j1 = w2c_l8;
   w2c_j2 = w2c_p4;
   w2c_j3 = w2c_p5;
-  w2c_f11(instance, w2c_j0, w2c_j1, w2c_j2, w2c_j3);
+  w2c_f13(instance, w2c_j0, w2c_j1, w2c_j2, w2c_j3);
   w2c_i0 = 0u;
   w2c_l13 = w2c_i0;
   w2c_i0 = 0u;
@@ -3233,7 +4044,7 @@ static void w2c_f8(struct instance *instance, u64 w2c_p0, u64 w2c_p1, u64 w2c_p2
   w2c_j2 += w2c_j3;
   w2c_j3 = w2c_p4;
   w2c_j4 = w2c_p5;
-  w2c_f9(instance, w2c_j0, w2c_j1, w2c_j2, w2c_j3, w2c_j4);
+  w2c_f11(instance, w2c_j0, w2c_j1, w2c_j2, w2c_j3, w2c_j4);
   w2c_i0 = w2c_l15;
   w2c_l13 = w2c_i0;
   w2c_j0 = w2c_l6;
@@ -3247,7 +4058,7 @@ static void w2c_f8(struct instance *instance, u64 w2c_p0, u64 w2c_p1, u64 w2c_p2
   w2c_j1 = i64_load(memory, (u64)(w2c_i1) + 88u);
   w2c_j2 = w2c_p4;
   w2c_j3 = w2c_p5;
-  w2c_f11(instance, w2c_j0, w2c_j1, w2c_j2, w2c_j3);
+  w2c_f13(instance, w2c_j0, w2c_j1, w2c_j2, w2c_j3);
   w2c_i0 = 0u;
   w2c_l12 = w2c_i0;
   w2c_i0 = 1u;
@@ -3270,7 +4081,7 @@ static void w2c_f8(struct instance *instance, u64 w2c_p0, u64 w2c_p1, u64 w2c_p2
   UNREACHABLE;
   w2c_Bfunc:;
 }
-static void w2c_f9(struct instance *instance, u64 w2c_p0, u64 w2c_p1, u64 w2c_p2, u64 w2c_p3, u64 w2c_p4) {
+static void w2c_f11(struct instance *instance, u64 w2c_p0, u64 w2c_p1, u64 w2c_p2, u64 w2c_p3, u64 w2c_p4) {
   u64 w2c_l5 = 0, w2c_l6 = 0, w2c_l7 = 0;
   const struct memory memory = instance->w2c_memory;
   (void)memory;
@@ -3587,7 +4398,7 @@ static void w2c_f9(struct instance *instance, u64 w2c_p0, u64 w2c_p1, u64 w2c_p2
   w2c_j2 = w2c_p2;
   w2c_j3 = w2c_p3;
   w2c_j4 = w2c_p4;
-  w2c_i0 = w2c_f10(instance, w2c_j0, w2c_j1, w2c_j2, w2c_j3, w2c_j4);
+  w2c_i0 = w2c_f12(instance, w2c_j0, w2c_j1, w2c_j2, w2c_j3, w2c_j4);
   w2c_i1 = 255u;
   w2c_i0 &= w2c_i1;
   w2c_i0 = !(w2c_i0);
@@ -3620,7 +4431,7 @@ static void w2c_f9(struct instance *instance, u64 w2c_p0, u64 w2c_p1, u64 w2c_p2
   instance->w2c_g0 = w2c_j0;
   w2c_Bfunc:;
 }
-static u32 w2c_f10(struct instance *instance, u64 w2c_p0, u64 w2c_p1, u64 w2c_p2, u64 w2c_p3, u64 w2c_p4) {
+static u32 w2c_f12(struct instance *instance, u64 w2c_p0, u64 w2c_p1, u64 w2c_p2, u64 w2c_p3, u64 w2c_p4) {
   u64 w2c_l5 = 0;
   const struct memory memory = instance->w2c_memory;
   (void)memory;
@@ -3644,7 +4455,7 @@ static u32 w2c_f10(struct instance *instance, u64 w2c_p0, u64 w2c_p1, u64 w2c_p2
   w2c_j1 = w2c_p1;
   w2c_j2 = w2c_p3;
   w2c_j3 = w2c_p4;
-  w2c_f11(instance, w2c_j0, w2c_j1, w2c_j2, w2c_j3);
+  w2c_f13(instance, w2c_j0, w2c_j1, w2c_j2, w2c_j3);
   w2c_j0 = w2c_l5;
   instance->w2c_g0 = w2c_j0;
   w2c_i0 = 1u;
@@ -3654,7 +4465,7 @@ static u32 w2c_f10(struct instance *instance, u64 w2c_p0, u64 w2c_p1, u64 w2c_p2
   w2c_Bfunc:;
   return w2c_i0;
 }
-static void w2c_f11(struct instance *instance, u64 w2c_p0, u64 w2c_p1, u64 w2c_p2, u64 w2c_p3) {
+static void w2c_f13(struct instance *instance, u64 w2c_p0, u64 w2c_p1, u64 w2c_p2, u64 w2c_p3) {
   u64 w2c_l4 = 0, w2c_l5 = 0, w2c_l6 = 0, w2c_l7 = 0, w2c_l8 = 0, w2c_l9 = 0;
   const struct memory memory = instance->w2c_memory;
   (void)memory;
@@ -3780,7 +4591,7 @@ static void w2c_f11(struct instance *instance, u64 w2c_p0, u64 w2c_p1, u64 w2c_p
     w2c_i1 = (u32)(w2c_j1);
     w2c_j1 = i64_load(memory, (u64)(w2c_i1));
     w2c_j2 = w2c_l4;
-    w2c_f12(instance, w2c_j0, w2c_j1, w2c_j2);
+    w2c_f14(instance, w2c_j0, w2c_j1, w2c_j2);
     w2c_j0 = w2c_l4;
     w2c_i0 = (u32)(w2c_j0);
     w2c_j0 = i64_load(memory, (u64)(w2c_i0) + 16u);
@@ -3953,7 +4764,7 @@ static void w2c_f11(struct instance *instance, u64 w2c_p0, u64 w2c_p1, u64 w2c_p
   w2c_i1 = (u32)(w2c_j1);
   w2c_j1 = i64_load(memory, (u64)(w2c_i1));
   w2c_j2 = w2c_l4;
-  w2c_f12(instance, w2c_j0, w2c_j1, w2c_j2);
+  w2c_f14(instance, w2c_j0, w2c_j1, w2c_j2);
   w2c_j0 = w2c_l4;
   w2c_i0 = (u32)(w2c_j0);
   w2c_j0 = i64_load(memory, (u64)(w2c_i0) + 16u);
@@ -3978,7 +4789,7 @@ static void w2c_f11(struct instance *instance, u64 w2c_p0, u64 w2c_p1, u64 w2c_p
   UNREACHABLE;
   w2c_Bfunc:;
 }
-static void w2c_f12(struct instance *instance, u64 w2c_p0, u64 w2c_p1, u64 w2c_p2) {
+static void w2c_f14(struct instance *instance, u64 w2c_p0, u64 w2c_p1, u64 w2c_p2) {
   u32 w2c_l3 = 0, w2c_l4 = 0, w2c_l5 = 0, w2c_l6 = 0, w2c_l7 = 0, w2c_l8 = 0, w2c_l9 = 0, w2c_l10 = 0;
   u64 w2c_l11 = 0, w2c_l12 = 0;
   const struct memory memory = instance->w2c_memory;
@@ -4569,7 +5380,7 @@ static void w2c_f12(struct instance *instance, u64 w2c_p0, u64 w2c_p1, u64 w2c_p
   UNREACHABLE;
   w2c_Bfunc:;
 }
-static void w2c_f13(struct instance *instance, u64 w2c_p0, u64 w2c_p1, u32 w2c_p2, u64 w2c_p3, u64 w2c_p4, u64 w2c_p5, u64 w2c_p6) {
+static void w2c_f15(struct instance *instance, u64 w2c_p0, u64 w2c_p1, u32 w2c_p2, u64 w2c_p3, u64 w2c_p4, u64 w2c_p5, u64 w2c_p6) {
   u32 w2c_l8 = 0;
   u64 w2c_l7 = 0;
   const struct memory memory = instance->w2c_memory;
@@ -4618,7 +5429,7 @@ static void w2c_f13(struct instance *instance, u64 w2c_p0, u64 w2c_p1, u32 w2c_p
     w2c_i3 = w2c_p2;
     w2c_j4 = w2c_p4;
     w2c_j5 = w2c_p3;
-    w2c_f8(instance, w2c_j0, w2c_j1, w2c_j2, w2c_i3, w2c_j4, w2c_j5);
+    w2c_f10(instance, w2c_j0, w2c_j1, w2c_j2, w2c_i3, w2c_j4, w2c_j5);
     w2c_j0 = w2c_l7;
     w2c_i0 = (u32)(w2c_j0);
     w2c_i0 = i32_load8_u(memory, (u64)(w2c_i0) + 9u);
@@ -4626,8 +5437,6 @@ static void w2c_f13(struct instance *instance, u64 w2c_p0, u64 w2c_p1, u32 w2c_p
     w2c_j0 = w2c_l7;
     w2c_i0 = (u32)(w2c_j0);
     w2c_i0 = i32_load8_u(memory, (u64)(w2c_i0) + 8u);
-    w2c_i1 = 1u;
-    w2c_i0 &= w2c_i1;
     if (w2c_i0) {goto w2c_B4;}
     w2c_i0 = w2c_l8;
     w2c_i1 = 255u;
@@ -4675,7 +5484,7 @@ static void w2c_f13(struct instance *instance, u64 w2c_p0, u64 w2c_p1, u32 w2c_p
   UNREACHABLE;
   w2c_Bfunc:;
 }
-static u32 w2c_f14(struct instance *instance, u64 w2c_p0, u64 w2c_p1, u64 w2c_p2, u64 w2c_p3, u64 w2c_p4, u64 w2c_p5) {
+static u32 w2c_f16(struct instance *instance, u64 w2c_p0, u64 w2c_p1, u64 w2c_p2, u64 w2c_p3, u64 w2c_p4, u64 w2c_p5) {
   u32 w2c_l8 = 0;
   u64 w2c_l6 = 0, w2c_l7 = 0;
   const struct memory memory = instance->w2c_memory;
@@ -4784,7 +5593,7 @@ static u32 w2c_f14(struct instance *instance, u64 w2c_p0, u64 w2c_p1, u64 w2c_p2
   w2c_j3 = 40ull;
   w2c_j2 += w2c_j3;
   w2c_j3 = w2c_l7;
-  w2c_f11(instance, w2c_j0, w2c_j1, w2c_j2, w2c_j3);
+  w2c_f13(instance, w2c_j0, w2c_j1, w2c_j2, w2c_j3);
   w2c_j0 = w2c_l7;
   w2c_j1 = w2c_p5;
   w2c_i0 = w2c_j0 != w2c_j1;
@@ -4844,7 +5653,7 @@ static u32 w2c_f14(struct instance *instance, u64 w2c_p0, u64 w2c_p1, u64 w2c_p2
   w2c_j0 += w2c_j1;
   w2c_j1 = w2c_p5;
   w2c_j2 = w2c_p4;
-  w2c_i0 = w2c_f15(instance, w2c_j0, w2c_j1, w2c_j2);
+  w2c_i0 = w2c_f17(instance, w2c_j0, w2c_j1, w2c_j2);
   w2c_i0 = !(w2c_i0);
   if (w2c_i0) {goto w2c_B1;}
   w2c_j0 = w2c_l6;
@@ -4871,7 +5680,7 @@ static u32 w2c_f14(struct instance *instance, u64 w2c_p0, u64 w2c_p1, u64 w2c_p2
   w2c_j5 = 8ull;
   w2c_j4 += w2c_j5;
   w2c_j5 = w2c_p3;
-  w2c_i0 = w2c_f16(instance, w2c_j0, w2c_j1, w2c_j2, w2c_j3, w2c_j4, w2c_j5);
+  w2c_i0 = w2c_f18(instance, w2c_j0, w2c_j1, w2c_j2, w2c_j3, w2c_j4, w2c_j5);
   if (w2c_i0) {goto w2c_B1;}
   w2c_j0 = w2c_l6;
   w2c_i0 = (u32)(w2c_j0);
@@ -4928,7 +5737,7 @@ static u32 w2c_f14(struct instance *instance, u64 w2c_p0, u64 w2c_p1, u64 w2c_p2
   w2c_j0 += w2c_j1;
   w2c_j1 = w2c_p3;
   w2c_j2 = w2c_p2;
-  w2c_i0 = w2c_f15(instance, w2c_j0, w2c_j1, w2c_j2);
+  w2c_i0 = w2c_f17(instance, w2c_j0, w2c_j1, w2c_j2);
   w2c_l8 = w2c_i0;
   w2c_B1:;
   w2c_j0 = w2c_l6;
@@ -4942,7 +5751,7 @@ static u32 w2c_f14(struct instance *instance, u64 w2c_p0, u64 w2c_p1, u64 w2c_p2
   w2c_Bfunc:;
   return w2c_i0;
 }
-static u32 w2c_f15(struct instance *instance, u64 w2c_p0, u64 w2c_p1, u64 w2c_p2) {
+static u32 w2c_f17(struct instance *instance, u64 w2c_p0, u64 w2c_p1, u64 w2c_p2) {
   u32 w2c_l10 = 0;
   u64 w2c_l3 = 0, w2c_l4 = 0, w2c_l5 = 0, w2c_l6 = 0, w2c_l7 = 0, w2c_l8 = 0, w2c_l9 = 0;
   const struct memory memory = instance->w2c_memory;
@@ -6892,7 +7701,7 @@ static u32 w2c_f15(struct instance *instance, u64 w2c_p0, u64 w2c_p1, u64 w2c_p2
   w2c_i0 &= w2c_i1;
   return w2c_i0;
 }
-static u32 w2c_f16(struct instance *instance, u64 w2c_p0, u64 w2c_p1, u64 w2c_p2, u64 w2c_p3, u64 w2c_p4, u64 w2c_p5) {
+static u32 w2c_f18(struct instance *instance, u64 w2c_p0, u64 w2c_p1, u64 w2c_p2, u64 w2c_p3, u64 w2c_p4, u64 w2c_p5) {
   u32 w2c_l9 = 0;
   u64 w2c_l6 = 0, w2c_l7 = 0, w2c_l8 = 0;
   const struct memory memory = instance->w2c_memory;
@@ -7185,7 +7994,7 @@ static u32 w2c_f16(struct instance *instance, u64 w2c_p0, u64 w2c_p1, u64 w2c_p2
   w2c_Bfunc:;
   return w2c_i0;
 }
-static u32 w2c_f17(struct instance *instance, u64 w2c_p0, u64 w2c_p1, u64 w2c_p2, u64 w2c_p3) {
+static u32 w2c_f19(struct instance *instance, u64 w2c_p0, u64 w2c_p1, u64 w2c_p2, u64 w2c_p3) {
   u32 w2c_l7 = 0, w2c_l8 = 0;
   u64 w2c_l4 = 0, w2c_l5 = 0, w2c_l6 = 0;
   const struct memory memory = instance->w2c_memory;
@@ -7240,7 +8049,7 @@ static u32 w2c_f17(struct instance *instance, u64 w2c_p0, u64 w2c_p1, u64 w2c_p2
   w2c_j6 = 8ull;
   w2c_j5 += w2c_j6;
   w2c_l6 = w2c_j5;
-  w2c_i0 = w2c_f18(instance, w2c_j0, w2c_j1, w2c_j2, w2c_j3, w2c_j4, w2c_j5);
+  w2c_i0 = w2c_f20(instance, w2c_j0, w2c_j1, w2c_j2, w2c_j3, w2c_j4, w2c_j5);
   w2c_l8 = w2c_i0;
   w2c_j0 = w2c_l6;
   w2c_j1 = w2c_p3;
@@ -7303,7 +8112,7 @@ static u32 w2c_f17(struct instance *instance, u64 w2c_p0, u64 w2c_p1, u64 w2c_p2
   w2c_j0 += w2c_j1;
   w2c_j1 = w2c_p3;
   w2c_j2 = w2c_p2;
-  w2c_i0 = w2c_f15(instance, w2c_j0, w2c_j1, w2c_j2);
+  w2c_i0 = w2c_f17(instance, w2c_j0, w2c_j1, w2c_j2);
   w2c_i0 = !(w2c_i0);
   if (w2c_i0) {goto w2c_B1;}
   w2c_j0 = w2c_l4;
@@ -7335,7 +8144,7 @@ static u32 w2c_f17(struct instance *instance, u64 w2c_p0, u64 w2c_p1, u64 w2c_p2
   w2c_j4 += w2c_j5;
   w2c_j5 = w2c_l5;
   w2c_j6 = w2c_l4;
-  w2c_i0 = w2c_f19(instance, w2c_j0, w2c_j1, w2c_j2, w2c_j3, w2c_j4, w2c_j5, w2c_j6);
+  w2c_i0 = w2c_f21(instance, w2c_j0, w2c_j1, w2c_j2, w2c_j3, w2c_j4, w2c_j5, w2c_j6);
   if (w2c_i0) {goto w2c_B1;}
   w2c_j0 = w2c_l4;
   w2c_i0 = (u32)(w2c_j0);
@@ -7398,7 +8207,7 @@ static u32 w2c_f17(struct instance *instance, u64 w2c_p0, u64 w2c_p1, u64 w2c_p2
   w2c_j0 += w2c_j1;
   w2c_j1 = w2c_p1;
   w2c_j2 = w2c_p0;
-  w2c_i0 = w2c_f15(instance, w2c_j0, w2c_j1, w2c_j2);
+  w2c_i0 = w2c_f17(instance, w2c_j0, w2c_j1, w2c_j2);
   w2c_l7 = w2c_i0;
   w2c_B1:;
   w2c_j0 = w2c_l4;
@@ -7412,7 +8221,7 @@ static u32 w2c_f17(struct instance *instance, u64 w2c_p0, u64 w2c_p1, u64 w2c_p2
   w2c_Bfunc:;
   return w2c_i0;
 }
-static u32 w2c_f18(struct instance *instance, u64 w2c_p0, u64 w2c_p1, u64 w2c_p2, u64 w2c_p3, u64 w2c_p4, u64 w2c_p5) {
+static u32 w2c_f20(struct instance *instance, u64 w2c_p0, u64 w2c_p1, u64 w2c_p2, u64 w2c_p3, u64 w2c_p4, u64 w2c_p5) {
   u32 w2c_l10 = 0;
   u64 w2c_l6 = 0, w2c_l7 = 0, w2c_l8 = 0, w2c_l9 = 0;
   const struct memory memory = instance->w2c_memory;
@@ -7657,7 +8466,7 @@ static u32 w2c_f18(struct instance *instance, u64 w2c_p0, u64 w2c_p1, u64 w2c_p2
   w2c_j1 |= w2c_j2;
   w2c_j2 = w2c_p4;
   w2c_j3 = w2c_p5;
-  w2c_f11(instance, w2c_j0, w2c_j1, w2c_j2, w2c_j3);
+  w2c_f13(instance, w2c_j0, w2c_j1, w2c_j2, w2c_j3);
   w2c_i0 = 0u;
   w2c_l10 = w2c_i0;
   w2c_B1:;
@@ -7672,7 +8481,7 @@ static u32 w2c_f18(struct instance *instance, u64 w2c_p0, u64 w2c_p1, u64 w2c_p2
   w2c_Bfunc:;
   return w2c_i0;
 }
-static u32 w2c_f19(struct instance *instance, u64 w2c_p0, u64 w2c_p1, u64 w2c_p2, u64 w2c_p3, u64 w2c_p4, u64 w2c_p5, u64 w2c_p6) {
+static u32 w2c_f21(struct instance *instance, u64 w2c_p0, u64 w2c_p1, u64 w2c_p2, u64 w2c_p3, u64 w2c_p4, u64 w2c_p5, u64 w2c_p6) {
   u32 w2c_l10 = 0;
   u64 w2c_l7 = 0, w2c_l8 = 0, w2c_l9 = 0;
   const struct memory memory = instance->w2c_memory;
@@ -8053,7 +8862,7 @@ static u32 w2c_f19(struct instance *instance, u64 w2c_p0, u64 w2c_p1, u64 w2c_p2
   w2c_Bfunc:;
   return w2c_i0;
 }
-static void w2c_f20(struct instance *instance, u64 w2c_p0, u32 w2c_p1, u64 w2c_p2, u64 w2c_p3, u64 w2c_p4, u64 w2c_p5, u64 w2c_p6) {
+static void w2c_f22(struct instance *instance, u64 w2c_p0, u32 w2c_p1, u64 w2c_p2, u64 w2c_p3, u64 w2c_p4, u64 w2c_p5, u64 w2c_p6) {
   u64 w2c_l7 = 0, w2c_l8 = 0, w2c_l9 = 0, w2c_l10 = 0, w2c_l11 = 0, w2c_l12 = 0, w2c_l13 = 0;
   const struct memory memory = instance->w2c_memory;
   (void)memory;
@@ -8694,7 +9503,7 @@ static void w2c_f20(struct instance *instance, u64 w2c_p0, u32 w2c_p1, u64 w2c_p
   UNREACHABLE;
   w2c_Bfunc:;
 }
-static void w2c_f21(struct instance *instance, u64 w2c_p0, u32 w2c_p1, u64 w2c_p2, u64 w2c_p3, u64 w2c_p4, u64 w2c_p5, u64 w2c_p6) {
+static void w2c_f23(struct instance *instance, u64 w2c_p0, u32 w2c_p1, u64 w2c_p2, u64 w2c_p3, u64 w2c_p4, u64 w2c_p5, u64 w2c_p6) {
   u32 w2c_l11 = 0;
   u64 w2c_l7 = 0, w2c_l8 = 0, w2c_l9 = 0, w2c_l10 = 0;
   const struct memory memory = instance->w2c_memory;
@@ -8755,7 +9564,7 @@ static void w2c_f21(struct instance *instance, u64 w2c_p0, u32 w2c_p1, u64 w2c_p
     w2c_j1 = 12008468691120727718ull;
     w2c_j2 = w2c_p4;
     w2c_j3 = w2c_p3;
-    w2c_f11(instance, w2c_j0, w2c_j1, w2c_j2, w2c_j3);
+    w2c_f13(instance, w2c_j0, w2c_j1, w2c_j2, w2c_j3);
     w2c_j0 = w2c_p5;
     w2c_i0 = (u32)(w2c_j0);
     w2c_i1 = 0u;
@@ -8838,7 +9647,7 @@ static void w2c_f21(struct instance *instance, u64 w2c_p0, u32 w2c_p1, u64 w2c_p
     w2c_j1 = w2c_l8;
     w2c_j2 = w2c_p4;
     w2c_j3 = w2c_p3;
-    w2c_f11(instance, w2c_j0, w2c_j1, w2c_j2, w2c_j3);
+    w2c_f13(instance, w2c_j0, w2c_j1, w2c_j2, w2c_j3);
     w2c_j0 = w2c_p5;
     w2c_i0 = (u32)(w2c_j0);
     w2c_i1 = 0u;
@@ -8890,7 +9699,7 @@ static void w2c_f21(struct instance *instance, u64 w2c_p0, u32 w2c_p1, u64 w2c_p
     w2c_j1 = w2c_l8;
     w2c_j2 = w2c_p4;
     w2c_j3 = w2c_p3;
-    w2c_f11(instance, w2c_j0, w2c_j1, w2c_j2, w2c_j3);
+    w2c_f13(instance, w2c_j0, w2c_j1, w2c_j2, w2c_j3);
     w2c_j0 = w2c_p5;
     w2c_i0 = (u32)(w2c_j0);
     w2c_i1 = 0u;
@@ -8946,7 +9755,7 @@ static void w2c_f21(struct instance *instance, u64 w2c_p0, u32 w2c_p1, u64 w2c_p
     w2c_j1 = w2c_l8;
     w2c_j2 = w2c_p4;
     w2c_j3 = w2c_p3;
-    w2c_f11(instance, w2c_j0, w2c_j1, w2c_j2, w2c_j3);
+    w2c_f13(instance, w2c_j0, w2c_j1, w2c_j2, w2c_j3);
     w2c_j0 = w2c_p5;
     w2c_i0 = (u32)(w2c_j0);
     w2c_i1 = 0u;
@@ -8975,6 +9784,329 @@ static void w2c_f21(struct instance *instance, u64 w2c_p0, u32 w2c_p1, u64 w2c_p
   w2c_Bfunc:;
 }
 #endif
+static u32 w2c_keywrap_begin_rewrap(struct instance *instance, u32 w2c_p0, u64 w2c_p1, u64 w2c_p2, u64 w2c_p3, u64 w2c_p4, u64 w2c_p5) {
+  const struct memory memory = instance->w2c_memory;
+  (void)memory;
+  u32 w2c_i0;
+  u64 w2c_j1, w2c_j2, w2c_j3, w2c_j4, w2c_j5;
+  w2c_i0 = w2c_f0(instance);
+  w2c_i0 = !(w2c_i0);
+  if (w2c_i0) {goto w2c_B0;}
+  w2c_f2(instance);
+  UNREACHABLE;
+  w2c_B0:;
+  w2c_i0 = w2c_p0;
+  w2c_j1 = w2c_p1;
+  w2c_j2 = w2c_p2;
+  w2c_j3 = w2c_p3;
+  w2c_j4 = w2c_p4;
+  w2c_j5 = w2c_p5;
+  w2c_i0 = w2c_f25(instance, w2c_i0, w2c_j1, w2c_j2, w2c_j3, w2c_j4, w2c_j5);
+  w2c_p0 = w2c_i0;
+  w2c_f1(instance);
+  w2c_i0 = w2c_p0;
+  return w2c_i0;
+}
+static u32 w2c_f25(struct instance *instance, u32 w2c_p0, u64 w2c_p1, u64 w2c_p2, u64 w2c_p3, u64 w2c_p4, u64 w2c_p5) {
+  u32 w2c_l6 = 0, w2c_l7 = 0, w2c_l8 = 0, w2c_l9 = 0, w2c_l10 = 0, w2c_l11 = 0;
+  u64 w2c_l12 = 0;
+  const struct memory memory = instance->w2c_memory;
+  (void)memory;
+  u32 w2c_i0, w2c_i1, w2c_i2, w2c_i3, w2c_i4;
+  u64 w2c_j0, w2c_j1, w2c_j2, w2c_j3, w2c_j4, w2c_j5, w2c_j6, w2c_j7;
+  w2c_j0 = instance->w2c_g0;
+  w2c_j1 = 16ull;
+  w2c_i0 = (u64)((s64)w2c_j0 < (s64)w2c_j1);
+  if (w2c_i0) {goto w2c_B0;}
+  w2c_j0 = w2c_p1;
+  w2c_j1 = 4096ull;
+  w2c_j2 = 0ull;
+  w2c_j3 = w2c_p1;
+  w2c_i3 = !(w2c_j3);
+  w2c_j1 = w2c_i3 ? w2c_j1 : w2c_j2;
+  w2c_j0 += w2c_j1;
+  w2c_p1 = w2c_j0;
+  w2c_j0 = w2c_p3;
+  w2c_i0 = (u32)(w2c_j0);
+  w2c_i1 = 0u;
+  i32_store(memory, (u64)(w2c_i0), w2c_i1);
+  w2c_i0 = 1u;
+  w2c_l6 = w2c_i0;
+  w2c_i0 = 4u;
+  w2c_l7 = w2c_i0;
+  w2c_i0 = w2c_p0;
+  switch (w2c_i0) {
+    case 0: goto w2c_B6;
+    case 1: goto w2c_B8;
+    case 2: goto w2c_B7;
+    case 3: goto w2c_B9;
+    case 4: goto w2c_B10;
+    case 5: goto w2c_B1;
+    case 6: goto w2c_B1;
+    case 7: goto w2c_B1;
+    case 8: goto w2c_B6;
+    case 9: goto w2c_B8;
+    case 10: goto w2c_B7;
+    case 11: goto w2c_B9;
+    case 12: goto w2c_B10;
+    default: goto w2c_B1;
+  }
+  w2c_B10:;
+  w2c_j0 = w2c_p2;
+  w2c_j1 = 7ull;
+  w2c_j0 &= w2c_j1;
+  w2c_j1 = 0ull;
+  w2c_i0 = w2c_j0 != w2c_j1;
+  if (w2c_i0) {goto w2c_B1;}
+  w2c_j0 = w2c_p2;
+  w2c_j1 = 18446744073709551600ull;
+  w2c_j0 += w2c_j1;
+  w2c_j1 = 1048569ull;
+  w2c_i0 = w2c_j0 < w2c_j1;
+  if (w2c_i0) {goto w2c_B4;}
+  goto w2c_B1;
+  w2c_B9:;
+  w2c_i0 = 0u;
+  w2c_l6 = w2c_i0;
+  w2c_B8:;
+  w2c_j0 = w2c_p2;
+  w2c_j1 = 18446744073709551592ull;
+  w2c_j0 += w2c_j1;
+  w2c_j1 = 1048561ull;
+  w2c_i0 = w2c_j0 < w2c_j1;
+  w2c_l8 = w2c_i0;
+  w2c_j0 = w2c_p2;
+  w2c_j1 = 18446744073709551600ull;
+  w2c_j0 += w2c_j1;
+  w2c_j1 = 1048569ull;
+  w2c_i0 = w2c_j0 < w2c_j1;
+  w2c_l9 = w2c_i0;
+  w2c_l10 = w2c_i0;
+  goto w2c_B5;
+  w2c_B7:;
+  w2c_i0 = 0u;
+  w2c_l6 = w2c_i0;
+  w2c_B6:;
+  w2c_j0 = w2c_p2;
+  w2c_j1 = 18446744073709551600ull;
+  w2c_j0 += w2c_j1;
+  w2c_j1 = 1048569ull;
+  w2c_i0 = w2c_j0 < w2c_j1;
+  w2c_l9 = w2c_i0;
+  w2c_j0 = w2c_p2;
+  w2c_j1 = 18446744073709551592ull;
+  w2c_j0 += w2c_j1;
+  w2c_j1 = 1048561ull;
+  w2c_i0 = w2c_j0 < w2c_j1;
+  w2c_l10 = w2c_i0;
+  w2c_l8 = w2c_i0;
+  w2c_B5:;
+  w2c_j0 = w2c_p2;
+  w2c_j1 = 7ull;
+  w2c_j0 &= w2c_j1;
+  w2c_j1 = 0ull;
+  w2c_i0 = w2c_j0 != w2c_j1;
+  w2c_l11 = w2c_i0;
+  if (w2c_i0) {goto w2c_B3;}
+  w2c_i0 = w2c_l10;
+  w2c_i0 = !(w2c_i0);
+  if (w2c_i0) {goto w2c_B3;}
+  w2c_B4:;
+  w2c_j0 = w2c_p4;
+  w2c_i0 = (u32)(w2c_j0);
+  w2c_j1 = 1ull;
+  w2c_j2 = w2c_p2;
+  w2c_j3 = 18446744073709551608ull;
+  w2c_j2 += w2c_j3;
+  w2c_l12 = w2c_j2;
+  w2c_j3 = 3ull;
+  w2c_j2 >>= (w2c_j3 & 63);
+  w2c_j3 = 6ull;
+  w2c_j2 *= w2c_j3;
+  w2c_p2 = w2c_j2;
+  w2c_j3 = w2c_l12;
+  w2c_j4 = 8ull;
+  w2c_i3 = w2c_j3 == w2c_j4;
+  w2c_l7 = w2c_i3;
+  w2c_j1 = w2c_i3 ? w2c_j1 : w2c_j2;
+  i64_store(memory, (u64)(w2c_i0), w2c_j1);
+  w2c_j0 = w2c_p1;
+  w2c_i0 = (u32)(w2c_j0);
+  w2c_j0 = i64_load(memory, (u64)(w2c_i0));
+  w2c_p4 = w2c_j0;
+  w2c_j0 = w2c_p5;
+  w2c_i0 = (u32)(w2c_j0);
+  w2c_j1 = w2c_l12;
+  w2c_j2 = w2c_p1;
+  w2c_j1 += w2c_j2;
+  w2c_i1 = (u32)(w2c_j1);
+  w2c_j1 = i64_load(memory, (u64)(w2c_i1));
+  i64_store(memory, (u64)(w2c_i0) + 8, w2c_j1);
+  w2c_j0 = w2c_p5;
+  w2c_i0 = (u32)(w2c_j0);
+  w2c_j1 = w2c_p4;
+  w2c_j2 = 0ull;
+  w2c_j3 = w2c_p2;
+  w2c_j4 = 56ull;
+  w2c_j3 <<= (w2c_j4 & 63);
+  w2c_j4 = w2c_p2;
+  w2c_j5 = 65280ull;
+  w2c_j4 &= w2c_j5;
+  w2c_j5 = 40ull;
+  w2c_j4 <<= (w2c_j5 & 63);
+  w2c_j3 |= w2c_j4;
+  w2c_j4 = w2c_p2;
+  w2c_j5 = 16711680ull;
+  w2c_j4 &= w2c_j5;
+  w2c_j5 = 24ull;
+  w2c_j4 <<= (w2c_j5 & 63);
+  w2c_j5 = w2c_p2;
+  w2c_j6 = 4278190080ull;
+  w2c_j5 &= w2c_j6;
+  w2c_j6 = 8ull;
+  w2c_j5 <<= (w2c_j6 & 63);
+  w2c_j4 |= w2c_j5;
+  w2c_j3 |= w2c_j4;
+  w2c_j4 = w2c_p2;
+  w2c_j5 = 8ull;
+  w2c_j4 >>= (w2c_j5 & 63);
+  w2c_j5 = 4278190080ull;
+  w2c_j4 &= w2c_j5;
+  w2c_j5 = w2c_p2;
+  w2c_j6 = 24ull;
+  w2c_j5 >>= (w2c_j6 & 63);
+  w2c_j6 = 16711680ull;
+  w2c_j5 &= w2c_j6;
+  w2c_j4 |= w2c_j5;
+  w2c_j5 = w2c_p2;
+  w2c_j6 = 40ull;
+  w2c_j5 >>= (w2c_j6 & 63);
+  w2c_j6 = 65280ull;
+  w2c_j5 &= w2c_j6;
+  w2c_j6 = w2c_p2;
+  w2c_j7 = 56ull;
+  w2c_j6 >>= (w2c_j7 & 63);
+  w2c_j5 |= w2c_j6;
+  w2c_j4 |= w2c_j5;
+  w2c_j3 |= w2c_j4;
+  w2c_i4 = w2c_l7;
+  w2c_j2 = w2c_i4 ? w2c_j2 : w2c_j3;
+  w2c_j1 ^= w2c_j2;
+  i64_store(memory, (u64)(w2c_i0), w2c_j1);
+  w2c_i0 = 1u;
+  w2c_l7 = w2c_i0;
+  goto w2c_B2;
+  w2c_B3:;
+  w2c_i0 = w2c_l11;
+  if (w2c_i0) {goto w2c_B1;}
+  w2c_i0 = w2c_p0;
+  w2c_i1 = 8u;
+  w2c_i0 = w2c_i0 < w2c_i1;
+  if (w2c_i0) {goto w2c_B1;}
+  w2c_i0 = w2c_l8;
+  w2c_i1 = w2c_l9;
+  w2c_i2 = w2c_l6;
+  w2c_i0 = w2c_i2 ? w2c_i0 : w2c_i1;
+  w2c_i0 = !(w2c_i0);
+  if (w2c_i0) {goto w2c_B1;}
+  w2c_j0 = w2c_p4;
+  w2c_i0 = (u32)(w2c_j0);
+  w2c_j1 = 1ull;
+  w2c_j2 = w2c_p2;
+  w2c_j3 = 18446744073709551608ull;
+  w2c_j2 += w2c_j3;
+  w2c_l12 = w2c_j2;
+  w2c_j3 = 3ull;
+  w2c_j2 >>= (w2c_j3 & 63);
+  w2c_j3 = 6ull;
+  w2c_j2 *= w2c_j3;
+  w2c_p2 = w2c_j2;
+  w2c_j3 = w2c_l12;
+  w2c_j4 = 8ull;
+  w2c_i3 = w2c_j3 == w2c_j4;
+  w2c_l7 = w2c_i3;
+  w2c_j1 = w2c_i3 ? w2c_j1 : w2c_j2;
+  i64_store(memory, (u64)(w2c_i0), w2c_j1);
+  w2c_j0 = w2c_p1;
+  w2c_i0 = (u32)(w2c_j0);
+  w2c_j0 = i64_load(memory, (u64)(w2c_i0));
+  w2c_p4 = w2c_j0;
+  w2c_j0 = w2c_p5;
+  w2c_i0 = (u32)(w2c_j0);
+  w2c_j1 = w2c_l12;
+  w2c_j2 = w2c_p1;
+  w2c_j1 += w2c_j2;
+  w2c_i1 = (u32)(w2c_j1);
+  w2c_j1 = i64_load(memory, (u64)(w2c_i1));
+  i64_store(memory, (u64)(w2c_i0) + 8, w2c_j1);
+  w2c_j0 = w2c_p5;
+  w2c_i0 = (u32)(w2c_j0);
+  w2c_j1 = w2c_p4;
+  w2c_j2 = 0ull;
+  w2c_j3 = w2c_p2;
+  w2c_j4 = 56ull;
+  w2c_j3 <<= (w2c_j4 & 63);
+  w2c_j4 = w2c_p2;
+  w2c_j5 = 65280ull;
+  w2c_j4 &= w2c_j5;
+  w2c_j5 = 40ull;
+  w2c_j4 <<= (w2c_j5 & 63);
+  w2c_j3 |= w2c_j4;
+  w2c_j4 = w2c_p2;
+  w2c_j5 = 16711680ull;
+  w2c_j4 &= w2c_j5;
+  w2c_j5 = 24ull;
+  w2c_j4 <<= (w2c_j5 & 63);
+  w2c_j5 = w2c_p2;
+  w2c_j6 = 4278190080ull;
+  w2c_j5 &= w2c_j6;
+  w2c_j6 = 8ull;
+  w2c_j5 <<= (w2c_j6 & 63);
+  w2c_j4 |= w2c_j5;
+  w2c_j3 |= w2c_j4;
+  w2c_j4 = w2c_p2;
+  w2c_j5 = 8ull;
+  w2c_j4 >>= (w2c_j5 & 63);
+  w2c_j5 = 4278190080ull;
+  w2c_j4 &= w2c_j5;
+  w2c_j5 = w2c_p2;
+  w2c_j6 = 24ull;
+  w2c_j5 >>= (w2c_j6 & 63);
+  w2c_j6 = 16711680ull;
+  w2c_j5 &= w2c_j6;
+  w2c_j4 |= w2c_j5;
+  w2c_j5 = w2c_p2;
+  w2c_j6 = 40ull;
+  w2c_j5 >>= (w2c_j6 & 63);
+  w2c_j6 = 65280ull;
+  w2c_j5 &= w2c_j6;
+  w2c_j6 = w2c_p2;
+  w2c_j7 = 56ull;
+  w2c_j6 >>= (w2c_j7 & 63);
+  w2c_j5 |= w2c_j6;
+  w2c_j4 |= w2c_j5;
+  w2c_j3 |= w2c_j4;
+  w2c_i4 = w2c_l7;
+  w2c_j2 = w2c_i4 ? w2c_j2 : w2c_j3;
+  w2c_j1 ^= w2c_j2;
+  i64_store(memory, (u64)(w2c_i0), w2c_j1);
+  w2c_i0 = 19u;
+  w2c_l7 = w2c_i0;
+  w2c_B2:;
+  w2c_j0 = w2c_p3;
+  w2c_i0 = (u32)(w2c_j0);
+  w2c_i1 = w2c_l7;
+  i32_store(memory, (u64)(w2c_i0), w2c_i1);
+  w2c_i0 = 0u;
+  w2c_l7 = w2c_i0;
+  w2c_B1:;
+  w2c_i0 = w2c_l7;
+  goto w2c_Bfunc;
+  w2c_B0:;
+  UNREACHABLE;
+  w2c_Bfunc:;
+  return w2c_i0;
+}
 static u32 w2c_keywrap_begin_unwrap(struct instance *instance, u64 w2c_p0, u64 w2c_p1, u64 w2c_p2, u64 w2c_p3, u64 w2c_p4) {
   u32 w2c_l5 = 0;
   const struct memory memory = instance->w2c_memory;
@@ -8992,13 +10124,13 @@ static u32 w2c_keywrap_begin_unwrap(struct instance *instance, u64 w2c_p0, u64 w
   w2c_j2 = w2c_p2;
   w2c_j3 = w2c_p3;
   w2c_j4 = w2c_p4;
-  w2c_i0 = w2c_f23(instance, w2c_j0, w2c_j1, w2c_j2, w2c_j3, w2c_j4);
+  w2c_i0 = w2c_f27(instance, w2c_j0, w2c_j1, w2c_j2, w2c_j3, w2c_j4);
   w2c_l5 = w2c_i0;
   w2c_f1(instance);
   w2c_i0 = w2c_l5;
   return w2c_i0;
 }
-static u32 w2c_f23(struct instance *instance, u64 w2c_p0, u64 w2c_p1, u64 w2c_p2, u64 w2c_p3, u64 w2c_p4) {
+static u32 w2c_f27(struct instance *instance, u64 w2c_p0, u64 w2c_p1, u64 w2c_p2, u64 w2c_p3, u64 w2c_p4) {
   u32 w2c_l5 = 0;
   u64 w2c_l6 = 0;
   const struct memory memory = instance->w2c_memory;
@@ -9127,13 +10259,13 @@ static u32 w2c_keywrap_begin_unwrap_padded(struct instance *instance, u64 w2c_p0
   w2c_j2 = w2c_p2;
   w2c_j3 = w2c_p3;
   w2c_j4 = w2c_p4;
-  w2c_i0 = w2c_f25(instance, w2c_j0, w2c_j1, w2c_j2, w2c_j3, w2c_j4);
+  w2c_i0 = w2c_f29(instance, w2c_j0, w2c_j1, w2c_j2, w2c_j3, w2c_j4);
   w2c_l5 = w2c_i0;
   w2c_f1(instance);
   w2c_i0 = w2c_l5;
   return w2c_i0;
 }
-static u32 w2c_f25(struct instance *instance, u64 w2c_p0, u64 w2c_p1, u64 w2c_p2, u64 w2c_p3, u64 w2c_p4) {
+static u32 w2c_f29(struct instance *instance, u64 w2c_p0, u64 w2c_p1, u64 w2c_p2, u64 w2c_p3, u64 w2c_p4) {
   u32 w2c_l5 = 0;
   u64 w2c_l6 = 0;
   const struct memory memory = instance->w2c_memory;
@@ -9272,13 +10404,13 @@ static u32 w2c_keywrap_begin_wrap(struct instance *instance, u64 w2c_p0, u64 w2c
   w2c_j3 = w2c_p3;
   w2c_j4 = w2c_p4;
   w2c_j5 = w2c_p5;
-  w2c_i0 = w2c_f27(instance, w2c_j0, w2c_j1, w2c_j2, w2c_j3, w2c_j4, w2c_j5);
+  w2c_i0 = w2c_f31(instance, w2c_j0, w2c_j1, w2c_j2, w2c_j3, w2c_j4, w2c_j5);
   w2c_l6 = w2c_i0;
   w2c_f1(instance);
   w2c_i0 = w2c_l6;
   return w2c_i0;
 }
-static u32 w2c_f27(struct instance *instance, u64 w2c_p0, u64 w2c_p1, u64 w2c_p2, u64 w2c_p3, u64 w2c_p4, u64 w2c_p5) {
+static u32 w2c_f31(struct instance *instance, u64 w2c_p0, u64 w2c_p1, u64 w2c_p2, u64 w2c_p3, u64 w2c_p4, u64 w2c_p5) {
   u32 w2c_l6 = 0;
   const struct memory memory = instance->w2c_memory;
   (void)memory;
@@ -9369,13 +10501,13 @@ static u32 w2c_keywrap_begin_wrap_padded(struct instance *instance, u64 w2c_p0, 
   w2c_j2 = w2c_p2;
   w2c_j3 = w2c_p3;
   w2c_j4 = w2c_p4;
-  w2c_i0 = w2c_f29(instance, w2c_j0, w2c_j1, w2c_j2, w2c_j3, w2c_j4);
+  w2c_i0 = w2c_f33(instance, w2c_j0, w2c_j1, w2c_j2, w2c_j3, w2c_j4);
   w2c_l5 = w2c_i0;
   w2c_f1(instance);
   w2c_i0 = w2c_l5;
   return w2c_i0;
 }
-static u32 w2c_f29(struct instance *instance, u64 w2c_p0, u64 w2c_p1, u64 w2c_p2, u64 w2c_p3, u64 w2c_p4) {
+static u32 w2c_f33(struct instance *instance, u64 w2c_p0, u64 w2c_p1, u64 w2c_p2, u64 w2c_p3, u64 w2c_p4) {
   u32 w2c_l5 = 0;
   const struct memory memory = instance->w2c_memory;
   (void)memory;
@@ -9511,6 +10643,1334 @@ static u32 w2c_f29(struct instance *instance, u64 w2c_p0, u64 w2c_p1, u64 w2c_p2
   w2c_Bfunc:;
   return w2c_i0;
 }
+#ifdef WITH_AES
+static u32 w2c_keywrap_begin_wrap_slot(struct instance *instance, u32 w2c_p0, u64 w2c_p1, u64 w2c_p2, u64 w2c_p3, u64 w2c_p4, u64 w2c_p5) {
+  const struct memory memory = instance->w2c_memory;
+  (void)memory;
+  u32 w2c_i0;
+  u64 w2c_j1, w2c_j2, w2c_j3, w2c_j4, w2c_j5;
+  w2c_i0 = w2c_f0(instance);
+  w2c_i0 = !(w2c_i0);
+  if (w2c_i0) {goto w2c_B0;}
+  w2c_f2(instance);
+  UNREACHABLE;
+  w2c_B0:;
+  w2c_i0 = w2c_p0;
+  w2c_j1 = w2c_p1;
+  w2c_j2 = w2c_p2;
+  w2c_j3 = w2c_p3;
+  w2c_j4 = w2c_p4;
+  w2c_j5 = w2c_p5;
+  w2c_i0 = w2c_f35(instance, w2c_i0, w2c_j1, w2c_j2, w2c_j3, w2c_j4, w2c_j5);
+  w2c_p0 = w2c_i0;
+  w2c_f1(instance);
+  w2c_i0 = w2c_p0;
+  return w2c_i0;
+}
+static u32 w2c_f35(struct instance *instance, u32 w2c_p0, u64 w2c_p1, u64 w2c_p2, u64 w2c_p3, u64 w2c_p4, u64 w2c_p5) {
+  u32 w2c_l6 = 0;
+  const struct memory memory = instance->w2c_memory;
+  (void)memory;
+  u32 w2c_i0, w2c_i1, w2c_i2, w2c_i3;
+  u64 w2c_j0, w2c_j1, w2c_j2, w2c_j3, w2c_j4, w2c_j5;
+  w2c_j0 = instance->w2c_g0;
+  w2c_j1 = 16ull;
+  w2c_i0 = (u64)((s64)w2c_j0 < (s64)w2c_j1);
+  if (w2c_i0) {goto w2c_B0;}
+  w2c_j0 = w2c_p2;
+  w2c_j1 = 4096ull;
+  w2c_j2 = 0ull;
+  w2c_j3 = w2c_p2;
+  w2c_i3 = !(w2c_j3);
+  w2c_j1 = w2c_i3 ? w2c_j1 : w2c_j2;
+  w2c_j0 += w2c_j1;
+  w2c_p2 = w2c_j0;
+  w2c_i0 = 4u;
+  w2c_l6 = w2c_i0;
+  w2c_i0 = w2c_p0;
+  switch (w2c_i0) {
+    case 0: goto w2c_B4;
+    case 1: goto w2c_B1;
+    case 2: goto w2c_B3;
+    default: goto w2c_B1;
+  }
+  w2c_B4:;
+  w2c_j0 = w2c_p1;
+  w2c_j1 = w2c_p3;
+  w2c_i0 = w2c_j0 != w2c_j1;
+  if (w2c_i0) {goto w2c_B1;}
+  w2c_j0 = w2c_p1;
+  w2c_j1 = 7ull;
+  w2c_j0 &= w2c_j1;
+  w2c_j1 = 0ull;
+  w2c_i0 = w2c_j0 != w2c_j1;
+  if (w2c_i0) {goto w2c_B1;}
+  w2c_j0 = w2c_p1;
+  w2c_j1 = 18446744073709551600ull;
+  w2c_j0 += w2c_j1;
+  w2c_j1 = 1048560ull;
+  w2c_i0 = w2c_j0 > w2c_j1;
+  if (w2c_i0) {goto w2c_B1;}
+  w2c_j0 = w2c_p4;
+  w2c_i0 = (u32)(w2c_j0);
+  w2c_j1 = 0ull;
+  i64_store(memory, (u64)(w2c_i0), w2c_j1);
+  w2c_j0 = w2c_p5;
+  w2c_i0 = (u32)(w2c_j0);
+  w2c_j1 = w2c_p2;
+  w2c_i1 = (u32)(w2c_j1);
+  w2c_j1 = i64_load(memory, (u64)(w2c_i1));
+  i64_store(memory, (u64)(w2c_i0) + 8, w2c_j1);
+  w2c_j0 = w2c_p5;
+  w2c_i0 = (u32)(w2c_j0);
+  w2c_j1 = 12008468691120727718ull;
+  i64_store(memory, (u64)(w2c_i0), w2c_j1);
+  goto w2c_B2;
+  w2c_B3:;
+  w2c_j0 = w2c_p1;
+  w2c_j1 = 18446744073709551615ull;
+  w2c_j0 += w2c_j1;
+  w2c_j1 = 1048575ull;
+  w2c_i0 = w2c_j0 > w2c_j1;
+  if (w2c_i0) {goto w2c_B1;}
+  w2c_j0 = w2c_p3;
+  w2c_j1 = w2c_p1;
+  w2c_j2 = 7ull;
+  w2c_j1 += w2c_j2;
+  w2c_j2 = 4194296ull;
+  w2c_j1 &= w2c_j2;
+  w2c_i0 = w2c_j0 != w2c_j1;
+  if (w2c_i0) {goto w2c_B1;}
+  w2c_j0 = w2c_p4;
+  w2c_i0 = (u32)(w2c_j0);
+  w2c_j1 = 0ull;
+  i64_store(memory, (u64)(w2c_i0), w2c_j1);
+  w2c_j0 = w2c_p3;
+  w2c_j1 = w2c_p1;
+  w2c_i0 = w2c_j0 == w2c_j1;
+  if (w2c_i0) {goto w2c_B5;}
+  w2c_j0 = w2c_p2;
+  w2c_j1 = w2c_p1;
+  w2c_j0 += w2c_j1;
+  w2c_p4 = w2c_j0;
+  w2c_j0 = w2c_p3;
+  w2c_j1 = w2c_p1;
+  w2c_j2 = 18446744073709551615ull;
+  w2c_j1 ^= w2c_j2;
+  w2c_j0 += w2c_j1;
+  w2c_p3 = w2c_j0;
+  w2c_i0 = !(w2c_j0);
+  w2c_l6 = w2c_i0;
+  if (w2c_i0) {goto w2c_B6;}
+  w2c_i0 = w2c_l6;
+  if (w2c_i0) {goto w2c_B6;}
+  w2c_j0 = w2c_p4;
+  w2c_i0 = (u32)(w2c_j0);
+  w2c_i1 = 0u;
+  w2c_j2 = w2c_p3;
+  w2c_i2 = (u32)(w2c_j2);
+  memory_fill(memory, w2c_i0, w2c_i1, w2c_i2);
+  w2c_B6:;
+  w2c_j0 = w2c_p4;
+  w2c_j1 = w2c_p3;
+  w2c_j0 += w2c_j1;
+  w2c_i0 = (u32)(w2c_j0);
+  w2c_i1 = 0u;
+  i32_store8(memory, (u64)(w2c_i0), w2c_i1);
+  w2c_B5:;
+  w2c_j0 = w2c_p5;
+  w2c_i0 = (u32)(w2c_j0);
+  w2c_j1 = w2c_p2;
+  w2c_i1 = (u32)(w2c_j1);
+  w2c_j1 = i64_load(memory, (u64)(w2c_i1));
+  i64_store(memory, (u64)(w2c_i0) + 8, w2c_j1);
+  w2c_j0 = w2c_p5;
+  w2c_i0 = (u32)(w2c_j0);
+  w2c_j1 = w2c_p1;
+  w2c_j2 = 56ull;
+  w2c_j1 <<= (w2c_j2 & 63);
+  w2c_j2 = w2c_p1;
+  w2c_j3 = 65280ull;
+  w2c_j2 &= w2c_j3;
+  w2c_j3 = 40ull;
+  w2c_j2 <<= (w2c_j3 & 63);
+  w2c_j1 |= w2c_j2;
+  w2c_j2 = w2c_p1;
+  w2c_j3 = 11986710452722728960ull;
+  w2c_j2 |= w2c_j3;
+  w2c_p2 = w2c_j2;
+  w2c_j3 = 16711680ull;
+  w2c_j2 &= w2c_j3;
+  w2c_j3 = 24ull;
+  w2c_j2 <<= (w2c_j3 & 63);
+  w2c_j3 = w2c_p2;
+  w2c_j4 = 4278190080ull;
+  w2c_j3 &= w2c_j4;
+  w2c_j4 = 8ull;
+  w2c_j3 <<= (w2c_j4 & 63);
+  w2c_j2 |= w2c_j3;
+  w2c_j1 |= w2c_j2;
+  w2c_j2 = w2c_p2;
+  w2c_j3 = 8ull;
+  w2c_j2 >>= (w2c_j3 & 63);
+  w2c_j3 = 4278190080ull;
+  w2c_j2 &= w2c_j3;
+  w2c_j3 = w2c_p2;
+  w2c_j4 = 24ull;
+  w2c_j3 >>= (w2c_j4 & 63);
+  w2c_j4 = 16711680ull;
+  w2c_j3 &= w2c_j4;
+  w2c_j2 |= w2c_j3;
+  w2c_j3 = w2c_p2;
+  w2c_j4 = 40ull;
+  w2c_j3 >>= (w2c_j4 & 63);
+  w2c_j4 = 65280ull;
+  w2c_j3 &= w2c_j4;
+  w2c_j4 = w2c_p2;
+  w2c_j5 = 56ull;
+  w2c_j4 >>= (w2c_j5 & 63);
+  w2c_j3 |= w2c_j4;
+  w2c_j2 |= w2c_j3;
+  w2c_j1 |= w2c_j2;
+  i64_store(memory, (u64)(w2c_i0), w2c_j1);
+  w2c_B2:;
+  w2c_i0 = 0u;
+  w2c_l6 = w2c_i0;
+  w2c_B1:;
+  w2c_i0 = w2c_l6;
+  goto w2c_Bfunc;
+  w2c_B0:;
+  UNREACHABLE;
+  w2c_Bfunc:;
+  return w2c_i0;
+}
+static u32 w2c_keywrap_check_keks(struct instance *instance, u64 w2c_p0, u64 w2c_p1) {
+  u32 w2c_l2 = 0;
+  const struct memory memory = instance->w2c_memory;
+  (void)memory;
+  u32 w2c_i0;
+  u64 w2c_j0, w2c_j1;
+  w2c_i0 = w2c_f0(instance);
+  w2c_i0 = !(w2c_i0);
+  if (w2c_i0) {goto w2c_B0;}
+  w2c_f2(instance);
+  UNREACHABLE;
+  w2c_B0:;
+  w2c_j0 = w2c_p0;
+  w2c_j1 = w2c_p1;
+  w2c_i0 = w2c_f37(instance, w2c_j0, w2c_j1);
+  w2c_l2 = w2c_i0;
+  w2c_f1(instance);
+  w2c_i0 = w2c_l2;
+  return w2c_i0;
+}
+static u32 w2c_f37(struct instance *instance, u64 w2c_p0, u64 w2c_p1) {
+  u32 w2c_l2 = 0;
+  const struct memory memory = instance->w2c_memory;
+  (void)memory;
+  u32 w2c_i0, w2c_i1, w2c_i2, w2c_i3;
+  u64 w2c_j0, w2c_j1, w2c_j2, w2c_j3, w2c_j4;
+  w2c_j0 = instance->w2c_g0;
+  w2c_j1 = 16ull;
+  w2c_i0 = (u64)((s64)w2c_j0 < (s64)w2c_j1);
+  if (w2c_i0) {goto w2c_B0;}
+  w2c_i0 = 3u;
+  w2c_l2 = w2c_i0;
+  w2c_j0 = w2c_p0;
+  w2c_j1 = 32ull;
+  w2c_i0 = w2c_j0 > w2c_j1;
+  if (w2c_i0) {goto w2c_B1;}
+  w2c_j0 = 1ull;
+  w2c_j1 = w2c_p0;
+  w2c_j0 <<= (w2c_j1 & 63);
+  w2c_j1 = 4311810048ull;
+  w2c_j0 &= w2c_j1;
+  w2c_j1 = 0ull;
+  w2c_i0 = w2c_j0 == w2c_j1;
+  if (w2c_i0) {goto w2c_B1;}
+  w2c_i0 = 0u;
+  w2c_i1 = 0u;
+  w2c_i2 = 3u;
+  w2c_j3 = w2c_p1;
+  w2c_j4 = 18446744073709551607ull;
+  w2c_j3 &= w2c_j4;
+  w2c_j4 = 16ull;
+  w2c_i3 = w2c_j3 == w2c_j4;
+  w2c_i1 = w2c_i3 ? w2c_i1 : w2c_i2;
+  w2c_j2 = w2c_p1;
+  w2c_j3 = 32ull;
+  w2c_i2 = w2c_j2 == w2c_j3;
+  w2c_i0 = w2c_i2 ? w2c_i0 : w2c_i1;
+  w2c_l2 = w2c_i0;
+  w2c_B1:;
+  w2c_i0 = w2c_l2;
+  goto w2c_Bfunc;
+  w2c_B0:;
+  UNREACHABLE;
+  w2c_Bfunc:;
+  return w2c_i0;
+}
+static u32 w2c_keywrap_check_kind(struct instance *instance, u64 w2c_p0, u64 w2c_p1, u64 w2c_p2) {
+  u32 w2c_l3 = 0;
+  const struct memory memory = instance->w2c_memory;
+  (void)memory;
+  u32 w2c_i0;
+  u64 w2c_j0, w2c_j1, w2c_j2;
+  w2c_i0 = w2c_f0(instance);
+  w2c_i0 = !(w2c_i0);
+  if (w2c_i0) {goto w2c_B0;}
+  w2c_f2(instance);
+  UNREACHABLE;
+  w2c_B0:;
+  w2c_j0 = w2c_p0;
+  w2c_j1 = w2c_p1;
+  w2c_j2 = w2c_p2;
+  w2c_i0 = w2c_f39(instance, w2c_j0, w2c_j1, w2c_j2);
+  w2c_l3 = w2c_i0;
+  w2c_f1(instance);
+  w2c_i0 = w2c_l3;
+  return w2c_i0;
+}
+static u32 w2c_f39(struct instance *instance, u64 w2c_p0, u64 w2c_p1, u64 w2c_p2) {
+  u32 w2c_l3 = 0;
+  const struct memory memory = instance->w2c_memory;
+  (void)memory;
+  u32 w2c_i0, w2c_i1, w2c_i2;
+  u64 w2c_j0, w2c_j1, w2c_j2, w2c_j3;
+  w2c_j0 = instance->w2c_g0;
+  w2c_j1 = 16ull;
+  w2c_i0 = (u64)((s64)w2c_j0 < (s64)w2c_j1);
+  if (w2c_i0) {goto w2c_B0;}
+  w2c_i0 = 3u;
+  w2c_l3 = w2c_i0;
+  w2c_j0 = w2c_p0;
+  w2c_j1 = 32ull;
+  w2c_i0 = w2c_j0 > w2c_j1;
+  if (w2c_i0) {goto w2c_B1;}
+  w2c_j0 = 1ull;
+  w2c_j1 = w2c_p0;
+  w2c_j0 <<= (w2c_j1 & 63);
+  w2c_j1 = 4311810048ull;
+  w2c_j0 &= w2c_j1;
+  w2c_j1 = 0ull;
+  w2c_i0 = w2c_j0 == w2c_j1;
+  if (w2c_i0) {goto w2c_B1;}
+  w2c_i0 = 5u;
+  w2c_l3 = w2c_i0;
+  w2c_j0 = w2c_p2;
+  w2c_j1 = 7ull;
+  w2c_j0 &= w2c_j1;
+  w2c_j1 = 0ull;
+  w2c_i0 = w2c_j0 != w2c_j1;
+  if (w2c_i0) {goto w2c_B1;}
+  w2c_j0 = w2c_p2;
+  w2c_j1 = 18446744073709551600ull;
+  w2c_j0 += w2c_j1;
+  w2c_j1 = 1048568ull;
+  w2c_i0 = w2c_j0 > w2c_j1;
+  if (w2c_i0) {goto w2c_B1;}
+  w2c_i0 = 0u;
+  w2c_i1 = 4u;
+  w2c_j2 = w2c_p2;
+  w2c_j3 = 18446744073709551608ull;
+  w2c_j2 += w2c_j3;
+  w2c_j3 = w2c_p1;
+  w2c_i2 = w2c_j2 == w2c_j3;
+  w2c_i0 = w2c_i2 ? w2c_i0 : w2c_i1;
+  w2c_l3 = w2c_i0;
+  w2c_B1:;
+  w2c_i0 = w2c_l3;
+  goto w2c_Bfunc;
+  w2c_B0:;
+  UNREACHABLE;
+  w2c_Bfunc:;
+  return w2c_i0;
+}
+static u32 w2c_keywrap_check_kind_many(struct instance *instance, u64 w2c_p0, u64 w2c_p1, u64 w2c_p2, u64 w2c_p3, u64 w2c_p4, u64 w2c_p5) {
+  u32 w2c_l6 = 0;
+  const struct memory memory = instance->w2c_memory;
+  (void)memory;
+  u32 w2c_i0;
+  u64 w2c_j0, w2c_j1, w2c_j2, w2c_j3, w2c_j4, w2c_j5;
+  w2c_i0 = w2c_f0(instance);
+  w2c_i0 = !(w2c_i0);
+  if (w2c_i0) {goto w2c_B0;}
+  w2c_f2(instance);
+  UNREACHABLE;
+  w2c_B0:;
+  w2c_j0 = w2c_p0;
+  w2c_j1 = w2c_p1;
+  w2c_j2 = w2c_p2;
+  w2c_j3 = w2c_p3;
+  w2c_j4 = w2c_p4;
+  w2c_j5 = w2c_p5;
+  w2c_i0 = w2c_f41(instance, w2c_j0, w2c_j1, w2c_j2, w2c_j3, w2c_j4, w2c_j5);
+  w2c_l6 = w2c_i0;
+  w2c_f1(instance);
+  w2c_i0 = w2c_l6;
+  return w2c_i0;
+}
+static u32 w2c_f41(struct instance *instance, u64 w2c_p0, u64 w2c_p1, u64 w2c_p2, u64 w2c_p3, u64 w2c_p4, u64 w2c_p5) {
+  u32 w2c_l6 = 0;
+  const struct memory memory = instance->w2c_memory;
+  (void)memory;
+  u32 w2c_i0, w2c_i1, w2c_i2;
+  u64 w2c_j0, w2c_j1, w2c_j2, w2c_j3;
+  w2c_j0 = instance->w2c_g0;
+  w2c_j1 = 16ull;
+  w2c_i0 = (u64)((s64)w2c_j0 < (s64)w2c_j1);
+  if (w2c_i0) {goto w2c_B0;}
+  w2c_i0 = 3u;
+  w2c_l6 = w2c_i0;
+  w2c_j0 = w2c_p0;
+  w2c_j1 = 32ull;
+  w2c_i0 = w2c_j0 > w2c_j1;
+  if (w2c_i0) {goto w2c_B1;}
+  w2c_j0 = 1ull;
+  w2c_j1 = w2c_p0;
+  w2c_j0 <<= (w2c_j1 & 63);
+  w2c_j1 = 4311810048ull;
+  w2c_j0 &= w2c_j1;
+  w2c_j1 = 0ull;
+  w2c_i0 = w2c_j0 == w2c_j1;
+  if (w2c_i0) {goto w2c_B1;}
+  w2c_i0 = 4u;
+  w2c_l6 = w2c_i0;
+  w2c_j0 = w2c_p5;
+  w2c_i0 = !(w2c_j0);
+  if (w2c_i0) {goto w2c_B1;}
+  w2c_j0 = w2c_p1;
+  w2c_j1 = w2c_p1;
+  w2c_j2 = w2c_p5;
+  w2c_j1 = DIV_U(w2c_j1, w2c_j2);
+  w2c_p0 = w2c_j1;
+  w2c_j2 = w2c_p5;
+  w2c_j1 *= w2c_j2;
+  w2c_j0 -= w2c_j1;
+  w2c_j1 = 0ull;
+  w2c_i0 = w2c_j0 != w2c_j1;
+  if (w2c_i0) {goto w2c_B1;}
+  w2c_i0 = 0u;
+  w2c_i1 = 4u;
+  w2c_j2 = w2c_p0;
+  w2c_j3 = 18446744073709551600ull;
+  w2c_j2 += w2c_j3;
+  w2c_j3 = 1048569ull;
+  w2c_i2 = w2c_j2 < w2c_j3;
+  w2c_i0 = w2c_i2 ? w2c_i0 : w2c_i1;
+  w2c_i1 = 4u;
+  w2c_j2 = w2c_p0;
+  w2c_j3 = 7ull;
+  w2c_j2 &= w2c_j3;
+  w2c_i2 = !(w2c_j2);
+  w2c_i0 = w2c_i2 ? w2c_i0 : w2c_i1;
+  w2c_i1 = 4u;
+  w2c_j2 = w2c_p0;
+  w2c_j3 = 18446744073709551608ull;
+  w2c_j2 += w2c_j3;
+  w2c_j3 = w2c_p2;
+  w2c_i2 = w2c_j2 == w2c_j3;
+  w2c_i0 = w2c_i2 ? w2c_i0 : w2c_i1;
+  w2c_i1 = 4u;
+  w2c_j2 = w2c_p3;
+  w2c_j3 = w2c_p5;
+  w2c_i2 = w2c_j2 == w2c_j3;
+  w2c_i0 = w2c_i2 ? w2c_i0 : w2c_i1;
+  w2c_i1 = 4u;
+  w2c_j2 = w2c_p4;
+  w2c_j3 = w2c_p5;
+  w2c_i2 = w2c_j2 == w2c_j3;
+  w2c_i0 = w2c_i2 ? w2c_i0 : w2c_i1;
+  w2c_l6 = w2c_i0;
+  w2c_B1:;
+  w2c_i0 = w2c_l6;
+  goto w2c_Bfunc;
+  w2c_B0:;
+  UNREACHABLE;
+  w2c_Bfunc:;
+  return w2c_i0;
+}
+static u32 w2c_keywrap_check_padded(struct instance *instance, u64 w2c_p0, u64 w2c_p1, u64 w2c_p2) {
+  u32 w2c_l3 = 0;
+  const struct memory memory = instance->w2c_memory;
+  (void)memory;
+  u32 w2c_i0;
+  u64 w2c_j0, w2c_j1, w2c_j2;
+  w2c_i0 = w2c_f0(instance);
+  w2c_i0 = !(w2c_i0);
+  if (w2c_i0) {goto w2c_B0;}
+  w2c_f2(instance);
+  UNREACHABLE;
+  w2c_B0:;
+  w2c_j0 = w2c_p0;
+  w2c_j1 = w2c_p1;
+  w2c_j2 = w2c_p2;
+  w2c_i0 = w2c_f43(instance, w2c_j0, w2c_j1, w2c_j2);
+  w2c_l3 = w2c_i0;
+  w2c_f1(instance);
+  w2c_i0 = w2c_l3;
+  return w2c_i0;
+}
+static u32 w2c_f43(struct instance *instance, u64 w2c_p0, u64 w2c_p1, u64 w2c_p2) {
+  u32 w2c_l3 = 0;
+  const struct memory memory = instance->w2c_memory;
+  (void)memory;
+  u32 w2c_i0, w2c_i1, w2c_i2;
+  u64 w2c_j0, w2c_j1, w2c_j2, w2c_j3, w2c_j4;
+  w2c_j0 = instance->w2c_g0;
+  w2c_j1 = 16ull;
+  w2c_i0 = (u64)((s64)w2c_j0 < (s64)w2c_j1);
+  if (w2c_i0) {goto w2c_B0;}
+  w2c_i0 = 3u;
+  w2c_l3 = w2c_i0;
+  w2c_j0 = w2c_p0;
+  w2c_j1 = 32ull;
+  w2c_i0 = w2c_j0 > w2c_j1;
+  if (w2c_i0) {goto w2c_B1;}
+  w2c_j0 = 1ull;
+  w2c_j1 = w2c_p0;
+  w2c_j0 <<= (w2c_j1 & 63);
+  w2c_j1 = 4311810048ull;
+  w2c_j0 &= w2c_j1;
+  w2c_j1 = 0ull;
+  w2c_i0 = w2c_j0 == w2c_j1;
+  if (w2c_i0) {goto w2c_B1;}
+  w2c_i0 = 4u;
+  w2c_l3 = w2c_i0;
+  w2c_j0 = w2c_p1;
+  w2c_j1 = 18446744073709551615ull;
+  w2c_j0 += w2c_j1;
+  w2c_j1 = 1048575ull;
+  w2c_i0 = w2c_j0 > w2c_j1;
+  if (w2c_i0) {goto w2c_B1;}
+  w2c_i0 = 0u;
+  w2c_i1 = 4u;
+  w2c_j2 = w2c_p2;
+  w2c_j3 = w2c_p1;
+  w2c_j4 = 7ull;
+  w2c_j3 += w2c_j4;
+  w2c_j4 = 4194296ull;
+  w2c_j3 &= w2c_j4;
+  w2c_j4 = 8ull;
+  w2c_j3 += w2c_j4;
+  w2c_i2 = w2c_j2 == w2c_j3;
+  w2c_i0 = w2c_i2 ? w2c_i0 : w2c_i1;
+  w2c_l3 = w2c_i0;
+  w2c_B1:;
+  w2c_i0 = w2c_l3;
+  goto w2c_Bfunc;
+  w2c_B0:;
+  UNREACHABLE;
+  w2c_Bfunc:;
+  return w2c_i0;
+}
+static u32 w2c_keywrap_check_plain(struct instance *instance, u64 w2c_p0, u64 w2c_p1, u64 w2c_p2, u64 w2c_p3, u64 w2c_p4) {
+  u32 w2c_l5 = 0;
+  const struct memory memory = instance->w2c_memory;
+  (void)memory;
+  u32 w2c_i0;
+  u64 w2c_j0, w2c_j1, w2c_j2, w2c_j3, w2c_j4;
+  w2c_i0 = w2c_f0(instance);
+  w2c_i0 = !(w2c_i0);
+  if (w2c_i0) {goto w2c_B0;}
+  w2c_f2(instance);
+  UNREACHABLE;
+  w2c_B0:;
+  w2c_j0 = w2c_p0;
+  w2c_j1 = w2c_p1;
+  w2c_j2 = w2c_p2;
+  w2c_j3 = w2c_p3;
+  w2c_j4 = w2c_p4;
+  w2c_i0 = w2c_f45(instance, w2c_j0, w2c_j1, w2c_j2, w2c_j3, w2c_j4);
+  w2c_l5 = w2c_i0;
+  w2c_f1(instance);
+  w2c_i0 = w2c_l5;
+  return w2c_i0;
+}
+static u32 w2c_f45(struct instance *instance, u64 w2c_p0, u64 w2c_p1, u64 w2c_p2, u64 w2c_p3, u64 w2c_p4) {
+  u32 w2c_l5 = 0;
+  const struct memory memory = instance->w2c_memory;
+  (void)memory;
+  u32 w2c_i0, w2c_i1, w2c_i2, w2c_i3;
+  u64 w2c_j0, w2c_j1, w2c_j2, w2c_j3, w2c_j4;
+  w2c_j0 = instance->w2c_g0;
+  w2c_j1 = 16ull;
+  w2c_i0 = (u64)((s64)w2c_j0 < (s64)w2c_j1);
+  if (w2c_i0) {goto w2c_B0;}
+  w2c_i0 = 2u;
+  w2c_l5 = w2c_i0;
+  w2c_j0 = w2c_p2;
+  w2c_j1 = 8ull;
+  w2c_i0 = w2c_j0 != w2c_j1;
+  if (w2c_i0) {goto w2c_B1;}
+  w2c_j0 = w2c_p1;
+  w2c_j1 = 4096ull;
+  w2c_j2 = 0ull;
+  w2c_j3 = w2c_p1;
+  w2c_i3 = !(w2c_j3);
+  w2c_j1 = w2c_i3 ? w2c_j1 : w2c_j2;
+  w2c_j0 += w2c_j1;
+  w2c_i0 = (u32)(w2c_j0);
+  w2c_i0 = i32_load(memory, (u64)(w2c_i0));
+  w2c_i1 = 2790873510u;
+  w2c_i0 = w2c_i0 == w2c_i1;
+  if (w2c_i0) {goto w2c_B1;}
+  w2c_i0 = 3u;
+  w2c_l5 = w2c_i0;
+  w2c_j0 = w2c_p0;
+  w2c_j1 = 32ull;
+  w2c_i0 = w2c_j0 > w2c_j1;
+  if (w2c_i0) {goto w2c_B1;}
+  w2c_j0 = 1ull;
+  w2c_j1 = w2c_p0;
+  w2c_j0 <<= (w2c_j1 & 63);
+  w2c_j1 = 4311810048ull;
+  w2c_j0 &= w2c_j1;
+  w2c_j1 = 0ull;
+  w2c_i0 = w2c_j0 == w2c_j1;
+  if (w2c_i0) {goto w2c_B1;}
+  w2c_i0 = 0u;
+  w2c_i1 = 4u;
+  w2c_j2 = w2c_p3;
+  w2c_j3 = 18446744073709551600ull;
+  w2c_j2 += w2c_j3;
+  w2c_j3 = 1048561ull;
+  w2c_i2 = w2c_j2 < w2c_j3;
+  w2c_i0 = w2c_i2 ? w2c_i0 : w2c_i1;
+  w2c_i1 = 4u;
+  w2c_j2 = w2c_p4;
+  w2c_j3 = w2c_p3;
+  w2c_j4 = 8ull;
+  w2c_j3 += w2c_j4;
+  w2c_i2 = w2c_j2 == w2c_j3;
+  w2c_i0 = w2c_i2 ? w2c_i0 : w2c_i1;
+  w2c_i1 = 4u;
+  w2c_j2 = w2c_p3;
+  w2c_j3 = 7ull;
+  w2c_j2 &= w2c_j3;
+  w2c_i2 = !(w2c_j2);
+  w2c_i0 = w2c_i2 ? w2c_i0 : w2c_i1;
+  w2c_l5 = w2c_i0;
+  w2c_B1:;
+  w2c_i0 = w2c_l5;
+  goto w2c_Bfunc;
+  w2c_B0:;
+  UNREACHABLE;
+  w2c_Bfunc:;
+  return w2c_i0;
+}
+static u32 w2c_keywrap_check_rewrap_in_place(struct instance *instance, u64 w2c_p0, u64 w2c_p1, u32 w2c_p2) {
+  const struct memory memory = instance->w2c_memory;
+  (void)memory;
+  u32 w2c_i0, w2c_i2;
+  u64 w2c_j0, w2c_j1;
+  w2c_i0 = w2c_f0(instance);
+  w2c_i0 = !(w2c_i0);
+  if (w2c_i0) {goto w2c_B0;}
+  w2c_f2(instance);
+  UNREACHABLE;
+  w2c_B0:;
+  w2c_j0 = w2c_p0;
+  w2c_j1 = w2c_p1;
+  w2c_i2 = w2c_p2;
+  w2c_i0 = w2c_f47(instance, w2c_j0, w2c_j1, w2c_i2);
+  w2c_p2 = w2c_i0;
+  w2c_f1(instance);
+  w2c_i0 = w2c_p2;
+  return w2c_i0;
+}
+static u32 w2c_f47(struct instance *instance, u64 w2c_p0, u64 w2c_p1, u32 w2c_p2) {
+  u32 w2c_l3 = 0;
+  const struct memory memory = instance->w2c_memory;
+  (void)memory;
+  u32 w2c_i0, w2c_i1, w2c_i2, w2c_i3;
+  u64 w2c_j0, w2c_j1;
+  w2c_j0 = instance->w2c_g0;
+  w2c_j1 = 16ull;
+  w2c_i0 = (u64)((s64)w2c_j0 < (s64)w2c_j1);
+  if (w2c_i0) {goto w2c_B0;}
+  w2c_i0 = 3u;
+  w2c_l3 = w2c_i0;
+  w2c_j0 = w2c_p0;
+  w2c_j1 = 32ull;
+  w2c_i0 = w2c_j0 > w2c_j1;
+  if (w2c_i0) {goto w2c_B1;}
+  w2c_j0 = 1ull;
+  w2c_j1 = w2c_p0;
+  w2c_j0 <<= (w2c_j1 & 63);
+  w2c_j1 = 4311810048ull;
+  w2c_j0 &= w2c_j1;
+  w2c_j1 = 0ull;
+  w2c_i0 = w2c_j0 == w2c_j1;
+  if (w2c_i0) {goto w2c_B1;}
+  w2c_j0 = w2c_p1;
+  w2c_j1 = 32ull;
+  w2c_i0 = w2c_j0 > w2c_j1;
+  if (w2c_i0) {goto w2c_B1;}
+  w2c_j0 = 1ull;
+  w2c_j1 = w2c_p1;
+  w2c_j0 <<= (w2c_j1 & 63);
+  w2c_j1 = 4311810048ull;
+  w2c_j0 &= w2c_j1;
+  w2c_j1 = 0ull;
+  w2c_i0 = w2c_j0 == w2c_j1;
+  if (w2c_i0) {goto w2c_B1;}
+  w2c_i0 = 0u;
+  w2c_i1 = 4u;
+  w2c_i2 = w2c_p2;
+  w2c_i3 = 4u;
+  w2c_i2 = w2c_i2 < w2c_i3;
+  w2c_i0 = w2c_i2 ? w2c_i0 : w2c_i1;
+  w2c_l3 = w2c_i0;
+  w2c_B1:;
+  w2c_i0 = w2c_l3;
+  goto w2c_Bfunc;
+  w2c_B0:;
+  UNREACHABLE;
+  w2c_Bfunc:;
+  return w2c_i0;
+}
+static u32 w2c_keywrap_check_rewrap_many(struct instance *instance, u64 w2c_p0, u64 w2c_p1, u64 w2c_p2, u32 w2c_p3, u64 w2c_p4) {
+  const struct memory memory = instance->w2c_memory;
+  (void)memory;
+  u32 w2c_i0, w2c_i3;
+  u64 w2c_j0, w2c_j1, w2c_j2, w2c_j4;
+  w2c_i0 = w2c_f0(instance);
+  w2c_i0 = !(w2c_i0);
+  if (w2c_i0) {goto w2c_B0;}
+  w2c_f2(instance);
+  UNREACHABLE;
+  w2c_B0:;
+  w2c_j0 = w2c_p0;
+  w2c_j1 = w2c_p1;
+  w2c_j2 = w2c_p2;
+  w2c_i3 = w2c_p3;
+  w2c_j4 = w2c_p4;
+  w2c_i0 = w2c_f49(instance, w2c_j0, w2c_j1, w2c_j2, w2c_i3, w2c_j4);
+  w2c_p3 = w2c_i0;
+  w2c_f1(instance);
+  w2c_i0 = w2c_p3;
+  return w2c_i0;
+}
+static u32 w2c_f49(struct instance *instance, u64 w2c_p0, u64 w2c_p1, u64 w2c_p2, u32 w2c_p3, u64 w2c_p4) {
+  u32 w2c_l5 = 0, w2c_l6 = 0;
+  const struct memory memory = instance->w2c_memory;
+  (void)memory;
+  u32 w2c_i0, w2c_i1;
+  u64 w2c_j0, w2c_j1, w2c_j2;
+  w2c_j0 = instance->w2c_g0;
+  w2c_j1 = 16ull;
+  w2c_i0 = (u64)((s64)w2c_j0 < (s64)w2c_j1);
+  if (w2c_i0) {goto w2c_B0;}
+  w2c_i0 = 3u;
+  w2c_l5 = w2c_i0;
+  w2c_j0 = w2c_p0;
+  w2c_j1 = 32ull;
+  w2c_i0 = w2c_j0 > w2c_j1;
+  if (w2c_i0) {goto w2c_B1;}
+  w2c_j0 = 1ull;
+  w2c_j1 = w2c_p0;
+  w2c_j0 <<= (w2c_j1 & 63);
+  w2c_j1 = 4311810048ull;
+  w2c_j0 &= w2c_j1;
+  w2c_j1 = 0ull;
+  w2c_i0 = w2c_j0 == w2c_j1;
+  if (w2c_i0) {goto w2c_B1;}
+  w2c_j0 = w2c_p1;
+  w2c_j1 = 32ull;
+  w2c_i0 = w2c_j0 > w2c_j1;
+  if (w2c_i0) {goto w2c_B1;}
+  w2c_j0 = 1ull;
+  w2c_j1 = w2c_p1;
+  w2c_j0 <<= (w2c_j1 & 63);
+  w2c_j1 = 4311810048ull;
+  w2c_j0 &= w2c_j1;
+  w2c_j1 = 0ull;
+  w2c_i0 = w2c_j0 == w2c_j1;
+  if (w2c_i0) {goto w2c_B1;}
+  w2c_i0 = 4u;
+  w2c_l5 = w2c_i0;
+  w2c_j0 = w2c_p4;
+  w2c_i0 = !(w2c_j0);
+  if (w2c_i0) {goto w2c_B1;}
+  w2c_j0 = w2c_p2;
+  w2c_j1 = w2c_p2;
+  w2c_j2 = w2c_p4;
+  w2c_j1 = DIV_U(w2c_j1, w2c_j2);
+  w2c_p0 = w2c_j1;
+  w2c_j2 = w2c_p4;
+  w2c_j1 *= w2c_j2;
+  w2c_j0 -= w2c_j1;
+  w2c_j1 = 0ull;
+  w2c_i0 = w2c_j0 != w2c_j1;
+  if (w2c_i0) {goto w2c_B1;}
+  w2c_i0 = w2c_p3;
+  w2c_i1 = 12u;
+  w2c_i0 = w2c_i0 > w2c_i1;
+  if (w2c_i0) {goto w2c_B1;}
+  w2c_i0 = 1u;
+  w2c_i1 = w2c_p3;
+  w2c_i0 <<= (w2c_i1 & 31);
+  w2c_l6 = w2c_i0;
+  w2c_i1 = 1285u;
+  w2c_i0 &= w2c_i1;
+  if (w2c_i0) {goto w2c_B4;}
+  w2c_i0 = w2c_l6;
+  w2c_i1 = 2570u;
+  w2c_i0 &= w2c_i1;
+  if (w2c_i0) {goto w2c_B5;}
+  w2c_i0 = 1u;
+  w2c_i1 = w2c_p3;
+  w2c_i0 <<= (w2c_i1 & 31);
+  w2c_i1 = 4112u;
+  w2c_i0 &= w2c_i1;
+  w2c_i0 = !(w2c_i0);
+  if (w2c_i0) {goto w2c_B1;}
+  w2c_j0 = w2c_p0;
+  w2c_j1 = 7ull;
+  w2c_j0 &= w2c_j1;
+  w2c_j1 = 0ull;
+  w2c_i0 = w2c_j0 != w2c_j1;
+  if (w2c_i0) {goto w2c_B1;}
+  w2c_j0 = w2c_p0;
+  w2c_j1 = 18446744073709551600ull;
+  w2c_j0 += w2c_j1;
+  w2c_j1 = 1048568ull;
+  w2c_i0 = w2c_j0 <= w2c_j1;
+  if (w2c_i0) {goto w2c_B2;}
+  goto w2c_B1;
+  w2c_B5:;
+  w2c_j0 = w2c_p0;
+  w2c_j1 = 18446744073709551600ull;
+  w2c_j0 += w2c_j1;
+  w2c_j1 = 1048569ull;
+  w2c_i0 = w2c_j0 < w2c_j1;
+  w2c_p3 = w2c_i0;
+  goto w2c_B3;
+  w2c_B4:;
+  w2c_j0 = w2c_p0;
+  w2c_j1 = 18446744073709551592ull;
+  w2c_j0 += w2c_j1;
+  w2c_j1 = 1048561ull;
+  w2c_i0 = w2c_j0 < w2c_j1;
+  w2c_p3 = w2c_i0;
+  w2c_B3:;
+  w2c_j0 = w2c_p0;
+  w2c_j1 = 7ull;
+  w2c_j0 &= w2c_j1;
+  w2c_j1 = 0ull;
+  w2c_i0 = w2c_j0 != w2c_j1;
+  if (w2c_i0) {goto w2c_B1;}
+  w2c_i0 = w2c_p3;
+  w2c_i0 = !(w2c_i0);
+  if (w2c_i0) {goto w2c_B1;}
+  w2c_B2:;
+  w2c_i0 = 0u;
+  w2c_l5 = w2c_i0;
+  w2c_B1:;
+  w2c_i0 = w2c_l5;
+  goto w2c_Bfunc;
+  w2c_B0:;
+  UNREACHABLE;
+  w2c_Bfunc:;
+  return w2c_i0;
+}
+static u32 w2c_keywrap_check_room(struct instance *instance, u64 w2c_p0, u64 w2c_p1, u64 w2c_p2) {
+  u32 w2c_l3 = 0;
+  const struct memory memory = instance->w2c_memory;
+  (void)memory;
+  u32 w2c_i0;
+  u64 w2c_j0, w2c_j1, w2c_j2;
+  w2c_i0 = w2c_f0(instance);
+  w2c_i0 = !(w2c_i0);
+  if (w2c_i0) {goto w2c_B0;}
+  w2c_f2(instance);
+  UNREACHABLE;
+  w2c_B0:;
+  w2c_j0 = w2c_p0;
+  w2c_j1 = w2c_p1;
+  w2c_j2 = w2c_p2;
+  w2c_i0 = w2c_f51(instance, w2c_j0, w2c_j1, w2c_j2);
+  w2c_l3 = w2c_i0;
+  w2c_f1(instance);
+  w2c_i0 = w2c_l3;
+  return w2c_i0;
+}
+static u32 w2c_f51(struct instance *instance, u64 w2c_p0, u64 w2c_p1, u64 w2c_p2) {
+  u32 w2c_l3 = 0;
+  const struct memory memory = instance->w2c_memory;
+  (void)memory;
+  u32 w2c_i0, w2c_i1, w2c_i2;
+  u64 w2c_j0, w2c_j1, w2c_j2, w2c_j3;
+  w2c_j0 = instance->w2c_g0;
+  w2c_j1 = 16ull;
+  w2c_i0 = (u64)((s64)w2c_j0 < (s64)w2c_j1);
+  if (w2c_i0) {goto w2c_B0;}
+  w2c_i0 = 3u;
+  w2c_l3 = w2c_i0;
+  w2c_j0 = w2c_p0;
+  w2c_j1 = 32ull;
+  w2c_i0 = w2c_j0 > w2c_j1;
+  if (w2c_i0) {goto w2c_B1;}
+  w2c_j0 = 1ull;
+  w2c_j1 = w2c_p0;
+  w2c_j0 <<= (w2c_j1 & 63);
+  w2c_j1 = 4311810048ull;
+  w2c_j0 &= w2c_j1;
+  w2c_j1 = 0ull;
+  w2c_i0 = w2c_j0 == w2c_j1;
+  if (w2c_i0) {goto w2c_B1;}
+  w2c_i0 = 0u;
+  w2c_i1 = 4u;
+  w2c_j2 = w2c_p2;
+  w2c_j3 = 18446744073709551600ull;
+  w2c_j2 += w2c_j3;
+  w2c_j3 = 1048569ull;
+  w2c_i2 = w2c_j2 < w2c_j3;
+  w2c_i0 = w2c_i2 ? w2c_i0 : w2c_i1;
+  w2c_i1 = 4u;
+  w2c_j2 = w2c_p2;
+  w2c_j3 = 7ull;
+  w2c_j2 &= w2c_j3;
+  w2c_i2 = !(w2c_j2);
+  w2c_i0 = w2c_i2 ? w2c_i0 : w2c_i1;
+  w2c_i1 = 4u;
+  w2c_j2 = w2c_p2;
+  w2c_j3 = 18446744073709551608ull;
+  w2c_j2 += w2c_j3;
+  w2c_j3 = w2c_p1;
+  w2c_i2 = w2c_j2 == w2c_j3;
+  w2c_i0 = w2c_i2 ? w2c_i0 : w2c_i1;
+  w2c_l3 = w2c_i0;
+  w2c_B1:;
+  w2c_i0 = w2c_l3;
+  goto w2c_Bfunc;
+  w2c_B0:;
+  UNREACHABLE;
+  w2c_Bfunc:;
+  return w2c_i0;
+}
+static u32 w2c_keywrap_check_unwrap_many(struct instance *instance, u64 w2c_p0, u64 w2c_p1, u32 w2c_p2, u64 w2c_p3, u64 w2c_p4) {
+  const struct memory memory = instance->w2c_memory;
+  (void)memory;
+  u32 w2c_i0, w2c_i2;
+  u64 w2c_j0, w2c_j1, w2c_j3, w2c_j4;
+  w2c_i0 = w2c_f0(instance);
+  w2c_i0 = !(w2c_i0);
+  if (w2c_i0) {goto w2c_B0;}
+  w2c_f2(instance);
+  UNREACHABLE;
+  w2c_B0:;
+  w2c_j0 = w2c_p0;
+  w2c_j1 = w2c_p1;
+  w2c_i2 = w2c_p2;
+  w2c_j3 = w2c_p3;
+  w2c_j4 = w2c_p4;
+  w2c_i0 = w2c_f53(instance, w2c_j0, w2c_j1, w2c_i2, w2c_j3, w2c_j4);
+  w2c_p2 = w2c_i0;
+  w2c_f1(instance);
+  w2c_i0 = w2c_p2;
+  return w2c_i0;
+}
+static u32 w2c_f53(struct instance *instance, u64 w2c_p0, u64 w2c_p1, u32 w2c_p2, u64 w2c_p3, u64 w2c_p4) {
+  u32 w2c_l5 = 0, w2c_l6 = 0;
+  const struct memory memory = instance->w2c_memory;
+  (void)memory;
+  u32 w2c_i0, w2c_i1, w2c_i2, w2c_i3, w2c_i4;
+  u64 w2c_j0, w2c_j1, w2c_j2, w2c_j3, w2c_j4;
+  w2c_j0 = instance->w2c_g0;
+  w2c_j1 = 16ull;
+  w2c_i0 = (u64)((s64)w2c_j0 < (s64)w2c_j1);
+  if (w2c_i0) {goto w2c_B0;}
+  w2c_i0 = 3u;
+  w2c_l5 = w2c_i0;
+  w2c_j0 = w2c_p0;
+  w2c_j1 = 32ull;
+  w2c_i0 = w2c_j0 > w2c_j1;
+  if (w2c_i0) {goto w2c_B1;}
+  w2c_j0 = 1ull;
+  w2c_j1 = w2c_p0;
+  w2c_j0 <<= (w2c_j1 & 63);
+  w2c_j1 = 4311810048ull;
+  w2c_j0 &= w2c_j1;
+  w2c_j1 = 0ull;
+  w2c_i0 = w2c_j0 == w2c_j1;
+  if (w2c_i0) {goto w2c_B1;}
+  w2c_i0 = 4u;
+  w2c_l5 = w2c_i0;
+  w2c_j0 = w2c_p4;
+  w2c_i0 = !(w2c_j0);
+  if (w2c_i0) {goto w2c_B1;}
+  w2c_j0 = w2c_p1;
+  w2c_j1 = w2c_p1;
+  w2c_j2 = w2c_p4;
+  w2c_j1 = DIV_U(w2c_j1, w2c_j2);
+  w2c_p0 = w2c_j1;
+  w2c_j2 = w2c_p4;
+  w2c_j1 *= w2c_j2;
+  w2c_j0 -= w2c_j1;
+  w2c_j1 = 0ull;
+  w2c_i0 = w2c_j0 != w2c_j1;
+  if (w2c_i0) {goto w2c_B1;}
+  w2c_i0 = 0u;
+  w2c_l6 = w2c_i0;
+  w2c_i0 = w2c_p2;
+  switch (w2c_i0) {
+    case 0: goto w2c_B2;
+    case 1: goto w2c_B3;
+    default: goto w2c_B1;
+  }
+  w2c_B3:;
+  w2c_i0 = 1u;
+  w2c_l6 = w2c_i0;
+  w2c_B2:;
+  w2c_j0 = w2c_p3;
+  w2c_j1 = w2c_p4;
+  w2c_i0 = w2c_j0 != w2c_j1;
+  if (w2c_i0) {goto w2c_B1;}
+  w2c_i0 = 0u;
+  w2c_i1 = 4u;
+  w2c_j2 = w2c_p0;
+  w2c_j3 = 18446744073709551600ull;
+  w2c_j2 += w2c_j3;
+  w2c_j3 = 1048569ull;
+  w2c_i2 = w2c_j2 < w2c_j3;
+  w2c_j3 = w2c_p0;
+  w2c_j4 = 18446744073709551592ull;
+  w2c_j3 += w2c_j4;
+  w2c_j4 = 1048561ull;
+  w2c_i3 = w2c_j3 < w2c_j4;
+  w2c_i4 = w2c_l6;
+  w2c_i2 = w2c_i4 ? w2c_i2 : w2c_i3;
+  w2c_i0 = w2c_i2 ? w2c_i0 : w2c_i1;
+  w2c_i1 = 4u;
+  w2c_j2 = w2c_p0;
+  w2c_j3 = 7ull;
+  w2c_j2 &= w2c_j3;
+  w2c_i2 = !(w2c_j2);
+  w2c_i0 = w2c_i2 ? w2c_i0 : w2c_i1;
+  w2c_l5 = w2c_i0;
+  w2c_B1:;
+  w2c_i0 = w2c_l5;
+  goto w2c_Bfunc;
+  w2c_B0:;
+  UNREACHABLE;
+  w2c_Bfunc:;
+  return w2c_i0;
+}
+static u32 w2c_keywrap_check_wrap_many(struct instance *instance, u64 w2c_p0, u64 w2c_p1, u64 w2c_p2, u32 w2c_p3, u64 w2c_p4) {
+  const struct memory memory = instance->w2c_memory;
+  (void)memory;
+  u32 w2c_i0, w2c_i3;
+  u64 w2c_j0, w2c_j1, w2c_j2, w2c_j4;
+  w2c_i0 = w2c_f0(instance);
+  w2c_i0 = !(w2c_i0);
+  if (w2c_i0) {goto w2c_B0;}
+  w2c_f2(instance);
+  UNREACHABLE;
+  w2c_B0:;
+  w2c_j0 = w2c_p0;
+  w2c_j1 = w2c_p1;
+  w2c_j2 = w2c_p2;
+  w2c_i3 = w2c_p3;
+  w2c_j4 = w2c_p4;
+  w2c_i0 = w2c_f55(instance, w2c_j0, w2c_j1, w2c_j2, w2c_i3, w2c_j4);
+  w2c_p3 = w2c_i0;
+  w2c_f1(instance);
+  w2c_i0 = w2c_p3;
+  return w2c_i0;
+}
+static u32 w2c_f55(struct instance *instance, u64 w2c_p0, u64 w2c_p1, u64 w2c_p2, u32 w2c_p3, u64 w2c_p4) {
+  u32 w2c_l5 = 0;
+  const struct memory memory = instance->w2c_memory;
+  (void)memory;
+  u32 w2c_i0;
+  u64 w2c_j0, w2c_j1, w2c_j2;
+  w2c_j0 = instance->w2c_g0;
+  w2c_j1 = 16ull;
+  w2c_i0 = (u64)((s64)w2c_j0 < (s64)w2c_j1);
+  if (w2c_i0) {goto w2c_B0;}
+  w2c_i0 = 3u;
+  w2c_l5 = w2c_i0;
+  w2c_j0 = w2c_p0;
+  w2c_j1 = 32ull;
+  w2c_i0 = w2c_j0 > w2c_j1;
+  if (w2c_i0) {goto w2c_B1;}
+  w2c_j0 = 1ull;
+  w2c_j1 = w2c_p0;
+  w2c_j0 <<= (w2c_j1 & 63);
+  w2c_j1 = 4311810048ull;
+  w2c_j0 &= w2c_j1;
+  w2c_j1 = 0ull;
+  w2c_i0 = w2c_j0 == w2c_j1;
+  if (w2c_i0) {goto w2c_B1;}
+  w2c_i0 = 4u;
+  w2c_l5 = w2c_i0;
+  w2c_j0 = w2c_p4;
+  w2c_i0 = !(w2c_j0);
+  if (w2c_i0) {goto w2c_B1;}
+  w2c_j0 = w2c_p1;
+  w2c_j1 = w2c_p1;
+  w2c_j2 = w2c_p4;
+  w2c_j1 = DIV_U(w2c_j1, w2c_j2);
+  w2c_p0 = w2c_j1;
+  w2c_j2 = w2c_p4;
+  w2c_j1 *= w2c_j2;
+  w2c_j0 -= w2c_j1;
+  w2c_j1 = 0ull;
+  w2c_i0 = w2c_j0 != w2c_j1;
+  if (w2c_i0) {goto w2c_B1;}
+  w2c_i0 = w2c_p3;
+  switch (w2c_i0) {
+    case 0: goto w2c_B3;
+    case 1: goto w2c_B1;
+    case 2: goto w2c_B4;
+    default: goto w2c_B1;
+  }
+  w2c_B4:;
+  w2c_j0 = w2c_p2;
+  w2c_j1 = 18446744073709551615ull;
+  w2c_j0 += w2c_j1;
+  w2c_j1 = 1048576ull;
+  w2c_i0 = w2c_j0 >= w2c_j1;
+  if (w2c_i0) {goto w2c_B1;}
+  w2c_j0 = w2c_p0;
+  w2c_j1 = w2c_p2;
+  w2c_j2 = 7ull;
+  w2c_j1 += w2c_j2;
+  w2c_j2 = 4194296ull;
+  w2c_j1 &= w2c_j2;
+  w2c_j2 = 8ull;
+  w2c_j1 += w2c_j2;
+  w2c_i0 = w2c_j0 == w2c_j1;
+  if (w2c_i0) {goto w2c_B2;}
+  goto w2c_B1;
+  w2c_B3:;
+  w2c_j0 = w2c_p2;
+  w2c_j1 = 7ull;
+  w2c_j0 &= w2c_j1;
+  w2c_j1 = 0ull;
+  w2c_i0 = w2c_j0 != w2c_j1;
+  if (w2c_i0) {goto w2c_B1;}
+  w2c_j0 = w2c_p2;
+  w2c_j1 = 18446744073709551600ull;
+  w2c_j0 += w2c_j1;
+  w2c_j1 = 1048560ull;
+  w2c_i0 = w2c_j0 > w2c_j1;
+  if (w2c_i0) {goto w2c_B1;}
+  w2c_j0 = w2c_p0;
+  w2c_j1 = w2c_p2;
+  w2c_j2 = 8ull;
+  w2c_j1 += w2c_j2;
+  w2c_i0 = w2c_j0 != w2c_j1;
+  if (w2c_i0) {goto w2c_B1;}
+  w2c_B2:;
+  w2c_i0 = 0u;
+  w2c_l5 = w2c_i0;
+  w2c_B1:;
+  w2c_i0 = w2c_l5;
+  goto w2c_Bfunc;
+  w2c_B0:;
+  UNREACHABLE;
+  w2c_Bfunc:;
+  return w2c_i0;
+}
+static u32 w2c_keywrap_end_rewrap(struct instance *instance, u32 w2c_p0, u64 w2c_p1) {
+  const struct memory memory = instance->w2c_memory;
+  (void)memory;
+  u32 w2c_i0;
+  u64 w2c_j1;
+  w2c_i0 = w2c_f0(instance);
+  w2c_i0 = !(w2c_i0);
+  if (w2c_i0) {goto w2c_B0;}
+  w2c_f2(instance);
+  UNREACHABLE;
+  w2c_B0:;
+  w2c_i0 = w2c_p0;
+  w2c_j1 = w2c_p1;
+  w2c_i0 = w2c_f57(instance, w2c_i0, w2c_j1);
+  w2c_p0 = w2c_i0;
+  w2c_f1(instance);
+  w2c_i0 = w2c_p0;
+  return w2c_i0;
+}
+static u32 w2c_f57(struct instance *instance, u32 w2c_p0, u64 w2c_p1) {
+  u32 w2c_l2 = 0, w2c_l3 = 0;
+  const struct memory memory = instance->w2c_memory;
+  (void)memory;
+  u32 w2c_i0, w2c_i1;
+  u64 w2c_j0, w2c_j1;
+  w2c_j0 = instance->w2c_g0;
+  w2c_j1 = 16ull;
+  w2c_i0 = (u64)((s64)w2c_j0 < (s64)w2c_j1);
+  if (w2c_i0) {goto w2c_B0;}
+  w2c_j0 = w2c_p1;
+  w2c_i0 = (u32)(w2c_j0);
+  w2c_i1 = 0u;
+  i32_store(memory, (u64)(w2c_i0), w2c_i1);
+  w2c_i0 = 3u;
+  w2c_l2 = w2c_i0;
+  w2c_i0 = w2c_p0;
+  w2c_i1 = 8u;
+  w2c_i0 = w2c_i0 > w2c_i1;
+  if (w2c_i0) {goto w2c_B1;}
+  w2c_i0 = 1u;
+  w2c_i1 = w2c_p0;
+  w2c_i0 <<= (w2c_i1 & 31);
+  w2c_l3 = w2c_i0;
+  w2c_i1 = 304u;
+  w2c_i0 &= w2c_i1;
+  w2c_i0 = !(w2c_i0);
+  if (w2c_i0) {goto w2c_B2;}
+  w2c_i0 = w2c_p0;
+  goto w2c_Bfunc;
+  w2c_B2:;
+  w2c_i0 = w2c_l3;
+  w2c_i1 = 3u;
+  w2c_i0 &= w2c_i1;
+  w2c_i0 = !(w2c_i0);
+  if (w2c_i0) {goto w2c_B1;}
+  w2c_j0 = w2c_p1;
+  w2c_i0 = (u32)(w2c_j0);
+  w2c_i1 = w2c_p0;
+  i32_store(memory, (u64)(w2c_i0), w2c_i1);
+  w2c_i0 = 0u;
+  w2c_l2 = w2c_i0;
+  w2c_B1:;
+  w2c_i0 = w2c_l2;
+  goto w2c_Bfunc;
+  w2c_B0:;
+  UNREACHABLE;
+  w2c_Bfunc:;
+  return w2c_i0;
+}
+static u32 w2c_keywrap_end_rewrap_in_place(struct instance *instance, u32 w2c_p0, u64 w2c_p1, u64 w2c_p2) {
+  const struct memory memory = instance->w2c_memory;
+  (void)memory;
+  u32 w2c_i0;
+  u64 w2c_j1, w2c_j2;
+  w2c_i0 = w2c_f0(instance);
+  w2c_i0 = !(w2c_i0);
+  if (w2c_i0) {goto w2c_B0;}
+  w2c_f2(instance);
+  UNREACHABLE;
+  w2c_B0:;
+  w2c_i0 = w2c_p0;
+  w2c_j1 = w2c_p1;
+  w2c_j2 = w2c_p2;
+  w2c_i0 = w2c_f59(instance, w2c_i0, w2c_j1, w2c_j2);
+  w2c_p0 = w2c_i0;
+  w2c_f1(instance);
+  w2c_i0 = w2c_p0;
+  return w2c_i0;
+}
+static u32 w2c_f59(struct instance *instance, u32 w2c_p0, u64 w2c_p1, u64 w2c_p2) {
+  u32 w2c_l3 = 0;
+  const struct memory memory = instance->w2c_memory;
+  (void)memory;
+  u32 w2c_i0, w2c_i1, w2c_i2, w2c_i3;
+  u64 w2c_j0, w2c_j1, w2c_j2, w2c_j3;
+  w2c_j0 = instance->w2c_g0;
+  w2c_j1 = 16ull;
+  w2c_i0 = (u64)((s64)w2c_j0 < (s64)w2c_j1);
+  if (w2c_i0) {goto w2c_B2;}
+  w2c_j0 = w2c_p1;
+  w2c_j1 = 4096ull;
+  w2c_j2 = 0ull;
+  w2c_j3 = w2c_p1;
+  w2c_i3 = !(w2c_j3);
+  w2c_j1 = w2c_i3 ? w2c_j1 : w2c_j2;
+  w2c_j0 += w2c_j1;
+  w2c_p1 = w2c_j0;
+  w2c_i0 = 3u;
+  w2c_l3 = w2c_i0;
+  w2c_i0 = w2c_p0;
+  switch (w2c_i0) {
+    case 0: goto w2c_B3;
+    case 1: goto w2c_B3;
+    case 2: goto w2c_B0;
+    case 3: goto w2c_B0;
+    case 4: goto w2c_B1;
+    case 5: goto w2c_B5;
+    case 6: goto w2c_B0;
+    case 7: goto w2c_B0;
+    case 8: goto w2c_B4;
+    default: goto w2c_B0;
+  }
+  w2c_B5:;
+  w2c_i0 = 5u;
+  w2c_l3 = w2c_i0;
+  w2c_j0 = w2c_p2;
+  w2c_i0 = !(w2c_j0);
+  if (w2c_i0) {goto w2c_B0;}
+  w2c_j0 = w2c_p2;
+  w2c_j1 = 18446744073709551615ull;
+  w2c_j0 += w2c_j1;
+  w2c_p2 = w2c_j0;
+  w2c_i0 = !(w2c_j0);
+  w2c_p0 = w2c_i0;
+  if (w2c_i0) {goto w2c_B6;}
+  w2c_i0 = w2c_p0;
+  if (w2c_i0) {goto w2c_B6;}
+  w2c_j0 = w2c_p1;
+  w2c_i0 = (u32)(w2c_j0);
+  w2c_i1 = 0u;
+  w2c_j2 = w2c_p2;
+  w2c_i2 = (u32)(w2c_j2);
+  memory_fill(memory, w2c_i0, w2c_i1, w2c_i2);
+  w2c_B6:;
+  w2c_j0 = w2c_p1;
+  w2c_j1 = w2c_p2;
+  w2c_j0 += w2c_j1;
+  w2c_i0 = (u32)(w2c_j0);
+  w2c_i1 = 0u;
+  i32_store8(memory, (u64)(w2c_i0), w2c_i1);
+  w2c_i0 = 5u;
+  goto w2c_Bfunc;
+  w2c_B4:;
+  w2c_i0 = 4u;
+  w2c_l3 = w2c_i0;
+  w2c_j0 = w2c_p2;
+  w2c_i0 = !(w2c_j0);
+  if (w2c_i0) {goto w2c_B0;}
+  w2c_j0 = w2c_p2;
+  w2c_j1 = 18446744073709551615ull;
+  w2c_j0 += w2c_j1;
+  w2c_p2 = w2c_j0;
+  w2c_i0 = !(w2c_j0);
+  w2c_p0 = w2c_i0;
+  if (w2c_i0) {goto w2c_B7;}
+  w2c_i0 = w2c_p0;
+  if (w2c_i0) {goto w2c_B7;}
+  w2c_j0 = w2c_p1;
+  w2c_i0 = (u32)(w2c_j0);
+  w2c_i1 = 0u;
+  w2c_j2 = w2c_p2;
+  w2c_i2 = (u32)(w2c_j2);
+  memory_fill(memory, w2c_i0, w2c_i1, w2c_i2);
+  w2c_B7:;
+  w2c_j0 = w2c_p1;
+  w2c_j1 = w2c_p2;
+  w2c_j0 += w2c_j1;
+  w2c_i0 = (u32)(w2c_j0);
+  w2c_i1 = 0u;
+  i32_store8(memory, (u64)(w2c_i0), w2c_i1);
+  w2c_i0 = 4u;
+  goto w2c_Bfunc;
+  w2c_B3:;
+  w2c_i0 = 0u;
+  goto w2c_Bfunc;
+  w2c_B2:;
+  UNREACHABLE;
+  w2c_B1:;
+  w2c_i0 = 4u;
+  w2c_l3 = w2c_i0;
+  w2c_B0:;
+  w2c_i0 = w2c_l3;
+  w2c_Bfunc:;
+  return w2c_i0;
+}
+#endif
 static u32 w2c_keywrap_end_unwrap(struct instance *instance, u64 w2c_p0, u64 w2c_p1, u64 w2c_p2, u64 w2c_p3, u64 w2c_p4, u64 w2c_p5) {
   u32 w2c_l6 = 0;
   const struct memory memory = instance->w2c_memory;
@@ -9529,13 +11989,13 @@ static u32 w2c_keywrap_end_unwrap(struct instance *instance, u64 w2c_p0, u64 w2c
   w2c_j3 = w2c_p3;
   w2c_j4 = w2c_p4;
   w2c_j5 = w2c_p5;
-  w2c_i0 = w2c_f31(instance, w2c_j0, w2c_j1, w2c_j2, w2c_j3, w2c_j4, w2c_j5);
+  w2c_i0 = w2c_f61(instance, w2c_j0, w2c_j1, w2c_j2, w2c_j3, w2c_j4, w2c_j5);
   w2c_l6 = w2c_i0;
   w2c_f1(instance);
   w2c_i0 = w2c_l6;
   return w2c_i0;
 }
-static u32 w2c_f31(struct instance *instance, u64 w2c_p0, u64 w2c_p1, u64 w2c_p2, u64 w2c_p3, u64 w2c_p4, u64 w2c_p5) {
+static u32 w2c_f61(struct instance *instance, u64 w2c_p0, u64 w2c_p1, u64 w2c_p2, u64 w2c_p3, u64 w2c_p4, u64 w2c_p5) {
   u32 w2c_l8 = 0;
   u64 w2c_l6 = 0, w2c_l7 = 0;
   const struct memory memory = instance->w2c_memory;
@@ -9729,6 +12189,273 @@ static u32 w2c_f31(struct instance *instance, u64 w2c_p0, u64 w2c_p1, u64 w2c_p2
   w2c_Bfunc:;
   return w2c_i0;
 }
+static u32 w2c_keywrap_end_unwrap_any(struct instance *instance, u64 w2c_p0, u64 w2c_p1, u64 w2c_p2, u64 w2c_p3, u64 w2c_p4, u64 w2c_p5) {
+  u32 w2c_l6 = 0;
+  const struct memory memory = instance->w2c_memory;
+  (void)memory;
+  u32 w2c_i0;
+  u64 w2c_j0, w2c_j1, w2c_j2, w2c_j3, w2c_j4, w2c_j5;
+  w2c_i0 = w2c_f0(instance);
+  w2c_i0 = !(w2c_i0);
+  if (w2c_i0) {goto w2c_B0;}
+  w2c_f2(instance);
+  UNREACHABLE;
+  w2c_B0:;
+  w2c_j0 = w2c_p0;
+  w2c_j1 = w2c_p1;
+  w2c_j2 = w2c_p2;
+  w2c_j3 = w2c_p3;
+  w2c_j4 = w2c_p4;
+  w2c_j5 = w2c_p5;
+  w2c_i0 = w2c_f63(instance, w2c_j0, w2c_j1, w2c_j2, w2c_j3, w2c_j4, w2c_j5);
+  w2c_l6 = w2c_i0;
+  w2c_f1(instance);
+  w2c_i0 = w2c_l6;
+  return w2c_i0;
+}
+static u32 w2c_f63(struct instance *instance, u64 w2c_p0, u64 w2c_p1, u64 w2c_p2, u64 w2c_p3, u64 w2c_p4, u64 w2c_p5) {
+  u32 w2c_l8 = 0;
+  u64 w2c_l6 = 0, w2c_l7 = 0;
+  const struct memory memory = instance->w2c_memory;
+  (void)memory;
+  u32 w2c_i0, w2c_i1, w2c_i2, w2c_i3, w2c_i6;
+  u64 w2c_j0, w2c_j1, w2c_j2, w2c_j3, w2c_j4, w2c_j5, w2c_j6, w2c_j7;
+  w2c_j0 = instance->w2c_g0;
+  w2c_j1 = 16ull;
+  w2c_j0 -= w2c_j1;
+  w2c_l6 = w2c_j0;
+  instance->w2c_g0 = w2c_j0;
+  w2c_j0 = w2c_l6;
+  w2c_l7 = w2c_j0;
+  w2c_j1 = 16ull;
+  w2c_i0 = (u64)((s64)w2c_j0 < (s64)w2c_j1);
+  if (w2c_i0) {goto w2c_B0;}
+  w2c_j0 = w2c_p4;
+  w2c_i0 = (u32)(w2c_j0);
+  w2c_i1 = 0u;
+  i32_store(memory, (u64)(w2c_i0), w2c_i1);
+  w2c_j0 = w2c_p5;
+  w2c_i0 = (u32)(w2c_j0);
+  w2c_j1 = 0ull;
+  i64_store(memory, (u64)(w2c_i0), w2c_j1);
+  w2c_j0 = w2c_p1;
+  w2c_j1 = 18446744073709551608ull;
+  w2c_j0 += w2c_j1;
+  w2c_j1 = 1048568ull;
+  w2c_i0 = w2c_j0 > w2c_j1;
+  if (w2c_i0) {goto w2c_B2;}
+  w2c_j0 = w2c_p2;
+  w2c_j1 = w2c_p1;
+  w2c_j2 = 7ull;
+  w2c_j1 &= w2c_j2;
+  w2c_j0 |= w2c_j1;
+  w2c_j1 = 0ull;
+  w2c_i0 = w2c_j0 != w2c_j1;
+  if (w2c_i0) {goto w2c_B2;}
+  w2c_j0 = w2c_p3;
+  w2c_i0 = (u32)(w2c_j0);
+  w2c_j1 = 0ull;
+  i64_store(memory, (u64)(w2c_i0) + 8, w2c_j1);
+  w2c_j0 = w2c_p3;
+  w2c_i0 = (u32)(w2c_j0);
+  w2c_j0 = i64_load(memory, (u64)(w2c_i0));
+  w2c_l6 = w2c_j0;
+  w2c_j0 = w2c_p3;
+  w2c_i0 = (u32)(w2c_j0);
+  w2c_j1 = 0ull;
+  i64_store(memory, (u64)(w2c_i0), w2c_j1);
+  w2c_j0 = w2c_l7;
+  w2c_j1 = 8ull;
+  w2c_j0 += w2c_j1;
+  w2c_j1 = w2c_p1;
+  w2c_j2 = 8ull;
+  w2c_i1 = w2c_j1 == w2c_j2;
+  w2c_j2 = w2c_l6;
+  w2c_j3 = 12008468691120727718ull;
+  w2c_i2 = w2c_j2 != w2c_j3;
+  w2c_i1 |= w2c_i2;
+  w2c_j2 = w2c_p1;
+  w2c_j3 = w2c_l6;
+  w2c_j4 = 8ull;
+  w2c_j3 >>= (w2c_j4 & 63);
+  w2c_j4 = 4278190080ull;
+  w2c_j3 &= w2c_j4;
+  w2c_j4 = w2c_l6;
+  w2c_j5 = 24ull;
+  w2c_j4 >>= (w2c_j5 & 63);
+  w2c_j5 = 16711680ull;
+  w2c_j4 &= w2c_j5;
+  w2c_j3 |= w2c_j4;
+  w2c_j4 = w2c_l6;
+  w2c_j5 = 40ull;
+  w2c_j4 >>= (w2c_j5 & 63);
+  w2c_j5 = 65280ull;
+  w2c_j4 &= w2c_j5;
+  w2c_j5 = w2c_l6;
+  w2c_j6 = 56ull;
+  w2c_j5 >>= (w2c_j6 & 63);
+  w2c_j4 |= w2c_j5;
+  w2c_j3 |= w2c_j4;
+  w2c_p2 = w2c_j3;
+  w2c_j2 -= w2c_j3;
+  w2c_p3 = w2c_j2;
+  w2c_j3 = 3ull;
+  w2c_j2 >>= (w2c_j3 & 63);
+  w2c_j3 = w2c_l6;
+  w2c_j4 = 56ull;
+  w2c_j3 <<= (w2c_j4 & 63);
+  w2c_j4 = w2c_l6;
+  w2c_j5 = 65280ull;
+  w2c_j4 &= w2c_j5;
+  w2c_j5 = 40ull;
+  w2c_j4 <<= (w2c_j5 & 63);
+  w2c_j3 |= w2c_j4;
+  w2c_j4 = w2c_l6;
+  w2c_j5 = 16711680ull;
+  w2c_j4 &= w2c_j5;
+  w2c_j5 = 24ull;
+  w2c_j4 <<= (w2c_j5 & 63);
+  w2c_j5 = w2c_l6;
+  w2c_j6 = 4278190080ull;
+  w2c_j5 &= w2c_j6;
+  w2c_j6 = 8ull;
+  w2c_j5 <<= (w2c_j6 & 63);
+  w2c_j4 |= w2c_j5;
+  w2c_j3 |= w2c_j4;
+  w2c_j4 = 32ull;
+  w2c_j3 >>= (w2c_j4 & 63);
+  w2c_j4 = 2790873510ull;
+  w2c_j3 ^= w2c_j4;
+  w2c_j2 |= w2c_j3;
+  w2c_j3 = w2c_p0;
+  w2c_j4 = 4096ull;
+  w2c_j5 = 0ull;
+  w2c_j6 = w2c_p0;
+  w2c_i6 = !(w2c_j6);
+  w2c_j4 = w2c_i6 ? w2c_j4 : w2c_j5;
+  w2c_j3 += w2c_j4;
+  w2c_p0 = w2c_j3;
+  w2c_j4 = w2c_p1;
+  w2c_j3 += w2c_j4;
+  w2c_j4 = 18446744073709551608ull;
+  w2c_j3 += w2c_j4;
+  w2c_i3 = (u32)(w2c_j3);
+  w2c_j3 = i64_load(memory, (u64)(w2c_i3));
+  w2c_l6 = w2c_j3;
+  w2c_j4 = 56ull;
+  w2c_j3 <<= (w2c_j4 & 63);
+  w2c_j4 = w2c_l6;
+  w2c_j5 = 65280ull;
+  w2c_j4 &= w2c_j5;
+  w2c_j5 = 40ull;
+  w2c_j4 <<= (w2c_j5 & 63);
+  w2c_j3 |= w2c_j4;
+  w2c_j4 = w2c_l6;
+  w2c_j5 = 16711680ull;
+  w2c_j4 &= w2c_j5;
+  w2c_j5 = 24ull;
+  w2c_j4 <<= (w2c_j5 & 63);
+  w2c_j5 = w2c_l6;
+  w2c_j6 = 4278190080ull;
+  w2c_j5 &= w2c_j6;
+  w2c_j6 = 8ull;
+  w2c_j5 <<= (w2c_j6 & 63);
+  w2c_j4 |= w2c_j5;
+  w2c_j3 |= w2c_j4;
+  w2c_j4 = w2c_l6;
+  w2c_j5 = 8ull;
+  w2c_j4 >>= (w2c_j5 & 63);
+  w2c_j5 = 4278190080ull;
+  w2c_j4 &= w2c_j5;
+  w2c_j5 = w2c_l6;
+  w2c_j6 = 24ull;
+  w2c_j5 >>= (w2c_j6 & 63);
+  w2c_j6 = 16711680ull;
+  w2c_j5 &= w2c_j6;
+  w2c_j4 |= w2c_j5;
+  w2c_j5 = w2c_l6;
+  w2c_j6 = 40ull;
+  w2c_j5 >>= (w2c_j6 & 63);
+  w2c_j6 = 65280ull;
+  w2c_j5 &= w2c_j6;
+  w2c_j6 = w2c_l6;
+  w2c_j7 = 56ull;
+  w2c_j6 >>= (w2c_j7 & 63);
+  w2c_j5 |= w2c_j6;
+  w2c_j4 |= w2c_j5;
+  w2c_j3 |= w2c_j4;
+  w2c_j4 = 18446744073709551615ull;
+  w2c_j5 = w2c_p3;
+  w2c_j6 = 3ull;
+  w2c_j5 <<= (w2c_j6 & 63);
+  w2c_j4 <<= (w2c_j5 & 63);
+  w2c_j5 = 18446744073709551615ull;
+  w2c_j4 ^= w2c_j5;
+  w2c_j3 &= w2c_j4;
+  w2c_j2 |= w2c_j3;
+  w2c_l6 = w2c_j2;
+  w2c_j3 = 0ull;
+  w2c_i2 = w2c_j2 != w2c_j3;
+  w2c_i1 &= w2c_i2;
+  w2c_j1 = (u64)(w2c_i1);
+  w2c_j2 = w2c_p0;
+  w2c_j3 = w2c_p1;
+  w2c_f3(instance, w2c_j0, w2c_j1, w2c_j2, w2c_j3);
+  w2c_j0 = w2c_l7;
+  w2c_i0 = (u32)(w2c_j0);
+  w2c_i0 = i32_load8_u(memory, (u64)(w2c_i0) + 8u);
+  w2c_i1 = 255u;
+  w2c_i0 &= w2c_i1;
+  if (w2c_i0) {goto w2c_B3;}
+  w2c_j0 = w2c_l7;
+  w2c_j1 = w2c_l6;
+  w2c_j2 = w2c_l7;
+  w2c_j3 = 15ull;
+  w2c_j2 += w2c_j3;
+  w2c_j3 = 0ull;
+  w2c_f3(instance, w2c_j0, w2c_j1, w2c_j2, w2c_j3);
+  w2c_j0 = w2c_p5;
+  w2c_i0 = (u32)(w2c_j0);
+  w2c_j1 = w2c_p1;
+  w2c_j2 = w2c_p2;
+  w2c_j3 = w2c_l7;
+  w2c_i3 = (u32)(w2c_j3);
+  w2c_i3 = i32_load8_u(memory, (u64)(w2c_i3));
+  w2c_l8 = w2c_i3;
+  w2c_j1 = w2c_i3 ? w2c_j1 : w2c_j2;
+  i64_store(memory, (u64)(w2c_i0), w2c_j1);
+  w2c_j0 = w2c_p4;
+  w2c_i0 = (u32)(w2c_j0);
+  w2c_i1 = w2c_l8;
+  w2c_i1 = !(w2c_i1);
+  i32_store(memory, (u64)(w2c_i0), w2c_i1);
+  w2c_i0 = 0u;
+  w2c_l8 = w2c_i0;
+  goto w2c_B1;
+  w2c_B3:;
+  w2c_i0 = 5u;
+  w2c_l8 = w2c_i0;
+  w2c_j0 = w2c_l7;
+  w2c_i0 = (u32)(w2c_j0);
+  w2c_i0 = i32_load8_u(memory, (u64)(w2c_i0) + 9u);
+  w2c_i1 = 255u;
+  w2c_i0 &= w2c_i1;
+  if (w2c_i0) {goto w2c_B1;}
+  w2c_B2:;
+  w2c_i0 = 4u;
+  w2c_l8 = w2c_i0;
+  w2c_B1:;
+  w2c_j0 = w2c_l7;
+  w2c_j1 = 16ull;
+  w2c_j0 += w2c_j1;
+  instance->w2c_g0 = w2c_j0;
+  w2c_i0 = w2c_l8;
+  goto w2c_Bfunc;
+  w2c_B0:;
+  UNREACHABLE;
+  w2c_Bfunc:;
+  return w2c_i0;
+}
 static u32 w2c_keywrap_end_unwrap_padded(struct instance *instance, u64 w2c_p0, u64 w2c_p1, u64 w2c_p2, u64 w2c_p3, u64 w2c_p4) {
   u32 w2c_l5 = 0;
   const struct memory memory = instance->w2c_memory;
@@ -9746,13 +12473,13 @@ static u32 w2c_keywrap_end_unwrap_padded(struct instance *instance, u64 w2c_p0, 
   w2c_j2 = w2c_p2;
   w2c_j3 = w2c_p3;
   w2c_j4 = w2c_p4;
-  w2c_i0 = w2c_f33(instance, w2c_j0, w2c_j1, w2c_j2, w2c_j3, w2c_j4);
+  w2c_i0 = w2c_f65(instance, w2c_j0, w2c_j1, w2c_j2, w2c_j3, w2c_j4);
   w2c_l5 = w2c_i0;
   w2c_f1(instance);
   w2c_i0 = w2c_l5;
   return w2c_i0;
 }
-static u32 w2c_f33(struct instance *instance, u64 w2c_p0, u64 w2c_p1, u64 w2c_p2, u64 w2c_p3, u64 w2c_p4) {
+static u32 w2c_f65(struct instance *instance, u64 w2c_p0, u64 w2c_p1, u64 w2c_p2, u64 w2c_p3, u64 w2c_p4) {
   u32 w2c_l7 = 0;
   u64 w2c_l5 = 0, w2c_l6 = 0;
   const struct memory memory = instance->w2c_memory;
@@ -9961,6 +12688,355 @@ static u32 w2c_f33(struct instance *instance, u64 w2c_p0, u64 w2c_p1, u64 w2c_p2
   w2c_Bfunc:;
   return w2c_i0;
 }
+#ifdef WITH_AES
+static u32 w2c_keywrap_end_unwrap_slot(struct instance *instance, u32 w2c_p0, u64 w2c_p1, u64 w2c_p2, u64 w2c_p3, u64 w2c_p4, u64 w2c_p5) {
+  const struct memory memory = instance->w2c_memory;
+  (void)memory;
+  u32 w2c_i0;
+  u64 w2c_j1, w2c_j2, w2c_j3, w2c_j4, w2c_j5;
+  w2c_i0 = w2c_f0(instance);
+  w2c_i0 = !(w2c_i0);
+  if (w2c_i0) {goto w2c_B0;}
+  w2c_f2(instance);
+  UNREACHABLE;
+  w2c_B0:;
+  w2c_i0 = w2c_p0;
+  w2c_j1 = w2c_p1;
+  w2c_j2 = w2c_p2;
+  w2c_j3 = w2c_p3;
+  w2c_j4 = w2c_p4;
+  w2c_j5 = w2c_p5;
+  w2c_i0 = w2c_f67(instance, w2c_i0, w2c_j1, w2c_j2, w2c_j3, w2c_j4, w2c_j5);
+  w2c_p0 = w2c_i0;
+  w2c_f1(instance);
+  w2c_i0 = w2c_p0;
+  return w2c_i0;
+}
+static u32 w2c_f67(struct instance *instance, u32 w2c_p0, u64 w2c_p1, u64 w2c_p2, u64 w2c_p3, u64 w2c_p4, u64 w2c_p5) {
+  u32 w2c_l8 = 0;
+  u64 w2c_l6 = 0, w2c_l7 = 0;
+  const struct memory memory = instance->w2c_memory;
+  (void)memory;
+  u32 w2c_i0, w2c_i1, w2c_i2, w2c_i3;
+  u64 w2c_j0, w2c_j1, w2c_j2, w2c_j3, w2c_j4, w2c_j5, w2c_j6;
+  w2c_j0 = instance->w2c_g0;
+  w2c_j1 = 16ull;
+  w2c_j0 -= w2c_j1;
+  w2c_l6 = w2c_j0;
+  instance->w2c_g0 = w2c_j0;
+  w2c_j0 = w2c_l6;
+  w2c_l6 = w2c_j0;
+  w2c_j1 = 16ull;
+  w2c_i0 = (u64)((s64)w2c_j0 < (s64)w2c_j1);
+  if (w2c_i0) {goto w2c_B3;}
+  w2c_j0 = w2c_p1;
+  w2c_j1 = 4096ull;
+  w2c_j2 = 0ull;
+  w2c_j3 = w2c_p1;
+  w2c_i3 = !(w2c_j3);
+  w2c_j1 = w2c_i3 ? w2c_j1 : w2c_j2;
+  w2c_j0 += w2c_j1;
+  w2c_l7 = w2c_j0;
+  w2c_j0 = w2c_p5;
+  w2c_i0 = (u32)(w2c_j0);
+  w2c_j1 = 0ull;
+  i64_store(memory, (u64)(w2c_i0), w2c_j1);
+  w2c_i0 = 4u;
+  w2c_l8 = w2c_i0;
+  w2c_i0 = w2c_p0;
+  switch (w2c_i0) {
+    case 0: goto w2c_B5;
+    case 1: goto w2c_B4;
+    default: goto w2c_B0;
+  }
+  w2c_B5:;
+  w2c_j0 = w2c_p2;
+  w2c_j1 = 18446744073709551600ull;
+  w2c_j0 += w2c_j1;
+  w2c_j1 = 1048560ull;
+  w2c_i0 = w2c_j0 <= w2c_j1;
+  if (w2c_i0) {goto w2c_B6;}
+  w2c_i0 = 4u;
+  w2c_l8 = w2c_i0;
+  goto w2c_B0;
+  w2c_B6:;
+  w2c_i0 = 4u;
+  w2c_l8 = w2c_i0;
+  w2c_j0 = w2c_p3;
+  w2c_j1 = w2c_p2;
+  w2c_j2 = 7ull;
+  w2c_j1 &= w2c_j2;
+  w2c_j0 |= w2c_j1;
+  w2c_j1 = 0ull;
+  w2c_i0 = w2c_j0 != w2c_j1;
+  if (w2c_i0) {goto w2c_B0;}
+  w2c_j0 = w2c_p4;
+  w2c_i0 = (u32)(w2c_j0);
+  w2c_j1 = 0ull;
+  i64_store(memory, (u64)(w2c_i0) + 8, w2c_j1);
+  w2c_j0 = w2c_p4;
+  w2c_i0 = (u32)(w2c_j0);
+  w2c_j0 = i64_load(memory, (u64)(w2c_i0));
+  w2c_p1 = w2c_j0;
+  w2c_j0 = w2c_p4;
+  w2c_i0 = (u32)(w2c_j0);
+  w2c_j1 = 0ull;
+  i64_store(memory, (u64)(w2c_i0), w2c_j1);
+  w2c_j0 = w2c_l6;
+  w2c_j1 = w2c_p1;
+  w2c_j2 = 12008468691120727718ull;
+  w2c_j1 ^= w2c_j2;
+  w2c_p1 = w2c_j1;
+  w2c_j2 = 56ull;
+  w2c_j1 <<= (w2c_j2 & 63);
+  w2c_j2 = w2c_p1;
+  w2c_j3 = 65280ull;
+  w2c_j2 &= w2c_j3;
+  w2c_j3 = 40ull;
+  w2c_j2 <<= (w2c_j3 & 63);
+  w2c_j1 |= w2c_j2;
+  w2c_j2 = w2c_p1;
+  w2c_j3 = 16711680ull;
+  w2c_j2 &= w2c_j3;
+  w2c_j3 = 24ull;
+  w2c_j2 <<= (w2c_j3 & 63);
+  w2c_j3 = w2c_p1;
+  w2c_j4 = 4278190080ull;
+  w2c_j3 &= w2c_j4;
+  w2c_j4 = 8ull;
+  w2c_j3 <<= (w2c_j4 & 63);
+  w2c_j2 |= w2c_j3;
+  w2c_j1 |= w2c_j2;
+  w2c_j2 = w2c_p1;
+  w2c_j3 = 8ull;
+  w2c_j2 >>= (w2c_j3 & 63);
+  w2c_j3 = 4278190080ull;
+  w2c_j2 &= w2c_j3;
+  w2c_j3 = w2c_p1;
+  w2c_j4 = 24ull;
+  w2c_j3 >>= (w2c_j4 & 63);
+  w2c_j4 = 16711680ull;
+  w2c_j3 &= w2c_j4;
+  w2c_j2 |= w2c_j3;
+  w2c_j3 = w2c_p1;
+  w2c_j4 = 40ull;
+  w2c_j3 >>= (w2c_j4 & 63);
+  w2c_j4 = 65280ull;
+  w2c_j3 &= w2c_j4;
+  w2c_j4 = w2c_p1;
+  w2c_j5 = 56ull;
+  w2c_j4 >>= (w2c_j5 & 63);
+  w2c_j3 |= w2c_j4;
+  w2c_j2 |= w2c_j3;
+  w2c_j1 |= w2c_j2;
+  w2c_j2 = w2c_l7;
+  w2c_j3 = w2c_p2;
+  w2c_f3(instance, w2c_j0, w2c_j1, w2c_j2, w2c_j3);
+  w2c_j0 = w2c_l6;
+  w2c_i0 = (u32)(w2c_j0);
+  w2c_i0 = i32_load8_u(memory, (u64)(w2c_i0));
+  w2c_i1 = 255u;
+  w2c_i0 &= w2c_i1;
+  w2c_i0 = !(w2c_i0);
+  if (w2c_i0) {goto w2c_B2;}
+  w2c_i0 = 5u;
+  w2c_i1 = 4u;
+  w2c_j2 = w2c_l6;
+  w2c_i2 = (u32)(w2c_j2);
+  w2c_i2 = i32_load8_u(memory, (u64)(w2c_i2) + 1u);
+  w2c_i3 = 255u;
+  w2c_i2 &= w2c_i3;
+  w2c_i0 = w2c_i2 ? w2c_i0 : w2c_i1;
+  w2c_l8 = w2c_i0;
+  goto w2c_B0;
+  w2c_B4:;
+  w2c_j0 = w2c_p2;
+  w2c_j1 = 18446744073709551608ull;
+  w2c_j0 += w2c_j1;
+  w2c_j1 = 1048568ull;
+  w2c_i0 = w2c_j0 > w2c_j1;
+  if (w2c_i0) {goto w2c_B7;}
+  w2c_j0 = w2c_p3;
+  w2c_j1 = w2c_p2;
+  w2c_j2 = 7ull;
+  w2c_j1 &= w2c_j2;
+  w2c_j0 |= w2c_j1;
+  w2c_j1 = 0ull;
+  w2c_i0 = w2c_j0 != w2c_j1;
+  if (w2c_i0) {goto w2c_B7;}
+  w2c_j0 = w2c_p4;
+  w2c_i0 = (u32)(w2c_j0);
+  w2c_j1 = 0ull;
+  i64_store(memory, (u64)(w2c_i0) + 8, w2c_j1);
+  w2c_j0 = w2c_p4;
+  w2c_i0 = (u32)(w2c_j0);
+  w2c_j0 = i64_load(memory, (u64)(w2c_i0));
+  w2c_p1 = w2c_j0;
+  w2c_j0 = w2c_p4;
+  w2c_i0 = (u32)(w2c_j0);
+  w2c_j1 = 0ull;
+  i64_store(memory, (u64)(w2c_i0), w2c_j1);
+  w2c_j0 = w2c_l6;
+  w2c_j1 = 8ull;
+  w2c_j0 += w2c_j1;
+  w2c_j1 = w2c_p2;
+  w2c_j2 = w2c_p1;
+  w2c_j3 = 8ull;
+  w2c_j2 >>= (w2c_j3 & 63);
+  w2c_j3 = 4278190080ull;
+  w2c_j2 &= w2c_j3;
+  w2c_j3 = w2c_p1;
+  w2c_j4 = 24ull;
+  w2c_j3 >>= (w2c_j4 & 63);
+  w2c_j4 = 16711680ull;
+  w2c_j3 &= w2c_j4;
+  w2c_j2 |= w2c_j3;
+  w2c_j3 = w2c_p1;
+  w2c_j4 = 40ull;
+  w2c_j3 >>= (w2c_j4 & 63);
+  w2c_j4 = 65280ull;
+  w2c_j3 &= w2c_j4;
+  w2c_j4 = w2c_p1;
+  w2c_j5 = 56ull;
+  w2c_j4 >>= (w2c_j5 & 63);
+  w2c_j3 |= w2c_j4;
+  w2c_j2 |= w2c_j3;
+  w2c_p3 = w2c_j2;
+  w2c_j1 -= w2c_j2;
+  w2c_p4 = w2c_j1;
+  w2c_j2 = 3ull;
+  w2c_j1 >>= (w2c_j2 & 63);
+  w2c_j2 = w2c_p1;
+  w2c_j3 = 56ull;
+  w2c_j2 <<= (w2c_j3 & 63);
+  w2c_j3 = w2c_p1;
+  w2c_j4 = 65280ull;
+  w2c_j3 &= w2c_j4;
+  w2c_j4 = 40ull;
+  w2c_j3 <<= (w2c_j4 & 63);
+  w2c_j2 |= w2c_j3;
+  w2c_j3 = w2c_p1;
+  w2c_j4 = 16711680ull;
+  w2c_j3 &= w2c_j4;
+  w2c_j4 = 24ull;
+  w2c_j3 <<= (w2c_j4 & 63);
+  w2c_j4 = w2c_p1;
+  w2c_j5 = 4278190080ull;
+  w2c_j4 &= w2c_j5;
+  w2c_j5 = 8ull;
+  w2c_j4 <<= (w2c_j5 & 63);
+  w2c_j3 |= w2c_j4;
+  w2c_j2 |= w2c_j3;
+  w2c_j3 = 32ull;
+  w2c_j2 >>= (w2c_j3 & 63);
+  w2c_j3 = 2790873510ull;
+  w2c_j2 ^= w2c_j3;
+  w2c_j1 |= w2c_j2;
+  w2c_j2 = w2c_l7;
+  w2c_j3 = w2c_p2;
+  w2c_j2 += w2c_j3;
+  w2c_j3 = 18446744073709551608ull;
+  w2c_j2 += w2c_j3;
+  w2c_i2 = (u32)(w2c_j2);
+  w2c_j2 = i64_load(memory, (u64)(w2c_i2));
+  w2c_p1 = w2c_j2;
+  w2c_j3 = 56ull;
+  w2c_j2 <<= (w2c_j3 & 63);
+  w2c_j3 = w2c_p1;
+  w2c_j4 = 65280ull;
+  w2c_j3 &= w2c_j4;
+  w2c_j4 = 40ull;
+  w2c_j3 <<= (w2c_j4 & 63);
+  w2c_j2 |= w2c_j3;
+  w2c_j3 = w2c_p1;
+  w2c_j4 = 16711680ull;
+  w2c_j3 &= w2c_j4;
+  w2c_j4 = 24ull;
+  w2c_j3 <<= (w2c_j4 & 63);
+  w2c_j4 = w2c_p1;
+  w2c_j5 = 4278190080ull;
+  w2c_j4 &= w2c_j5;
+  w2c_j5 = 8ull;
+  w2c_j4 <<= (w2c_j5 & 63);
+  w2c_j3 |= w2c_j4;
+  w2c_j2 |= w2c_j3;
+  w2c_j3 = w2c_p1;
+  w2c_j4 = 8ull;
+  w2c_j3 >>= (w2c_j4 & 63);
+  w2c_j4 = 4278190080ull;
+  w2c_j3 &= w2c_j4;
+  w2c_j4 = w2c_p1;
+  w2c_j5 = 24ull;
+  w2c_j4 >>= (w2c_j5 & 63);
+  w2c_j5 = 16711680ull;
+  w2c_j4 &= w2c_j5;
+  w2c_j3 |= w2c_j4;
+  w2c_j4 = w2c_p1;
+  w2c_j5 = 40ull;
+  w2c_j4 >>= (w2c_j5 & 63);
+  w2c_j5 = 65280ull;
+  w2c_j4 &= w2c_j5;
+  w2c_j5 = w2c_p1;
+  w2c_j6 = 56ull;
+  w2c_j5 >>= (w2c_j6 & 63);
+  w2c_j4 |= w2c_j5;
+  w2c_j3 |= w2c_j4;
+  w2c_j2 |= w2c_j3;
+  w2c_j3 = 18446744073709551615ull;
+  w2c_j4 = w2c_p4;
+  w2c_j5 = 3ull;
+  w2c_j4 <<= (w2c_j5 & 63);
+  w2c_j3 <<= (w2c_j4 & 63);
+  w2c_j4 = 18446744073709551615ull;
+  w2c_j3 ^= w2c_j4;
+  w2c_j2 &= w2c_j3;
+  w2c_j1 |= w2c_j2;
+  w2c_j2 = w2c_l7;
+  w2c_j3 = w2c_p2;
+  w2c_f3(instance, w2c_j0, w2c_j1, w2c_j2, w2c_j3);
+  w2c_j0 = w2c_l6;
+  w2c_i0 = (u32)(w2c_j0);
+  w2c_i0 = i32_load8_u(memory, (u64)(w2c_i0) + 8u);
+  w2c_i1 = 255u;
+  w2c_i0 &= w2c_i1;
+  if (w2c_i0) {goto w2c_B8;}
+  w2c_j0 = w2c_p5;
+  w2c_i0 = (u32)(w2c_j0);
+  w2c_j1 = w2c_p3;
+  i64_store(memory, (u64)(w2c_i0), w2c_j1);
+  goto w2c_B1;
+  w2c_B8:;
+  w2c_i0 = 5u;
+  w2c_l8 = w2c_i0;
+  w2c_j0 = w2c_l6;
+  w2c_i0 = (u32)(w2c_j0);
+  w2c_i0 = i32_load8_u(memory, (u64)(w2c_i0) + 9u);
+  w2c_i1 = 255u;
+  w2c_i0 &= w2c_i1;
+  if (w2c_i0) {goto w2c_B0;}
+  w2c_B7:;
+  w2c_i0 = 4u;
+  w2c_l8 = w2c_i0;
+  goto w2c_B0;
+  w2c_B3:;
+  UNREACHABLE;
+  w2c_B2:;
+  w2c_j0 = w2c_p5;
+  w2c_i0 = (u32)(w2c_j0);
+  w2c_j1 = w2c_p2;
+  i64_store(memory, (u64)(w2c_i0), w2c_j1);
+  w2c_B1:;
+  w2c_i0 = 0u;
+  w2c_l8 = w2c_i0;
+  w2c_B0:;
+  w2c_j0 = w2c_l6;
+  w2c_j1 = 16ull;
+  w2c_j0 += w2c_j1;
+  instance->w2c_g0 = w2c_j0;
+  w2c_i0 = w2c_l8;
+  return w2c_i0;
+}
+#endif
 static u32 w2c_keywrap_end_wrap(struct instance *instance, u64 w2c_p0, u64 w2c_p1, u64 w2c_p2, u64 w2c_p3, u64 w2c_p4) {
   u32 w2c_l5 = 0;
   const struct memory memory = instance->w2c_memory;
@@ -9978,13 +13054,13 @@ static u32 w2c_keywrap_end_wrap(struct instance *instance, u64 w2c_p0, u64 w2c_p
   w2c_j1 = w2c_p2;
   w2c_j2 = w2c_p3;
   w2c_j3 = w2c_p4;
-  w2c_i0 = w2c_f35(instance, w2c_j0, w2c_j1, w2c_j2, w2c_j3);
+  w2c_i0 = w2c_f69(instance, w2c_j0, w2c_j1, w2c_j2, w2c_j3);
   w2c_l5 = w2c_i0;
   w2c_f1(instance);
   w2c_i0 = w2c_l5;
   return w2c_i0;
 }
-static u32 w2c_f35(struct instance *instance, u64 w2c_p0, u64 w2c_p1, u64 w2c_p2, u64 w2c_p3) {
+static u32 w2c_f69(struct instance *instance, u64 w2c_p0, u64 w2c_p1, u64 w2c_p2, u64 w2c_p3) {
   u32 w2c_l4 = 0;
   const struct memory memory = instance->w2c_memory;
   (void)memory;
@@ -10113,13 +13189,13 @@ static u32 w2c_keywrap_kind(struct instance *instance, u64 w2c_p0, u64 w2c_p1, u
   w2c_j5 = w2c_p5;
   w2c_j6 = w2c_p6;
   w2c_j7 = w2c_p7;
-  w2c_i0 = w2c_f37(instance, w2c_j0, w2c_j1, w2c_j2, w2c_j3, w2c_j4, w2c_j5, w2c_j6, w2c_j7);
+  w2c_i0 = w2c_f71(instance, w2c_j0, w2c_j1, w2c_j2, w2c_j3, w2c_j4, w2c_j5, w2c_j6, w2c_j7);
   w2c_l8 = w2c_i0;
   w2c_f1(instance);
   w2c_i0 = w2c_l8;
   return w2c_i0;
 }
-static u32 w2c_f37(struct instance *instance, u64 w2c_p0, u64 w2c_p1, u64 w2c_p2, u64 w2c_p3, u64 w2c_p4, u64 w2c_p5, u64 w2c_p6, u64 w2c_p7) {
+static u32 w2c_f71(struct instance *instance, u64 w2c_p0, u64 w2c_p1, u64 w2c_p2, u64 w2c_p3, u64 w2c_p4, u64 w2c_p5, u64 w2c_p6, u64 w2c_p7) {
   u32 w2c_l9 = 0, w2c_l10 = 0;
   u64 w2c_l8 = 0;
   const struct memory memory = instance->w2c_memory;
@@ -10373,13 +13449,13 @@ static u32 w2c_keywrap_kind_many(struct instance *instance, u64 w2c_p0, u64 w2c_
   w2c_j9 = w2c_p9;
   w2c_j10 = w2c_p10;
   w2c_j11 = w2c_p11;
-  w2c_i0 = w2c_f39(instance, w2c_j0, w2c_j1, w2c_j2, w2c_j3, w2c_j4, w2c_j5, w2c_j6, w2c_j7, w2c_j8, w2c_j9, w2c_j10, w2c_j11);
+  w2c_i0 = w2c_f73(instance, w2c_j0, w2c_j1, w2c_j2, w2c_j3, w2c_j4, w2c_j5, w2c_j6, w2c_j7, w2c_j8, w2c_j9, w2c_j10, w2c_j11);
   w2c_l12 = w2c_i0;
   w2c_f1(instance);
   w2c_i0 = w2c_l12;
   return w2c_i0;
 }
-static u32 w2c_f39(struct instance *instance, u64 w2c_p0, u64 w2c_p1, u64 w2c_p2, u64 w2c_p3, u64 w2c_p4, u64 w2c_p5, u64 w2c_p6, u64 w2c_p7, 
+static u32 w2c_f73(struct instance *instance, u64 w2c_p0, u64 w2c_p1, u64 w2c_p2, u64 w2c_p3, u64 w2c_p4, u64 w2c_p5, u64 w2c_p6, u64 w2c_p7, 
     u64 w2c_p8, u64 w2c_p9, u64 w2c_p10, u64 w2c_p11) {
   u32 w2c_l13 = 0;
   u64 w2c_l12 = 0;
@@ -10532,6 +13608,1783 @@ static u32 w2c_f39(struct instance *instance, u64 w2c_p0, u64 w2c_p1, u64 w2c_p2
   w2c_Bfunc:;
   return w2c_i0;
 }
+#endif
+static u32 w2c_keywrap_next_rewrap(struct instance *instance, u32 w2c_p0, u64 w2c_p1, u64 w2c_p2, u64 w2c_p3, u64 w2c_p4, u64 w2c_p5) {
+  const struct memory memory = instance->w2c_memory;
+  (void)memory;
+  u32 w2c_i0;
+  u64 w2c_j1, w2c_j2, w2c_j3, w2c_j4, w2c_j5;
+  w2c_i0 = w2c_f0(instance);
+  w2c_i0 = !(w2c_i0);
+  if (w2c_i0) {goto w2c_B0;}
+  w2c_f2(instance);
+  UNREACHABLE;
+  w2c_B0:;
+  w2c_i0 = w2c_p0;
+  w2c_j1 = w2c_p1;
+  w2c_j2 = w2c_p2;
+  w2c_j3 = w2c_p3;
+  w2c_j4 = w2c_p4;
+  w2c_j5 = w2c_p5;
+  w2c_i0 = w2c_f75(instance, w2c_i0, w2c_j1, w2c_j2, w2c_j3, w2c_j4, w2c_j5);
+  w2c_p0 = w2c_i0;
+  w2c_f1(instance);
+  w2c_i0 = w2c_p0;
+  return w2c_i0;
+}
+static u32 w2c_f75(struct instance *instance, u32 w2c_p0, u64 w2c_p1, u64 w2c_p2, u64 w2c_p3, u64 w2c_p4, u64 w2c_p5) {
+  u32 w2c_l12 = 0, w2c_l13 = 0, w2c_l14 = 0, w2c_l15 = 0, w2c_l16 = 0, w2c_l17 = 0, w2c_l18 = 0, w2c_l19 = 0;
+  u64 w2c_l6 = 0, w2c_l7 = 0, w2c_l8 = 0, w2c_l9 = 0, w2c_l10 = 0, w2c_l11 = 0;
+  const struct memory memory = instance->w2c_memory;
+  (void)memory;
+  u32 w2c_i0, w2c_i1, w2c_i2, w2c_i3, w2c_i4;
+  u64 w2c_j0, w2c_j1, w2c_j2, w2c_j3, w2c_j4, w2c_j5, w2c_j6, w2c_j7;
+  w2c_j0 = instance->w2c_g0;
+  w2c_j1 = 64ull;
+  w2c_j0 -= w2c_j1;
+  w2c_l6 = w2c_j0;
+  instance->w2c_g0 = w2c_j0;
+  w2c_j0 = w2c_l6;
+  w2c_l6 = w2c_j0;
+  w2c_j1 = 16ull;
+  w2c_i0 = (u64)((s64)w2c_j0 < (s64)w2c_j1);
+  if (w2c_i0) {goto w2c_B5;}
+  w2c_i0 = 1u;
+  w2c_l12 = w2c_i0;
+  w2c_i0 = 0u;
+  w2c_l13 = w2c_i0;
+  w2c_j0 = w2c_p3;
+  w2c_i0 = (u32)(w2c_j0);
+  w2c_i0 = i32_load(memory, (u64)(w2c_i0));
+  w2c_l14 = w2c_i0;
+  w2c_i1 = 1u;
+  w2c_i0 = w2c_i0 != w2c_i1;
+  if (w2c_i0) {goto w2c_B7;}
+  w2c_i0 = 0u;
+  w2c_l15 = w2c_i0;
+  w2c_i0 = 0u;
+  w2c_l16 = w2c_i0;
+  w2c_i0 = 0u;
+  w2c_l17 = w2c_i0;
+  goto w2c_B6;
+  w2c_B7:;
+  w2c_i0 = 0u;
+  w2c_l15 = w2c_i0;
+  w2c_i0 = 0u;
+  w2c_l18 = w2c_i0;
+  w2c_i0 = 0u;
+  w2c_l16 = w2c_i0;
+  w2c_i0 = 0u;
+  w2c_l17 = w2c_i0;
+  w2c_i0 = 0u;
+  w2c_l12 = w2c_i0;
+  w2c_i0 = w2c_l14;
+  w2c_i1 = 2u;
+  w2c_i0 >>= (w2c_i1 & 31);
+  switch (w2c_i0) {
+    case 0: goto w2c_B8;
+    case 1: goto w2c_B12;
+    case 2: goto w2c_B6;
+    case 3: goto w2c_B6;
+    case 4: goto w2c_B11;
+    case 5: goto w2c_B10;
+    case 6: goto w2c_B6;
+    case 7: goto w2c_B6;
+    case 8: goto w2c_B9;
+    default: goto w2c_B6;
+  }
+  w2c_B12:;
+  w2c_i0 = 1u;
+  w2c_l18 = w2c_i0;
+  w2c_i0 = 0u;
+  w2c_l15 = w2c_i0;
+  goto w2c_B8;
+  w2c_B11:;
+  w2c_i0 = 0u;
+  w2c_l18 = w2c_i0;
+  w2c_i0 = 1u;
+  w2c_l15 = w2c_i0;
+  goto w2c_B8;
+  w2c_B10:;
+  w2c_i0 = 1u;
+  w2c_l15 = w2c_i0;
+  w2c_i0 = 1u;
+  w2c_l18 = w2c_i0;
+  goto w2c_B8;
+  w2c_B9:;
+  w2c_i0 = 1u;
+  w2c_l15 = w2c_i0;
+  w2c_i0 = 2u;
+  w2c_l18 = w2c_i0;
+  w2c_B8:;
+  w2c_i0 = w2c_l15;
+  w2c_l16 = w2c_i0;
+  w2c_i0 = w2c_l15;
+  w2c_l19 = w2c_i0;
+  w2c_i0 = 3u;
+  w2c_l17 = w2c_i0;
+  w2c_i0 = w2c_l14;
+  w2c_i1 = 3u;
+  w2c_i0 &= w2c_i1;
+  w2c_l14 = w2c_i0;
+  w2c_i1 = 2u;
+  w2c_i0 = w2c_i0 != w2c_i1;
+  if (w2c_i0) {goto w2c_B13;}
+  w2c_i0 = w2c_l18;
+  w2c_l15 = w2c_i0;
+  w2c_i0 = 1u;
+  w2c_l12 = w2c_i0;
+  goto w2c_B6;
+  w2c_B13:;
+  w2c_i0 = 0u;
+  w2c_l15 = w2c_i0;
+  w2c_i0 = 0u;
+  w2c_l16 = w2c_i0;
+  w2c_i0 = 0u;
+  w2c_l17 = w2c_i0;
+  w2c_i0 = 0u;
+  w2c_l12 = w2c_i0;
+  w2c_i0 = w2c_l19;
+  w2c_i0 = !(w2c_i0);
+  if (w2c_i0) {goto w2c_B6;}
+  w2c_i0 = 1u;
+  w2c_l12 = w2c_i0;
+  w2c_i0 = 0u;
+  w2c_l15 = w2c_i0;
+  w2c_i0 = w2c_l18;
+  w2c_l16 = w2c_i0;
+  w2c_i0 = 1u;
+  w2c_l17 = w2c_i0;
+  w2c_i0 = w2c_l14;
+  switch (w2c_i0) {
+    case 0: goto w2c_B6;
+    case 1: goto w2c_B14;
+    case 2: goto w2c_B14;
+    case 3: goto w2c_B15;
+    default: goto w2c_B14;
+  }
+  w2c_B15:;
+  w2c_i0 = 2u;
+  w2c_l17 = w2c_i0;
+  w2c_i0 = w2c_l18;
+  w2c_l16 = w2c_i0;
+  goto w2c_B6;
+  w2c_B14:;
+  w2c_i0 = 0u;
+  w2c_l15 = w2c_i0;
+  w2c_i0 = 0u;
+  w2c_l16 = w2c_i0;
+  w2c_i0 = 0u;
+  w2c_l17 = w2c_i0;
+  w2c_i0 = 0u;
+  w2c_l12 = w2c_i0;
+  w2c_B6:;
+  w2c_j0 = w2c_p3;
+  w2c_i0 = (u32)(w2c_j0);
+  w2c_i1 = 0u;
+  i32_store(memory, (u64)(w2c_i0), w2c_i1);
+  w2c_j0 = 12008468691120727718ull;
+  w2c_l7 = w2c_j0;
+  w2c_j0 = 0ull;
+  w2c_l8 = w2c_j0;
+  w2c_j0 = 1ull;
+  w2c_l9 = w2c_j0;
+  w2c_i0 = 4u;
+  w2c_l14 = w2c_i0;
+  w2c_i0 = 0u;
+  w2c_l18 = w2c_i0;
+  w2c_j0 = 12008468691120727718ull;
+  w2c_l10 = w2c_j0;
+  w2c_j0 = 0ull;
+  w2c_l11 = w2c_j0;
+  w2c_i0 = w2c_p0;
+  switch (w2c_i0) {
+    case 0: goto w2c_B16;
+    case 1: goto w2c_B21;
+    case 2: goto w2c_B20;
+    case 3: goto w2c_B19;
+    case 4: goto w2c_B18;
+    case 5: goto w2c_B0;
+    case 6: goto w2c_B0;
+    case 7: goto w2c_B0;
+    case 8: goto w2c_B16;
+    case 9: goto w2c_B21;
+    case 10: goto w2c_B20;
+    case 11: goto w2c_B19;
+    case 12: goto w2c_B18;
+    default: goto w2c_B0;
+  }
+  w2c_B21:;
+  w2c_j0 = 0ull;
+  w2c_l10 = w2c_j0;
+  w2c_j0 = 1ull;
+  w2c_l9 = w2c_j0;
+  w2c_i0 = 0u;
+  w2c_l18 = w2c_i0;
+  w2c_j0 = 1ull;
+  w2c_l8 = w2c_j0;
+  w2c_j0 = 0ull;
+  w2c_l11 = w2c_j0;
+  goto w2c_B16;
+  w2c_B20:;
+  w2c_i0 = 1u;
+  w2c_l13 = w2c_i0;
+  w2c_j0 = 0ull;
+  w2c_l8 = w2c_j0;
+  w2c_j0 = 1ull;
+  w2c_l9 = w2c_j0;
+  w2c_i0 = 0u;
+  w2c_l18 = w2c_i0;
+  w2c_j0 = 12008468691120727718ull;
+  w2c_l10 = w2c_j0;
+  w2c_j0 = 1ull;
+  w2c_l11 = w2c_j0;
+  goto w2c_B17;
+  w2c_B19:;
+  w2c_i0 = 1u;
+  w2c_l13 = w2c_i0;
+  w2c_j0 = 0ull;
+  w2c_l10 = w2c_j0;
+  w2c_j0 = 1ull;
+  w2c_l9 = w2c_j0;
+  w2c_i0 = 0u;
+  w2c_l18 = w2c_i0;
+  w2c_j0 = 1ull;
+  w2c_l8 = w2c_j0;
+  w2c_j0 = 1ull;
+  w2c_l11 = w2c_j0;
+  goto w2c_B17;
+  w2c_B18:;
+  w2c_j0 = 0ull;
+  w2c_l9 = w2c_j0;
+  w2c_i0 = 1u;
+  w2c_l18 = w2c_i0;
+  w2c_j0 = 0ull;
+  w2c_l8 = w2c_j0;
+  w2c_j0 = 0ull;
+  w2c_l10 = w2c_j0;
+  w2c_j0 = 0ull;
+  w2c_l11 = w2c_j0;
+  w2c_B17:;
+  w2c_j0 = 0ull;
+  w2c_l7 = w2c_j0;
+  w2c_B16:;
+  w2c_j0 = w2c_l6;
+  w2c_i0 = (u32)(w2c_j0);
+  w2c_i1 = 0u;
+  i32_store(memory, (u64)(w2c_i0) + 49, w2c_i1);
+  w2c_j0 = w2c_l6;
+  w2c_i0 = (u32)(w2c_j0);
+  w2c_j1 = w2c_l7;
+  i64_store(memory, (u64)(w2c_i0) + 40, w2c_j1);
+  w2c_j0 = w2c_l6;
+  w2c_i0 = (u32)(w2c_j0);
+  w2c_j1 = w2c_l11;
+  i64_store(memory, (u64)(w2c_i0) + 32, w2c_j1);
+  w2c_j0 = w2c_l6;
+  w2c_i0 = (u32)(w2c_j0);
+  w2c_j1 = w2c_l10;
+  i64_store(memory, (u64)(w2c_i0) + 24, w2c_j1);
+  w2c_j0 = w2c_l6;
+  w2c_i0 = (u32)(w2c_j0);
+  w2c_j1 = w2c_l8;
+  i64_store(memory, (u64)(w2c_i0) + 16, w2c_j1);
+  w2c_j0 = w2c_l6;
+  w2c_i0 = (u32)(w2c_j0);
+  w2c_j1 = w2c_l9;
+  i64_store(memory, (u64)(w2c_i0) + 8, w2c_j1);
+  w2c_j0 = w2c_l6;
+  w2c_i0 = (u32)(w2c_j0);
+  w2c_i1 = 0u;
+  i32_store(memory, (u64)(w2c_i0) + 52, w2c_i1);
+  w2c_j0 = w2c_l6;
+  w2c_i0 = (u32)(w2c_j0);
+  w2c_i1 = w2c_p0;
+  w2c_i2 = 7u;
+  w2c_i1 = w2c_i1 > w2c_i2;
+  i32_store8(memory, (u64)(w2c_i0) + 48, w2c_i1);
+  w2c_i0 = w2c_l12;
+  w2c_i0 = !(w2c_i0);
+  if (w2c_i0) {goto w2c_B0;}
+  w2c_j0 = w2c_l6;
+  w2c_i0 = (u32)(w2c_j0);
+  w2c_i1 = 0u;
+  i32_store8(memory, (u64)(w2c_i0) + 62, w2c_i1);
+  w2c_j0 = w2c_l6;
+  w2c_i0 = (u32)(w2c_j0);
+  w2c_i1 = 0u;
+  i32_store16(memory, (u64)(w2c_i0) + 60, w2c_i1);
+  w2c_j0 = w2c_p2;
+  w2c_j1 = 7ull;
+  w2c_j0 &= w2c_j1;
+  w2c_j1 = 0ull;
+  w2c_i0 = w2c_j0 != w2c_j1;
+  if (w2c_i0) {goto w2c_B0;}
+  w2c_j0 = w2c_p2;
+  w2c_j1 = 18446744073709551600ull;
+  w2c_j0 += w2c_j1;
+  w2c_j1 = 1048568ull;
+  w2c_i0 = w2c_j0 > w2c_j1;
+  if (w2c_i0) {goto w2c_B0;}
+  w2c_j0 = w2c_p4;
+  w2c_i0 = (u32)(w2c_j0);
+  w2c_j0 = i64_load(memory, (u64)(w2c_i0));
+  w2c_l9 = w2c_j0;
+  w2c_j0 = 0ull;
+  w2c_l8 = w2c_j0;
+  w2c_i0 = w2c_l17;
+  switch (w2c_i0) {
+    case 0: goto w2c_B22;
+    case 1: goto w2c_B24;
+    case 2: goto w2c_B22;
+    case 3: goto w2c_B23;
+    default: goto w2c_B22;
+  }
+  w2c_B24:;
+  w2c_j0 = 1ull;
+  w2c_j1 = w2c_p2;
+  w2c_j2 = 18446744073709551608ull;
+  w2c_j1 += w2c_j2;
+  w2c_l8 = w2c_j1;
+  w2c_j2 = 3ull;
+  w2c_j1 >>= (w2c_j2 & 63);
+  w2c_j2 = 6ull;
+  w2c_j1 *= w2c_j2;
+  w2c_j2 = w2c_l8;
+  w2c_j3 = 8ull;
+  w2c_i2 = w2c_j2 == w2c_j3;
+  w2c_j0 = w2c_i2 ? w2c_j0 : w2c_j1;
+  w2c_l8 = w2c_j0;
+  goto w2c_B22;
+  w2c_B23:;
+  w2c_j0 = 1ull;
+  w2c_j1 = w2c_p2;
+  w2c_j2 = 18446744073709551608ull;
+  w2c_j1 += w2c_j2;
+  w2c_l8 = w2c_j1;
+  w2c_j2 = 3ull;
+  w2c_j1 >>= (w2c_j2 & 63);
+  w2c_j2 = 6ull;
+  w2c_j1 *= w2c_j2;
+  w2c_j2 = w2c_l8;
+  w2c_j3 = 8ull;
+  w2c_i2 = w2c_j2 == w2c_j3;
+  w2c_j0 = w2c_i2 ? w2c_j0 : w2c_j1;
+  w2c_l8 = w2c_j0;
+  w2c_B22:;
+  w2c_j0 = w2c_l9;
+  w2c_j1 = w2c_l8;
+  w2c_i0 = w2c_j0 != w2c_j1;
+  if (w2c_i0) {goto w2c_B0;}
+  w2c_j0 = w2c_p1;
+  w2c_j1 = 4096ull;
+  w2c_j2 = 0ull;
+  w2c_j3 = w2c_p1;
+  w2c_i3 = !(w2c_j3);
+  w2c_j1 = w2c_i3 ? w2c_j1 : w2c_j2;
+  w2c_j0 += w2c_j1;
+  w2c_l8 = w2c_j0;
+  w2c_i0 = w2c_l17;
+  switch (w2c_i0) {
+    case 0: goto w2c_B31;
+    case 1: goto w2c_B33;
+    case 2: goto w2c_B30;
+    case 3: goto w2c_B32;
+    default: goto w2c_B31;
+  }
+  w2c_B33:;
+  w2c_j0 = w2c_l8;
+  w2c_j1 = w2c_p5;
+  w2c_j0 -= w2c_j1;
+  w2c_j1 = 7ull;
+  w2c_i0 = w2c_j0 > w2c_j1;
+  if (w2c_i0) {goto w2c_B35;}
+  w2c_j0 = w2c_l8;
+  w2c_i0 = (u32)(w2c_j0);
+  w2c_j1 = w2c_p5;
+  w2c_i1 = (u32)(w2c_j1);
+  w2c_i1 = i32_load8_u(memory, (u64)(w2c_i1));
+  i32_store8(memory, (u64)(w2c_i0), w2c_i1);
+  w2c_j0 = w2c_l8;
+  w2c_i0 = (u32)(w2c_j0);
+  w2c_j1 = w2c_p5;
+  w2c_i1 = (u32)(w2c_j1);
+  w2c_i1 = i32_load8_u(memory, (u64)(w2c_i1) + 1u);
+  i32_store8(memory, (u64)(w2c_i0) + 1, w2c_i1);
+  w2c_j0 = w2c_l8;
+  w2c_i0 = (u32)(w2c_j0);
+  w2c_j1 = w2c_p5;
+  w2c_i1 = (u32)(w2c_j1);
+  w2c_i1 = i32_load8_u(memory, (u64)(w2c_i1) + 2u);
+  i32_store8(memory, (u64)(w2c_i0) + 2, w2c_i1);
+  w2c_j0 = w2c_l8;
+  w2c_i0 = (u32)(w2c_j0);
+  w2c_j1 = w2c_p5;
+  w2c_i1 = (u32)(w2c_j1);
+  w2c_i1 = i32_load8_u(memory, (u64)(w2c_i1) + 3u);
+  i32_store8(memory, (u64)(w2c_i0) + 3, w2c_i1);
+  w2c_j0 = w2c_l8;
+  w2c_i0 = (u32)(w2c_j0);
+  w2c_j1 = w2c_p5;
+  w2c_i1 = (u32)(w2c_j1);
+  w2c_i1 = i32_load8_u(memory, (u64)(w2c_i1) + 4u);
+  i32_store8(memory, (u64)(w2c_i0) + 4, w2c_i1);
+  w2c_j0 = w2c_l8;
+  w2c_i0 = (u32)(w2c_j0);
+  w2c_j1 = w2c_p5;
+  w2c_i1 = (u32)(w2c_j1);
+  w2c_i1 = i32_load8_u(memory, (u64)(w2c_i1) + 5u);
+  i32_store8(memory, (u64)(w2c_i0) + 5, w2c_i1);
+  w2c_j0 = w2c_l8;
+  w2c_i0 = (u32)(w2c_j0);
+  w2c_j1 = w2c_p5;
+  w2c_i1 = (u32)(w2c_j1);
+  w2c_i1 = i32_load8_u(memory, (u64)(w2c_i1) + 6u);
+  i32_store8(memory, (u64)(w2c_i0) + 6, w2c_i1);
+  w2c_j0 = w2c_l8;
+  w2c_i0 = (u32)(w2c_j0);
+  w2c_j1 = w2c_p5;
+  w2c_i1 = (u32)(w2c_j1);
+  w2c_i1 = i32_load8_u(memory, (u64)(w2c_i1) + 7u);
+  i32_store8(memory, (u64)(w2c_i0) + 7, w2c_i1);
+  goto w2c_B34;
+  w2c_B35:;
+  w2c_j0 = w2c_l8;
+  w2c_i0 = (u32)(w2c_j0);
+  w2c_j1 = w2c_p5;
+  w2c_i1 = (u32)(w2c_j1);
+  w2c_j1 = i64_load(memory, (u64)(w2c_i1));
+  i64_store(memory, (u64)(w2c_i0), w2c_j1);
+  w2c_B34:;
+  w2c_i0 = w2c_p0;
+  w2c_i1 = 8u;
+  w2c_i0 = w2c_i0 < w2c_i1;
+  if (w2c_i0) {goto w2c_B4;}
+  w2c_i0 = w2c_l16;
+  w2c_i1 = 2u;
+  w2c_i0 = w2c_i0 == w2c_i1;
+  if (w2c_i0) {goto w2c_B4;}
+  w2c_i0 = w2c_l18;
+  if (w2c_i0) {goto w2c_B36;}
+  w2c_i0 = w2c_l13;
+  w2c_j1 = w2c_p2;
+  w2c_j2 = 18446744073709551592ull;
+  w2c_j1 += w2c_j2;
+  w2c_j2 = 1048561ull;
+  w2c_i1 = w2c_j1 < w2c_j2;
+  w2c_i0 |= w2c_i1;
+  w2c_i1 = 1u;
+  w2c_i0 = w2c_i0 != w2c_i1;
+  if (w2c_i0) {goto w2c_B4;}
+  w2c_B36:;
+  w2c_j0 = w2c_p4;
+  w2c_i0 = (u32)(w2c_j0);
+  w2c_j1 = 1ull;
+  w2c_j2 = w2c_p2;
+  w2c_j3 = 18446744073709551608ull;
+  w2c_j2 += w2c_j3;
+  w2c_l10 = w2c_j2;
+  w2c_j3 = 3ull;
+  w2c_j2 >>= (w2c_j3 & 63);
+  w2c_j3 = 6ull;
+  w2c_j2 *= w2c_j3;
+  w2c_l9 = w2c_j2;
+  w2c_j3 = w2c_l10;
+  w2c_j4 = 8ull;
+  w2c_i3 = w2c_j3 == w2c_j4;
+  w2c_l12 = w2c_i3;
+  w2c_j1 = w2c_i3 ? w2c_j1 : w2c_j2;
+  i64_store(memory, (u64)(w2c_i0), w2c_j1);
+  w2c_j0 = w2c_l8;
+  w2c_i0 = (u32)(w2c_j0);
+  w2c_j0 = i64_load(memory, (u64)(w2c_i0));
+  w2c_l11 = w2c_j0;
+  w2c_j0 = w2c_p5;
+  w2c_i0 = (u32)(w2c_j0);
+  w2c_j1 = w2c_l10;
+  w2c_j2 = w2c_l8;
+  w2c_j1 += w2c_j2;
+  w2c_i1 = (u32)(w2c_j1);
+  w2c_j1 = i64_load(memory, (u64)(w2c_i1));
+  i64_store(memory, (u64)(w2c_i0) + 8, w2c_j1);
+  w2c_j0 = w2c_p5;
+  w2c_i0 = (u32)(w2c_j0);
+  w2c_j1 = w2c_l11;
+  w2c_j2 = 0ull;
+  w2c_j3 = w2c_l9;
+  w2c_j4 = 56ull;
+  w2c_j3 <<= (w2c_j4 & 63);
+  w2c_j4 = w2c_l9;
+  w2c_j5 = 65280ull;
+  w2c_j4 &= w2c_j5;
+  w2c_j5 = 40ull;
+  w2c_j4 <<= (w2c_j5 & 63);
+  w2c_j3 |= w2c_j4;
+  w2c_j4 = w2c_l9;
+  w2c_j5 = 16711680ull;
+  w2c_j4 &= w2c_j5;
+  w2c_j5 = 24ull;
+  w2c_j4 <<= (w2c_j5 & 63);
+  w2c_j5 = w2c_l9;
+  w2c_j6 = 4278190080ull;
+  w2c_j5 &= w2c_j6;
+  w2c_j6 = 8ull;
+  w2c_j5 <<= (w2c_j6 & 63);
+  w2c_j4 |= w2c_j5;
+  w2c_j3 |= w2c_j4;
+  w2c_j4 = w2c_l9;
+  w2c_j5 = 8ull;
+  w2c_j4 >>= (w2c_j5 & 63);
+  w2c_j5 = 4278190080ull;
+  w2c_j4 &= w2c_j5;
+  w2c_j5 = w2c_l9;
+  w2c_j6 = 24ull;
+  w2c_j5 >>= (w2c_j6 & 63);
+  w2c_j6 = 16711680ull;
+  w2c_j5 &= w2c_j6;
+  w2c_j4 |= w2c_j5;
+  w2c_j5 = w2c_l9;
+  w2c_j6 = 40ull;
+  w2c_j5 >>= (w2c_j6 & 63);
+  w2c_j6 = 65280ull;
+  w2c_j5 &= w2c_j6;
+  w2c_j6 = w2c_l9;
+  w2c_j7 = 56ull;
+  w2c_j6 >>= (w2c_j7 & 63);
+  w2c_j5 |= w2c_j6;
+  w2c_j4 |= w2c_j5;
+  w2c_j3 |= w2c_j4;
+  w2c_i4 = w2c_l12;
+  w2c_j2 = w2c_i4 ? w2c_j2 : w2c_j3;
+  w2c_j1 ^= w2c_j2;
+  i64_store(memory, (u64)(w2c_i0), w2c_j1);
+  goto w2c_B2;
+  w2c_B32:;
+  w2c_j0 = w2c_l8;
+  w2c_j1 = w2c_p5;
+  w2c_j0 -= w2c_j1;
+  w2c_j1 = 7ull;
+  w2c_i0 = w2c_j0 > w2c_j1;
+  if (w2c_i0) {goto w2c_B26;}
+  w2c_j0 = w2c_l8;
+  w2c_i0 = (u32)(w2c_j0);
+  w2c_j1 = w2c_p5;
+  w2c_i1 = (u32)(w2c_j1);
+  w2c_i1 = i32_load8_u(memory, (u64)(w2c_i1));
+  i32_store8(memory, (u64)(w2c_i0), w2c_i1);
+  w2c_j0 = w2c_l8;
+  w2c_i0 = (u32)(w2c_j0);
+  w2c_j1 = w2c_p5;
+  w2c_i1 = (u32)(w2c_j1);
+  w2c_i1 = i32_load8_u(memory, (u64)(w2c_i1) + 1u);
+  i32_store8(memory, (u64)(w2c_i0) + 1, w2c_i1);
+  w2c_j0 = w2c_l8;
+  w2c_i0 = (u32)(w2c_j0);
+  w2c_j1 = w2c_p5;
+  w2c_i1 = (u32)(w2c_j1);
+  w2c_i1 = i32_load8_u(memory, (u64)(w2c_i1) + 2u);
+  i32_store8(memory, (u64)(w2c_i0) + 2, w2c_i1);
+  w2c_j0 = w2c_l8;
+  w2c_i0 = (u32)(w2c_j0);
+  w2c_j1 = w2c_p5;
+  w2c_i1 = (u32)(w2c_j1);
+  w2c_i1 = i32_load8_u(memory, (u64)(w2c_i1) + 3u);
+  i32_store8(memory, (u64)(w2c_i0) + 3, w2c_i1);
+  w2c_j0 = w2c_l8;
+  w2c_i0 = (u32)(w2c_j0);
+  w2c_j1 = w2c_p5;
+  w2c_i1 = (u32)(w2c_j1);
+  w2c_i1 = i32_load8_u(memory, (u64)(w2c_i1) + 4u);
+  i32_store8(memory, (u64)(w2c_i0) + 4, w2c_i1);
+  w2c_j0 = w2c_l8;
+  w2c_i0 = (u32)(w2c_j0);
+  w2c_j1 = w2c_p5;
+  w2c_i1 = (u32)(w2c_j1);
+  w2c_i1 = i32_load8_u(memory, (u64)(w2c_i1) + 5u);
+  i32_store8(memory, (u64)(w2c_i0) + 5, w2c_i1);
+  w2c_j0 = w2c_l8;
+  w2c_i0 = (u32)(w2c_j0);
+  w2c_j1 = w2c_p5;
+  w2c_i1 = (u32)(w2c_j1);
+  w2c_i1 = i32_load8_u(memory, (u64)(w2c_i1) + 6u);
+  i32_store8(memory, (u64)(w2c_i0) + 6, w2c_i1);
+  w2c_j0 = w2c_l8;
+  w2c_i0 = (u32)(w2c_j0);
+  w2c_j1 = w2c_p5;
+  w2c_i1 = (u32)(w2c_j1);
+  w2c_i1 = i32_load8_u(memory, (u64)(w2c_i1) + 7u);
+  i32_store8(memory, (u64)(w2c_i0) + 7, w2c_i1);
+  goto w2c_B25;
+  w2c_B31:;
+  w2c_j0 = w2c_l6;
+  w2c_j1 = 60ull;
+  w2c_j0 += w2c_j1;
+  w2c_j1 = w2c_l6;
+  w2c_j2 = 8ull;
+  w2c_j1 += w2c_j2;
+  w2c_j2 = w2c_l8;
+  w2c_j3 = w2c_p2;
+  w2c_j4 = w2c_p5;
+  w2c_f8(instance, w2c_j0, w2c_j1, w2c_j2, w2c_j3, w2c_j4);
+  w2c_j0 = w2c_l6;
+  w2c_i0 = (u32)(w2c_j0);
+  w2c_i0 = i32_load8_u(memory, (u64)(w2c_i0) + 61u);
+  w2c_l16 = w2c_i0;
+  w2c_j0 = w2c_l6;
+  w2c_i0 = (u32)(w2c_j0);
+  w2c_i0 = i32_load8_u(memory, (u64)(w2c_i0) + 62u);
+  w2c_p0 = w2c_i0;
+  w2c_i0 = 1u;
+  w2c_l12 = w2c_i0;
+  w2c_j0 = w2c_l6;
+  w2c_i0 = (u32)(w2c_j0);
+  w2c_j0 = i64_load8_u(memory, (u64)(w2c_i0) + 60u);
+  w2c_i0 = (u32)(w2c_j0);
+  switch (w2c_i0) {
+    case 0: goto w2c_B1;
+    case 1: goto w2c_B28;
+    case 2: goto w2c_B2;
+    case 3: goto w2c_B29;
+    default: goto w2c_B1;
+  }
+  w2c_B30:;
+  w2c_j0 = w2c_l6;
+  w2c_j1 = w2c_l6;
+  w2c_j2 = 8ull;
+  w2c_j1 += w2c_j2;
+  w2c_i2 = w2c_l16;
+  w2c_j3 = w2c_l8;
+  w2c_j4 = w2c_p2;
+  w2c_j5 = w2c_p5;
+  w2c_f9(instance, w2c_j0, w2c_j1, w2c_i2, w2c_j3, w2c_j4, w2c_j5);
+  w2c_j0 = w2c_l6;
+  w2c_i0 = (u32)(w2c_j0);
+  w2c_i0 = i32_load8_u(memory, (u64)(w2c_i0) + 1u);
+  w2c_p0 = w2c_i0;
+  w2c_j0 = w2c_l6;
+  w2c_i0 = (u32)(w2c_j0);
+  w2c_i0 = i32_load8_u(memory, (u64)(w2c_i0));
+  w2c_l16 = w2c_i0;
+  w2c_B29:;
+  w2c_i0 = w2c_l16;
+  w2c_i1 = 255u;
+  w2c_i0 &= w2c_i1;
+  if (w2c_i0) {goto w2c_B27;}
+  w2c_i0 = 6u;
+  w2c_i1 = 2u;
+  w2c_i2 = w2c_p0;
+  w2c_i3 = 255u;
+  w2c_i2 &= w2c_i3;
+  w2c_i0 = w2c_i2 ? w2c_i0 : w2c_i1;
+  w2c_l12 = w2c_i0;
+  goto w2c_B1;
+  w2c_B28:;
+  w2c_i0 = w2c_l16;
+  w2c_j0 = (u64)(w2c_i0);
+  w2c_j1 = 255ull;
+  w2c_j0 &= w2c_j1;
+  w2c_j1 = 2ull;
+  w2c_j0 <<= (w2c_j1 & 63);
+  w2c_i0 = (u32)(w2c_j0);
+  w2c_i0 = constant_i32_load((u64)(w2c_i0) + 68780u);
+  w2c_l12 = w2c_i0;
+  goto w2c_B1;
+  w2c_B27:;
+  w2c_i0 = w2c_p0;
+  w2c_j0 = (u64)(w2c_i0);
+  w2c_j1 = 255ull;
+  w2c_j0 &= w2c_j1;
+  w2c_j1 = 2ull;
+  w2c_j0 <<= (w2c_j1 & 63);
+  w2c_i0 = (u32)(w2c_j0);
+  w2c_i0 = constant_i32_load((u64)(w2c_i0) + 68804u);
+  w2c_l12 = w2c_i0;
+  goto w2c_B1;
+  w2c_B26:;
+  w2c_j0 = w2c_l8;
+  w2c_i0 = (u32)(w2c_j0);
+  w2c_j1 = w2c_p5;
+  w2c_i1 = (u32)(w2c_j1);
+  w2c_j1 = i64_load(memory, (u64)(w2c_i1));
+  i64_store(memory, (u64)(w2c_i0), w2c_j1);
+  w2c_B25:;
+  w2c_j0 = w2c_p3;
+  w2c_i0 = (u32)(w2c_j0);
+  w2c_i1 = 0u;
+  i32_store(memory, (u64)(w2c_i0), w2c_i1);
+  w2c_i0 = w2c_l16;
+  w2c_i0 = !(w2c_i0);
+  if (w2c_i0) {goto w2c_B37;}
+  w2c_i0 = w2c_l15;
+  w2c_l16 = w2c_i0;
+  goto w2c_B3;
+  w2c_B37:;
+  w2c_i0 = w2c_l15;
+  w2c_i1 = 0u;
+  w2c_i0 = w2c_i0 != w2c_i1;
+  w2c_l14 = w2c_i0;
+  goto w2c_B0;
+  w2c_B5:;
+  UNREACHABLE;
+  w2c_B4:;
+  w2c_j0 = w2c_p3;
+  w2c_i0 = (u32)(w2c_j0);
+  w2c_i1 = 0u;
+  i32_store(memory, (u64)(w2c_i0), w2c_i1);
+  w2c_B3:;
+  w2c_i0 = w2c_l16;
+  w2c_j0 = (u64)(w2c_i0);
+  w2c_j1 = 2ull;
+  w2c_j0 <<= (w2c_j1 & 63);
+  w2c_i0 = (u32)(w2c_j0);
+  w2c_i0 = constant_i32_load((u64)(w2c_i0) + 68816u);
+  w2c_l14 = w2c_i0;
+  goto w2c_B0;
+  w2c_B2:;
+  w2c_i0 = w2c_l16;
+  w2c_j0 = (u64)(w2c_i0);
+  w2c_j1 = 255ull;
+  w2c_j0 &= w2c_j1;
+  w2c_j1 = 2ull;
+  w2c_j0 <<= (w2c_j1 & 63);
+  w2c_i0 = (u32)(w2c_j0);
+  w2c_i0 = constant_i32_load((u64)(w2c_i0) + 68792u);
+  w2c_l12 = w2c_i0;
+  w2c_B1:;
+  w2c_j0 = w2c_p3;
+  w2c_i0 = (u32)(w2c_j0);
+  w2c_i1 = w2c_l12;
+  i32_store(memory, (u64)(w2c_i0), w2c_i1);
+  w2c_i0 = 0u;
+  w2c_l14 = w2c_i0;
+  w2c_B0:;
+  w2c_j0 = w2c_l6;
+  w2c_j1 = 64ull;
+  w2c_j0 += w2c_j1;
+  instance->w2c_g0 = w2c_j0;
+  w2c_i0 = w2c_l14;
+  return w2c_i0;
+}
+static u32 w2c_keywrap_next_rewrap_from(struct instance *instance, u32 w2c_p0, u64 w2c_p1, u64 w2c_p2, u64 w2c_p3, u64 w2c_p4, u64 w2c_p5, u64 w2c_p6, u64 w2c_p7) {
+  const struct memory memory = instance->w2c_memory;
+  (void)memory;
+  u32 w2c_i0;
+  u64 w2c_j1, w2c_j2, w2c_j3, w2c_j4, w2c_j5, w2c_j6, w2c_j7;
+  w2c_i0 = w2c_f0(instance);
+  w2c_i0 = !(w2c_i0);
+  if (w2c_i0) {goto w2c_B0;}
+  w2c_f2(instance);
+  UNREACHABLE;
+  w2c_B0:;
+  w2c_i0 = w2c_p0;
+  w2c_j1 = w2c_p1;
+  w2c_j2 = w2c_p2;
+  w2c_j3 = w2c_p3;
+  w2c_j4 = w2c_p4;
+  w2c_j5 = w2c_p5;
+  w2c_j6 = w2c_p6;
+  w2c_j7 = w2c_p7;
+  w2c_i0 = w2c_f77(instance, w2c_i0, w2c_j1, w2c_j2, w2c_j3, w2c_j4, w2c_j5, w2c_j6, w2c_j7);
+  w2c_p0 = w2c_i0;
+  w2c_f1(instance);
+  w2c_i0 = w2c_p0;
+  return w2c_i0;
+}
+static u32 w2c_f77(struct instance *instance, u32 w2c_p0, u64 w2c_p1, u64 w2c_p2, u64 w2c_p3, u64 w2c_p4, u64 w2c_p5, u64 w2c_p6, u64 w2c_p7) {
+  u32 w2c_l14 = 0, w2c_l15 = 0, w2c_l16 = 0, w2c_l17 = 0, w2c_l18 = 0, w2c_l19 = 0, w2c_l20 = 0, w2c_l21 = 0;
+  u64 w2c_l8 = 0, w2c_l9 = 0, w2c_l10 = 0, w2c_l11 = 0, w2c_l12 = 0, w2c_l13 = 0;
+  const struct memory memory = instance->w2c_memory;
+  (void)memory;
+  u32 w2c_i0, w2c_i1, w2c_i2, w2c_i3, w2c_i4;
+  u64 w2c_j0, w2c_j1, w2c_j2, w2c_j3, w2c_j4, w2c_j5, w2c_j6, w2c_j7;
+  w2c_j0 = instance->w2c_g0;
+  w2c_j1 = 64ull;
+  w2c_j0 -= w2c_j1;
+  w2c_l8 = w2c_j0;
+  instance->w2c_g0 = w2c_j0;
+  w2c_j0 = w2c_l8;
+  w2c_l8 = w2c_j0;
+  w2c_j1 = 16ull;
+  w2c_i0 = (u64)((s64)w2c_j0 < (s64)w2c_j1);
+  if (w2c_i0) {goto w2c_B5;}
+  w2c_i0 = 1u;
+  w2c_l14 = w2c_i0;
+  w2c_i0 = 0u;
+  w2c_l15 = w2c_i0;
+  w2c_j0 = w2c_p5;
+  w2c_i0 = (u32)(w2c_j0);
+  w2c_i0 = i32_load(memory, (u64)(w2c_i0));
+  w2c_l16 = w2c_i0;
+  w2c_i1 = 1u;
+  w2c_i0 = w2c_i0 != w2c_i1;
+  if (w2c_i0) {goto w2c_B7;}
+  w2c_i0 = 0u;
+  w2c_l17 = w2c_i0;
+  w2c_i0 = 0u;
+  w2c_l18 = w2c_i0;
+  w2c_i0 = 0u;
+  w2c_l19 = w2c_i0;
+  goto w2c_B6;
+  w2c_B7:;
+  w2c_i0 = 0u;
+  w2c_l17 = w2c_i0;
+  w2c_i0 = 0u;
+  w2c_l20 = w2c_i0;
+  w2c_i0 = 0u;
+  w2c_l18 = w2c_i0;
+  w2c_i0 = 0u;
+  w2c_l19 = w2c_i0;
+  w2c_i0 = 0u;
+  w2c_l14 = w2c_i0;
+  w2c_i0 = w2c_l16;
+  w2c_i1 = 2u;
+  w2c_i0 >>= (w2c_i1 & 31);
+  switch (w2c_i0) {
+    case 0: goto w2c_B8;
+    case 1: goto w2c_B12;
+    case 2: goto w2c_B6;
+    case 3: goto w2c_B6;
+    case 4: goto w2c_B11;
+    case 5: goto w2c_B10;
+    case 6: goto w2c_B6;
+    case 7: goto w2c_B6;
+    case 8: goto w2c_B9;
+    default: goto w2c_B6;
+  }
+  w2c_B12:;
+  w2c_i0 = 1u;
+  w2c_l20 = w2c_i0;
+  w2c_i0 = 0u;
+  w2c_l17 = w2c_i0;
+  goto w2c_B8;
+  w2c_B11:;
+  w2c_i0 = 0u;
+  w2c_l20 = w2c_i0;
+  w2c_i0 = 1u;
+  w2c_l17 = w2c_i0;
+  goto w2c_B8;
+  w2c_B10:;
+  w2c_i0 = 1u;
+  w2c_l17 = w2c_i0;
+  w2c_i0 = 1u;
+  w2c_l20 = w2c_i0;
+  goto w2c_B8;
+  w2c_B9:;
+  w2c_i0 = 1u;
+  w2c_l17 = w2c_i0;
+  w2c_i0 = 2u;
+  w2c_l20 = w2c_i0;
+  w2c_B8:;
+  w2c_i0 = w2c_l17;
+  w2c_l18 = w2c_i0;
+  w2c_i0 = w2c_l17;
+  w2c_l21 = w2c_i0;
+  w2c_i0 = 3u;
+  w2c_l19 = w2c_i0;
+  w2c_i0 = w2c_l16;
+  w2c_i1 = 3u;
+  w2c_i0 &= w2c_i1;
+  w2c_l16 = w2c_i0;
+  w2c_i1 = 2u;
+  w2c_i0 = w2c_i0 != w2c_i1;
+  if (w2c_i0) {goto w2c_B13;}
+  w2c_i0 = w2c_l20;
+  w2c_l17 = w2c_i0;
+  w2c_i0 = 1u;
+  w2c_l14 = w2c_i0;
+  goto w2c_B6;
+  w2c_B13:;
+  w2c_i0 = 0u;
+  w2c_l17 = w2c_i0;
+  w2c_i0 = 0u;
+  w2c_l18 = w2c_i0;
+  w2c_i0 = 0u;
+  w2c_l19 = w2c_i0;
+  w2c_i0 = 0u;
+  w2c_l14 = w2c_i0;
+  w2c_i0 = w2c_l21;
+  w2c_i0 = !(w2c_i0);
+  if (w2c_i0) {goto w2c_B6;}
+  w2c_i0 = 1u;
+  w2c_l14 = w2c_i0;
+  w2c_i0 = 0u;
+  w2c_l17 = w2c_i0;
+  w2c_i0 = w2c_l20;
+  w2c_l18 = w2c_i0;
+  w2c_i0 = 1u;
+  w2c_l19 = w2c_i0;
+  w2c_i0 = w2c_l16;
+  switch (w2c_i0) {
+    case 0: goto w2c_B6;
+    case 1: goto w2c_B14;
+    case 2: goto w2c_B14;
+    case 3: goto w2c_B15;
+    default: goto w2c_B14;
+  }
+  w2c_B15:;
+  w2c_i0 = 2u;
+  w2c_l19 = w2c_i0;
+  w2c_i0 = w2c_l20;
+  w2c_l18 = w2c_i0;
+  goto w2c_B6;
+  w2c_B14:;
+  w2c_i0 = 0u;
+  w2c_l17 = w2c_i0;
+  w2c_i0 = 0u;
+  w2c_l18 = w2c_i0;
+  w2c_i0 = 0u;
+  w2c_l19 = w2c_i0;
+  w2c_i0 = 0u;
+  w2c_l14 = w2c_i0;
+  w2c_B6:;
+  w2c_j0 = w2c_p5;
+  w2c_i0 = (u32)(w2c_j0);
+  w2c_i1 = 0u;
+  i32_store(memory, (u64)(w2c_i0), w2c_i1);
+  w2c_j0 = 12008468691120727718ull;
+  w2c_l9 = w2c_j0;
+  w2c_j0 = 0ull;
+  w2c_l10 = w2c_j0;
+  w2c_j0 = 1ull;
+  w2c_l11 = w2c_j0;
+  w2c_i0 = 4u;
+  w2c_l16 = w2c_i0;
+  w2c_i0 = 0u;
+  w2c_l20 = w2c_i0;
+  w2c_j0 = 12008468691120727718ull;
+  w2c_l12 = w2c_j0;
+  w2c_j0 = 0ull;
+  w2c_l13 = w2c_j0;
+  w2c_i0 = w2c_p0;
+  switch (w2c_i0) {
+    case 0: goto w2c_B16;
+    case 1: goto w2c_B21;
+    case 2: goto w2c_B20;
+    case 3: goto w2c_B19;
+    case 4: goto w2c_B18;
+    case 5: goto w2c_B0;
+    case 6: goto w2c_B0;
+    case 7: goto w2c_B0;
+    case 8: goto w2c_B16;
+    case 9: goto w2c_B21;
+    case 10: goto w2c_B20;
+    case 11: goto w2c_B19;
+    case 12: goto w2c_B18;
+    default: goto w2c_B0;
+  }
+  w2c_B21:;
+  w2c_j0 = 0ull;
+  w2c_l12 = w2c_j0;
+  w2c_j0 = 1ull;
+  w2c_l11 = w2c_j0;
+  w2c_i0 = 0u;
+  w2c_l20 = w2c_i0;
+  w2c_j0 = 1ull;
+  w2c_l10 = w2c_j0;
+  w2c_j0 = 0ull;
+  w2c_l13 = w2c_j0;
+  goto w2c_B16;
+  w2c_B20:;
+  w2c_i0 = 1u;
+  w2c_l15 = w2c_i0;
+  w2c_j0 = 0ull;
+  w2c_l10 = w2c_j0;
+  w2c_j0 = 1ull;
+  w2c_l11 = w2c_j0;
+  w2c_i0 = 0u;
+  w2c_l20 = w2c_i0;
+  w2c_j0 = 12008468691120727718ull;
+  w2c_l12 = w2c_j0;
+  w2c_j0 = 1ull;
+  w2c_l13 = w2c_j0;
+  goto w2c_B17;
+  w2c_B19:;
+  w2c_i0 = 1u;
+  w2c_l15 = w2c_i0;
+  w2c_j0 = 0ull;
+  w2c_l12 = w2c_j0;
+  w2c_j0 = 1ull;
+  w2c_l11 = w2c_j0;
+  w2c_i0 = 0u;
+  w2c_l20 = w2c_i0;
+  w2c_j0 = 1ull;
+  w2c_l10 = w2c_j0;
+  w2c_j0 = 1ull;
+  w2c_l13 = w2c_j0;
+  goto w2c_B17;
+  w2c_B18:;
+  w2c_j0 = 0ull;
+  w2c_l11 = w2c_j0;
+  w2c_i0 = 1u;
+  w2c_l20 = w2c_i0;
+  w2c_j0 = 0ull;
+  w2c_l10 = w2c_j0;
+  w2c_j0 = 0ull;
+  w2c_l12 = w2c_j0;
+  w2c_j0 = 0ull;
+  w2c_l13 = w2c_j0;
+  w2c_B17:;
+  w2c_j0 = 0ull;
+  w2c_l9 = w2c_j0;
+  w2c_B16:;
+  w2c_j0 = w2c_l8;
+  w2c_i0 = (u32)(w2c_j0);
+  w2c_i1 = 0u;
+  i32_store(memory, (u64)(w2c_i0) + 49, w2c_i1);
+  w2c_j0 = w2c_l8;
+  w2c_i0 = (u32)(w2c_j0);
+  w2c_j1 = w2c_l9;
+  i64_store(memory, (u64)(w2c_i0) + 40, w2c_j1);
+  w2c_j0 = w2c_l8;
+  w2c_i0 = (u32)(w2c_j0);
+  w2c_j1 = w2c_l13;
+  i64_store(memory, (u64)(w2c_i0) + 32, w2c_j1);
+  w2c_j0 = w2c_l8;
+  w2c_i0 = (u32)(w2c_j0);
+  w2c_j1 = w2c_l12;
+  i64_store(memory, (u64)(w2c_i0) + 24, w2c_j1);
+  w2c_j0 = w2c_l8;
+  w2c_i0 = (u32)(w2c_j0);
+  w2c_j1 = w2c_l10;
+  i64_store(memory, (u64)(w2c_i0) + 16, w2c_j1);
+  w2c_j0 = w2c_l8;
+  w2c_i0 = (u32)(w2c_j0);
+  w2c_j1 = w2c_l11;
+  i64_store(memory, (u64)(w2c_i0) + 8, w2c_j1);
+  w2c_j0 = w2c_l8;
+  w2c_i0 = (u32)(w2c_j0);
+  w2c_i1 = 0u;
+  i32_store(memory, (u64)(w2c_i0) + 52, w2c_i1);
+  w2c_j0 = w2c_l8;
+  w2c_i0 = (u32)(w2c_j0);
+  w2c_i1 = w2c_p0;
+  w2c_i2 = 7u;
+  w2c_i1 = w2c_i1 > w2c_i2;
+  i32_store8(memory, (u64)(w2c_i0) + 48, w2c_i1);
+  w2c_i0 = w2c_l14;
+  w2c_i0 = !(w2c_i0);
+  if (w2c_i0) {goto w2c_B0;}
+  w2c_j0 = w2c_l8;
+  w2c_i0 = (u32)(w2c_j0);
+  w2c_i1 = 0u;
+  i32_store8(memory, (u64)(w2c_i0) + 62, w2c_i1);
+  w2c_j0 = w2c_l8;
+  w2c_i0 = (u32)(w2c_j0);
+  w2c_i1 = 0u;
+  i32_store16(memory, (u64)(w2c_i0) + 60, w2c_i1);
+  w2c_j0 = w2c_p2;
+  w2c_j1 = w2c_p4;
+  w2c_i0 = w2c_j0 != w2c_j1;
+  if (w2c_i0) {goto w2c_B0;}
+  w2c_j0 = w2c_p2;
+  w2c_j1 = 7ull;
+  w2c_j0 &= w2c_j1;
+  w2c_j1 = 0ull;
+  w2c_i0 = w2c_j0 != w2c_j1;
+  if (w2c_i0) {goto w2c_B0;}
+  w2c_j0 = w2c_p2;
+  w2c_j1 = 18446744073709551600ull;
+  w2c_j0 += w2c_j1;
+  w2c_j1 = 1048568ull;
+  w2c_i0 = w2c_j0 > w2c_j1;
+  if (w2c_i0) {goto w2c_B0;}
+  w2c_j0 = w2c_p6;
+  w2c_i0 = (u32)(w2c_j0);
+  w2c_j0 = i64_load(memory, (u64)(w2c_i0));
+  w2c_l11 = w2c_j0;
+  w2c_j0 = 0ull;
+  w2c_l10 = w2c_j0;
+  w2c_i0 = w2c_l19;
+  switch (w2c_i0) {
+    case 0: goto w2c_B22;
+    case 1: goto w2c_B24;
+    case 2: goto w2c_B22;
+    case 3: goto w2c_B23;
+    default: goto w2c_B22;
+  }
+  w2c_B24:;
+  w2c_j0 = 1ull;
+  w2c_j1 = w2c_p2;
+  w2c_j2 = 18446744073709551608ull;
+  w2c_j1 += w2c_j2;
+  w2c_l10 = w2c_j1;
+  w2c_j2 = 3ull;
+  w2c_j1 >>= (w2c_j2 & 63);
+  w2c_j2 = 6ull;
+  w2c_j1 *= w2c_j2;
+  w2c_j2 = w2c_l10;
+  w2c_j3 = 8ull;
+  w2c_i2 = w2c_j2 == w2c_j3;
+  w2c_j0 = w2c_i2 ? w2c_j0 : w2c_j1;
+  w2c_l10 = w2c_j0;
+  goto w2c_B22;
+  w2c_B23:;
+  w2c_j0 = 1ull;
+  w2c_j1 = w2c_p2;
+  w2c_j2 = 18446744073709551608ull;
+  w2c_j1 += w2c_j2;
+  w2c_l10 = w2c_j1;
+  w2c_j2 = 3ull;
+  w2c_j1 >>= (w2c_j2 & 63);
+  w2c_j2 = 6ull;
+  w2c_j1 *= w2c_j2;
+  w2c_j2 = w2c_l10;
+  w2c_j3 = 8ull;
+  w2c_i2 = w2c_j2 == w2c_j3;
+  w2c_j0 = w2c_i2 ? w2c_j0 : w2c_j1;
+  w2c_l10 = w2c_j0;
+  w2c_B22:;
+  w2c_j0 = w2c_l11;
+  w2c_j1 = w2c_l10;
+  w2c_i0 = w2c_j0 != w2c_j1;
+  if (w2c_i0) {goto w2c_B0;}
+  w2c_j0 = w2c_p3;
+  w2c_j1 = 4096ull;
+  w2c_j2 = 0ull;
+  w2c_j3 = w2c_p3;
+  w2c_i3 = !(w2c_j3);
+  w2c_j1 = w2c_i3 ? w2c_j1 : w2c_j2;
+  w2c_j0 += w2c_j1;
+  w2c_l13 = w2c_j0;
+  w2c_j0 = w2c_p1;
+  w2c_j1 = 4096ull;
+  w2c_j2 = 0ull;
+  w2c_j3 = w2c_p1;
+  w2c_i3 = !(w2c_j3);
+  w2c_j1 = w2c_i3 ? w2c_j1 : w2c_j2;
+  w2c_j0 += w2c_j1;
+  w2c_l9 = w2c_j0;
+  w2c_i0 = w2c_l19;
+  switch (w2c_i0) {
+    case 0: goto w2c_B31;
+    case 1: goto w2c_B29;
+    case 2: goto w2c_B30;
+    case 3: goto w2c_B28;
+    default: goto w2c_B31;
+  }
+  w2c_B31:;
+  w2c_j0 = w2c_l8;
+  w2c_j1 = 60ull;
+  w2c_j0 += w2c_j1;
+  w2c_j1 = w2c_l8;
+  w2c_j2 = 8ull;
+  w2c_j1 += w2c_j2;
+  w2c_j2 = w2c_l13;
+  w2c_j3 = w2c_p2;
+  w2c_j4 = w2c_p7;
+  w2c_f8(instance, w2c_j0, w2c_j1, w2c_j2, w2c_j3, w2c_j4);
+  w2c_i0 = 1u;
+  w2c_l14 = w2c_i0;
+  w2c_j0 = w2c_l8;
+  w2c_i0 = (u32)(w2c_j0);
+  w2c_i0 = i32_load8_u(memory, (u64)(w2c_i0) + 61u);
+  w2c_l18 = w2c_i0;
+  w2c_j0 = w2c_l8;
+  w2c_i0 = (u32)(w2c_j0);
+  w2c_i0 = i32_load8_u(memory, (u64)(w2c_i0) + 60u);
+  w2c_l17 = w2c_i0;
+  w2c_i1 = 1u;
+  w2c_i0 = w2c_i0 != w2c_i1;
+  if (w2c_i0) {goto w2c_B27;}
+  w2c_j0 = w2c_l13;
+  w2c_j1 = w2c_l9;
+  w2c_j0 -= w2c_j1;
+  w2c_j1 = w2c_p2;
+  w2c_i0 = w2c_j0 >= w2c_j1;
+  if (w2c_i0) {goto w2c_B33;}
+  w2c_j0 = 0ull;
+  w2c_l10 = w2c_j0;
+  w2c_L34: 
+    w2c_j0 = w2c_l13;
+    w2c_j1 = w2c_l10;
+    w2c_j0 += w2c_j1;
+    w2c_l11 = w2c_j0;
+    w2c_i0 = (u32)(w2c_j0);
+    w2c_j1 = w2c_l9;
+    w2c_j2 = w2c_l10;
+    w2c_j1 += w2c_j2;
+    w2c_l12 = w2c_j1;
+    w2c_i1 = (u32)(w2c_j1);
+    w2c_i1 = i32_load8_u(memory, (u64)(w2c_i1));
+    i32_store8(memory, (u64)(w2c_i0), w2c_i1);
+    w2c_j0 = w2c_l11;
+    w2c_j1 = 1ull;
+    w2c_j0 += w2c_j1;
+    w2c_i0 = (u32)(w2c_j0);
+    w2c_j1 = w2c_l12;
+    w2c_j2 = 1ull;
+    w2c_j1 += w2c_j2;
+    w2c_i1 = (u32)(w2c_j1);
+    w2c_i1 = i32_load8_u(memory, (u64)(w2c_i1));
+    i32_store8(memory, (u64)(w2c_i0), w2c_i1);
+    w2c_j0 = w2c_l11;
+    w2c_j1 = 2ull;
+    w2c_j0 += w2c_j1;
+    w2c_i0 = (u32)(w2c_j0);
+    w2c_j1 = w2c_l12;
+    w2c_j2 = 2ull;
+    w2c_j1 += w2c_j2;
+    w2c_i1 = (u32)(w2c_j1);
+    w2c_i1 = i32_load8_u(memory, (u64)(w2c_i1));
+    i32_store8(memory, (u64)(w2c_i0), w2c_i1);
+    w2c_j0 = w2c_l11;
+    w2c_j1 = 3ull;
+    w2c_j0 += w2c_j1;
+    w2c_i0 = (u32)(w2c_j0);
+    w2c_j1 = w2c_l12;
+    w2c_j2 = 3ull;
+    w2c_j1 += w2c_j2;
+    w2c_i1 = (u32)(w2c_j1);
+    w2c_i1 = i32_load8_u(memory, (u64)(w2c_i1));
+    i32_store8(memory, (u64)(w2c_i0), w2c_i1);
+    w2c_j0 = w2c_p2;
+    w2c_j1 = w2c_l10;
+    w2c_j2 = 4ull;
+    w2c_j1 += w2c_j2;
+    w2c_l10 = w2c_j1;
+    w2c_i0 = w2c_j0 != w2c_j1;
+    if (w2c_i0) {goto w2c_L34;}
+    goto w2c_B32;
+  UNREACHABLE;
+  w2c_B33:;
+  w2c_j0 = w2c_p2;
+  w2c_i0 = !(w2c_j0);
+  if (w2c_i0) {goto w2c_B32;}
+  w2c_j0 = w2c_l13;
+  w2c_i0 = (u32)(w2c_j0);
+  w2c_j1 = w2c_l9;
+  w2c_i1 = (u32)(w2c_j1);
+  w2c_j2 = w2c_p2;
+  w2c_i2 = (u32)(w2c_j2);
+  memory_copy(memory, memory, w2c_i0, w2c_i1, w2c_i2);
+  w2c_B32:;
+  w2c_i0 = w2c_p0;
+  w2c_i1 = 8u;
+  w2c_i0 = w2c_i0 < w2c_i1;
+  if (w2c_i0) {goto w2c_B4;}
+  w2c_i0 = w2c_l18;
+  w2c_i1 = 255u;
+  w2c_i0 &= w2c_i1;
+  w2c_i1 = 2u;
+  w2c_i0 = w2c_i0 == w2c_i1;
+  if (w2c_i0) {goto w2c_B4;}
+  w2c_i0 = w2c_l20;
+  if (w2c_i0) {goto w2c_B35;}
+  w2c_i0 = w2c_l15;
+  w2c_j1 = w2c_p2;
+  w2c_j2 = 18446744073709551592ull;
+  w2c_j1 += w2c_j2;
+  w2c_j2 = 1048561ull;
+  w2c_i1 = w2c_j1 < w2c_j2;
+  w2c_i0 |= w2c_i1;
+  w2c_i1 = 1u;
+  w2c_i0 = w2c_i0 != w2c_i1;
+  if (w2c_i0) {goto w2c_B4;}
+  w2c_B35:;
+  w2c_j0 = w2c_p6;
+  w2c_i0 = (u32)(w2c_j0);
+  w2c_j1 = 1ull;
+  w2c_j2 = w2c_p2;
+  w2c_j3 = 18446744073709551608ull;
+  w2c_j2 += w2c_j3;
+  w2c_l11 = w2c_j2;
+  w2c_j3 = 3ull;
+  w2c_j2 >>= (w2c_j3 & 63);
+  w2c_j3 = 6ull;
+  w2c_j2 *= w2c_j3;
+  w2c_l10 = w2c_j2;
+  w2c_j3 = w2c_l11;
+  w2c_j4 = 8ull;
+  w2c_i3 = w2c_j3 == w2c_j4;
+  w2c_l14 = w2c_i3;
+  w2c_j1 = w2c_i3 ? w2c_j1 : w2c_j2;
+  i64_store(memory, (u64)(w2c_i0), w2c_j1);
+  w2c_j0 = w2c_l13;
+  w2c_i0 = (u32)(w2c_j0);
+  w2c_j0 = i64_load(memory, (u64)(w2c_i0));
+  w2c_l12 = w2c_j0;
+  w2c_j0 = w2c_p7;
+  w2c_i0 = (u32)(w2c_j0);
+  w2c_j1 = w2c_l11;
+  w2c_j2 = w2c_l13;
+  w2c_j1 += w2c_j2;
+  w2c_i1 = (u32)(w2c_j1);
+  w2c_j1 = i64_load(memory, (u64)(w2c_i1));
+  i64_store(memory, (u64)(w2c_i0) + 8, w2c_j1);
+  w2c_j0 = w2c_p7;
+  w2c_i0 = (u32)(w2c_j0);
+  w2c_j1 = w2c_l12;
+  w2c_j2 = 0ull;
+  w2c_j3 = w2c_l10;
+  w2c_j4 = 56ull;
+  w2c_j3 <<= (w2c_j4 & 63);
+  w2c_j4 = w2c_l10;
+  w2c_j5 = 65280ull;
+  w2c_j4 &= w2c_j5;
+  w2c_j5 = 40ull;
+  w2c_j4 <<= (w2c_j5 & 63);
+  w2c_j3 |= w2c_j4;
+  w2c_j4 = w2c_l10;
+  w2c_j5 = 16711680ull;
+  w2c_j4 &= w2c_j5;
+  w2c_j5 = 24ull;
+  w2c_j4 <<= (w2c_j5 & 63);
+  w2c_j5 = w2c_l10;
+  w2c_j6 = 4278190080ull;
+  w2c_j5 &= w2c_j6;
+  w2c_j6 = 8ull;
+  w2c_j5 <<= (w2c_j6 & 63);
+  w2c_j4 |= w2c_j5;
+  w2c_j3 |= w2c_j4;
+  w2c_j4 = w2c_l10;
+  w2c_j5 = 8ull;
+  w2c_j4 >>= (w2c_j5 & 63);
+  w2c_j5 = 4278190080ull;
+  w2c_j4 &= w2c_j5;
+  w2c_j5 = w2c_l10;
+  w2c_j6 = 24ull;
+  w2c_j5 >>= (w2c_j6 & 63);
+  w2c_j6 = 16711680ull;
+  w2c_j5 &= w2c_j6;
+  w2c_j4 |= w2c_j5;
+  w2c_j5 = w2c_l10;
+  w2c_j6 = 40ull;
+  w2c_j5 >>= (w2c_j6 & 63);
+  w2c_j6 = 65280ull;
+  w2c_j5 &= w2c_j6;
+  w2c_j6 = w2c_l10;
+  w2c_j7 = 56ull;
+  w2c_j6 >>= (w2c_j7 & 63);
+  w2c_j5 |= w2c_j6;
+  w2c_j4 |= w2c_j5;
+  w2c_j3 |= w2c_j4;
+  w2c_i4 = w2c_l14;
+  w2c_j2 = w2c_i4 ? w2c_j2 : w2c_j3;
+  w2c_j1 ^= w2c_j2;
+  i64_store(memory, (u64)(w2c_i0), w2c_j1);
+  goto w2c_B2;
+  w2c_B30:;
+  w2c_j0 = w2c_l8;
+  w2c_j1 = w2c_l8;
+  w2c_j2 = 8ull;
+  w2c_j1 += w2c_j2;
+  w2c_i2 = w2c_l18;
+  w2c_j3 = w2c_l13;
+  w2c_j4 = w2c_p2;
+  w2c_j5 = w2c_p7;
+  w2c_f9(instance, w2c_j0, w2c_j1, w2c_i2, w2c_j3, w2c_j4, w2c_j5);
+  w2c_j0 = w2c_l8;
+  w2c_i0 = (u32)(w2c_j0);
+  w2c_i0 = i32_load8_u(memory, (u64)(w2c_i0) + 1u);
+  w2c_l17 = w2c_i0;
+  w2c_j0 = w2c_l8;
+  w2c_i0 = (u32)(w2c_j0);
+  w2c_i0 = i32_load8_u(memory, (u64)(w2c_i0));
+  w2c_l18 = w2c_i0;
+  w2c_j0 = w2c_l13;
+  w2c_j1 = w2c_l9;
+  w2c_j0 -= w2c_j1;
+  w2c_j1 = w2c_p2;
+  w2c_i0 = w2c_j0 >= w2c_j1;
+  if (w2c_i0) {goto w2c_B36;}
+  w2c_j0 = 0ull;
+  w2c_l10 = w2c_j0;
+  w2c_L37: 
+    w2c_j0 = w2c_l13;
+    w2c_j1 = w2c_l10;
+    w2c_j0 += w2c_j1;
+    w2c_l11 = w2c_j0;
+    w2c_i0 = (u32)(w2c_j0);
+    w2c_j1 = w2c_l9;
+    w2c_j2 = w2c_l10;
+    w2c_j1 += w2c_j2;
+    w2c_l12 = w2c_j1;
+    w2c_i1 = (u32)(w2c_j1);
+    w2c_i1 = i32_load8_u(memory, (u64)(w2c_i1));
+    i32_store8(memory, (u64)(w2c_i0), w2c_i1);
+    w2c_j0 = w2c_l11;
+    w2c_j1 = 1ull;
+    w2c_j0 += w2c_j1;
+    w2c_i0 = (u32)(w2c_j0);
+    w2c_j1 = w2c_l12;
+    w2c_j2 = 1ull;
+    w2c_j1 += w2c_j2;
+    w2c_i1 = (u32)(w2c_j1);
+    w2c_i1 = i32_load8_u(memory, (u64)(w2c_i1));
+    i32_store8(memory, (u64)(w2c_i0), w2c_i1);
+    w2c_j0 = w2c_l11;
+    w2c_j1 = 2ull;
+    w2c_j0 += w2c_j1;
+    w2c_i0 = (u32)(w2c_j0);
+    w2c_j1 = w2c_l12;
+    w2c_j2 = 2ull;
+    w2c_j1 += w2c_j2;
+    w2c_i1 = (u32)(w2c_j1);
+    w2c_i1 = i32_load8_u(memory, (u64)(w2c_i1));
+    i32_store8(memory, (u64)(w2c_i0), w2c_i1);
+    w2c_j0 = w2c_l11;
+    w2c_j1 = 3ull;
+    w2c_j0 += w2c_j1;
+    w2c_i0 = (u32)(w2c_j0);
+    w2c_j1 = w2c_l12;
+    w2c_j2 = 3ull;
+    w2c_j1 += w2c_j2;
+    w2c_i1 = (u32)(w2c_j1);
+    w2c_i1 = i32_load8_u(memory, (u64)(w2c_i1));
+    i32_store8(memory, (u64)(w2c_i0), w2c_i1);
+    w2c_j0 = w2c_p2;
+    w2c_j1 = w2c_l10;
+    w2c_j2 = 4ull;
+    w2c_j1 += w2c_j2;
+    w2c_l10 = w2c_j1;
+    w2c_i0 = w2c_j0 != w2c_j1;
+    if (w2c_i0) {goto w2c_L37;}
+    goto w2c_B25;
+  UNREACHABLE;
+  w2c_B36:;
+  w2c_j0 = w2c_p2;
+  w2c_i0 = !(w2c_j0);
+  if (w2c_i0) {goto w2c_B25;}
+  w2c_j0 = w2c_l13;
+  w2c_i0 = (u32)(w2c_j0);
+  w2c_j1 = w2c_l9;
+  w2c_i1 = (u32)(w2c_j1);
+  w2c_j2 = w2c_p2;
+  w2c_i2 = (u32)(w2c_j2);
+  memory_copy(memory, memory, w2c_i0, w2c_i1, w2c_i2);
+  goto w2c_B25;
+  w2c_B29:;
+  w2c_j0 = w2c_l13;
+  w2c_j1 = w2c_p7;
+  w2c_j0 -= w2c_j1;
+  w2c_j1 = 7ull;
+  w2c_i0 = w2c_j0 > w2c_j1;
+  if (w2c_i0) {goto w2c_B39;}
+  w2c_j0 = w2c_l13;
+  w2c_i0 = (u32)(w2c_j0);
+  w2c_j1 = w2c_p7;
+  w2c_i1 = (u32)(w2c_j1);
+  w2c_i1 = i32_load8_u(memory, (u64)(w2c_i1));
+  i32_store8(memory, (u64)(w2c_i0), w2c_i1);
+  w2c_j0 = w2c_l13;
+  w2c_i0 = (u32)(w2c_j0);
+  w2c_j1 = w2c_p7;
+  w2c_i1 = (u32)(w2c_j1);
+  w2c_i1 = i32_load8_u(memory, (u64)(w2c_i1) + 1u);
+  i32_store8(memory, (u64)(w2c_i0) + 1, w2c_i1);
+  w2c_j0 = w2c_l13;
+  w2c_i0 = (u32)(w2c_j0);
+  w2c_j1 = w2c_p7;
+  w2c_i1 = (u32)(w2c_j1);
+  w2c_i1 = i32_load8_u(memory, (u64)(w2c_i1) + 2u);
+  i32_store8(memory, (u64)(w2c_i0) + 2, w2c_i1);
+  w2c_j0 = w2c_l13;
+  w2c_i0 = (u32)(w2c_j0);
+  w2c_j1 = w2c_p7;
+  w2c_i1 = (u32)(w2c_j1);
+  w2c_i1 = i32_load8_u(memory, (u64)(w2c_i1) + 3u);
+  i32_store8(memory, (u64)(w2c_i0) + 3, w2c_i1);
+  w2c_j0 = w2c_l13;
+  w2c_i0 = (u32)(w2c_j0);
+  w2c_j1 = w2c_p7;
+  w2c_i1 = (u32)(w2c_j1);
+  w2c_i1 = i32_load8_u(memory, (u64)(w2c_i1) + 4u);
+  i32_store8(memory, (u64)(w2c_i0) + 4, w2c_i1);
+  w2c_j0 = w2c_l13;
+  w2c_i0 = (u32)(w2c_j0);
+  w2c_j1 = w2c_p7;
+  w2c_i1 = (u32)(w2c_j1);
+  w2c_i1 = i32_load8_u(memory, (u64)(w2c_i1) + 5u);
+  i32_store8(memory, (u64)(w2c_i0) + 5, w2c_i1);
+  w2c_j0 = w2c_l13;
+  w2c_i0 = (u32)(w2c_j0);
+  w2c_j1 = w2c_p7;
+  w2c_i1 = (u32)(w2c_j1);
+  w2c_i1 = i32_load8_u(memory, (u64)(w2c_i1) + 6u);
+  i32_store8(memory, (u64)(w2c_i0) + 6, w2c_i1);
+  w2c_j0 = w2c_l13;
+  w2c_i0 = (u32)(w2c_j0);
+  w2c_j1 = w2c_p7;
+  w2c_i1 = (u32)(w2c_j1);
+  w2c_i1 = i32_load8_u(memory, (u64)(w2c_i1) + 7u);
+  i32_store8(memory, (u64)(w2c_i0) + 7, w2c_i1);
+  goto w2c_B38;
+  w2c_B39:;
+  w2c_j0 = w2c_l13;
+  w2c_i0 = (u32)(w2c_j0);
+  w2c_j1 = w2c_p7;
+  w2c_i1 = (u32)(w2c_j1);
+  w2c_j1 = i64_load(memory, (u64)(w2c_i1));
+  i64_store(memory, (u64)(w2c_i0), w2c_j1);
+  w2c_B38:;
+  w2c_i0 = w2c_p0;
+  w2c_i1 = 8u;
+  w2c_i0 = w2c_i0 < w2c_i1;
+  if (w2c_i0) {goto w2c_B4;}
+  w2c_i0 = w2c_l18;
+  w2c_i1 = 2u;
+  w2c_i0 = w2c_i0 == w2c_i1;
+  if (w2c_i0) {goto w2c_B4;}
+  w2c_i0 = w2c_l20;
+  if (w2c_i0) {goto w2c_B40;}
+  w2c_i0 = w2c_l15;
+  w2c_j1 = w2c_p2;
+  w2c_j2 = 18446744073709551592ull;
+  w2c_j1 += w2c_j2;
+  w2c_j2 = 1048561ull;
+  w2c_i1 = w2c_j1 < w2c_j2;
+  w2c_i0 |= w2c_i1;
+  w2c_i1 = 1u;
+  w2c_i0 = w2c_i0 != w2c_i1;
+  if (w2c_i0) {goto w2c_B4;}
+  w2c_B40:;
+  w2c_j0 = w2c_p6;
+  w2c_i0 = (u32)(w2c_j0);
+  w2c_j1 = 1ull;
+  w2c_j2 = w2c_p2;
+  w2c_j3 = 18446744073709551608ull;
+  w2c_j2 += w2c_j3;
+  w2c_l11 = w2c_j2;
+  w2c_j3 = 3ull;
+  w2c_j2 >>= (w2c_j3 & 63);
+  w2c_j3 = 6ull;
+  w2c_j2 *= w2c_j3;
+  w2c_l10 = w2c_j2;
+  w2c_j3 = w2c_l11;
+  w2c_j4 = 8ull;
+  w2c_i3 = w2c_j3 == w2c_j4;
+  w2c_l14 = w2c_i3;
+  w2c_j1 = w2c_i3 ? w2c_j1 : w2c_j2;
+  i64_store(memory, (u64)(w2c_i0), w2c_j1);
+  w2c_j0 = w2c_l13;
+  w2c_i0 = (u32)(w2c_j0);
+  w2c_j0 = i64_load(memory, (u64)(w2c_i0));
+  w2c_l12 = w2c_j0;
+  w2c_j0 = w2c_p7;
+  w2c_i0 = (u32)(w2c_j0);
+  w2c_j1 = w2c_l11;
+  w2c_j2 = w2c_l13;
+  w2c_j1 += w2c_j2;
+  w2c_i1 = (u32)(w2c_j1);
+  w2c_j1 = i64_load(memory, (u64)(w2c_i1));
+  i64_store(memory, (u64)(w2c_i0) + 8, w2c_j1);
+  w2c_j0 = w2c_p7;
+  w2c_i0 = (u32)(w2c_j0);
+  w2c_j1 = w2c_l12;
+  w2c_j2 = 0ull;
+  w2c_j3 = w2c_l10;
+  w2c_j4 = 56ull;
+  w2c_j3 <<= (w2c_j4 & 63);
+  w2c_j4 = w2c_l10;
+  w2c_j5 = 65280ull;
+  w2c_j4 &= w2c_j5;
+  w2c_j5 = 40ull;
+  w2c_j4 <<= (w2c_j5 & 63);
+  w2c_j3 |= w2c_j4;
+  w2c_j4 = w2c_l10;
+  w2c_j5 = 16711680ull;
+  w2c_j4 &= w2c_j5;
+  w2c_j5 = 24ull;
+  w2c_j4 <<= (w2c_j5 & 63);
+  w2c_j5 = w2c_l10;
+  w2c_j6 = 4278190080ull;
+  w2c_j5 &= w2c_j6;
+  w2c_j6 = 8ull;
+  w2c_j5 <<= (w2c_j6 & 63);
+  w2c_j4 |= w2c_j5;
+  w2c_j3 |= w2c_j4;
+  w2c_j4 = w2c_l10;
+  w2c_j5 = 8ull;
+  w2c_j4 >>= (w2c_j5 & 63);
+  w2c_j5 = 4278190080ull;
+  w2c_j4 &= w2c_j5;
+  w2c_j5 = w2c_l10;
+  w2c_j6 = 24ull;
+  w2c_j5 >>= (w2c_j6 & 63);
+  w2c_j6 = 16711680ull;
+  w2c_j5 &= w2c_j6;
+  w2c_j4 |= w2c_j5;
+  w2c_j5 = w2c_l10;
+  w2c_j6 = 40ull;
+  w2c_j5 >>= (w2c_j6 & 63);
+  w2c_j6 = 65280ull;
+  w2c_j5 &= w2c_j6;
+  w2c_j6 = w2c_l10;
+  w2c_j7 = 56ull;
+  w2c_j6 >>= (w2c_j7 & 63);
+  w2c_j5 |= w2c_j6;
+  w2c_j4 |= w2c_j5;
+  w2c_j3 |= w2c_j4;
+  w2c_i4 = w2c_l14;
+  w2c_j2 = w2c_i4 ? w2c_j2 : w2c_j3;
+  w2c_j1 ^= w2c_j2;
+  i64_store(memory, (u64)(w2c_i0), w2c_j1);
+  goto w2c_B2;
+  w2c_B28:;
+  w2c_j0 = w2c_l13;
+  w2c_j1 = w2c_p7;
+  w2c_j0 -= w2c_j1;
+  w2c_j1 = 7ull;
+  w2c_i0 = w2c_j0 > w2c_j1;
+  if (w2c_i0) {goto w2c_B26;}
+  w2c_j0 = w2c_l13;
+  w2c_i0 = (u32)(w2c_j0);
+  w2c_j1 = w2c_p7;
+  w2c_i1 = (u32)(w2c_j1);
+  w2c_i1 = i32_load8_u(memory, (u64)(w2c_i1));
+  i32_store8(memory, (u64)(w2c_i0), w2c_i1);
+  w2c_j0 = w2c_l13;
+  w2c_i0 = (u32)(w2c_j0);
+  w2c_j1 = w2c_p7;
+  w2c_i1 = (u32)(w2c_j1);
+  w2c_i1 = i32_load8_u(memory, (u64)(w2c_i1) + 1u);
+  i32_store8(memory, (u64)(w2c_i0) + 1, w2c_i1);
+  w2c_j0 = w2c_l13;
+  w2c_i0 = (u32)(w2c_j0);
+  w2c_j1 = w2c_p7;
+  w2c_i1 = (u32)(w2c_j1);
+  w2c_i1 = i32_load8_u(memory, (u64)(w2c_i1) + 2u);
+  i32_store8(memory, (u64)(w2c_i0) + 2, w2c_i1);
+  w2c_j0 = w2c_l13;
+  w2c_i0 = (u32)(w2c_j0);
+  w2c_j1 = w2c_p7;
+  w2c_i1 = (u32)(w2c_j1);
+  w2c_i1 = i32_load8_u(memory, (u64)(w2c_i1) + 3u);
+  i32_store8(memory, (u64)(w2c_i0) + 3, w2c_i1);
+  w2c_j0 = w2c_l13;
+  w2c_i0 = (u32)(w2c_j0);
+  w2c_j1 = w2c_p7;
+  w2c_i1 = (u32)(w2c_j1);
+  w2c_i1 = i32_load8_u(memory, (u64)(w2c_i1) + 4u);
+  i32_store8(memory, (u64)(w2c_i0) + 4, w2c_i1);
+  w2c_j0 = w2c_l13;
+  w2c_i0 = (u32)(w2c_j0);
+  w2c_j1 = w2c_p7;
+  w2c_i1 = (u32)(w2c_j1);
+  w2c_i1 = i32_load8_u(memory, (u64)(w2c_i1) + 5u);
+  i32_store8(memory, (u64)(w2c_i0) + 5, w2c_i1);
+  w2c_j0 = w2c_l13;
+  w2c_i0 = (u32)(w2c_j0);
+  w2c_j1 = w2c_p7;
+  w2c_i1 = (u32)(w2c_j1);
+  w2c_i1 = i32_load8_u(memory, (u64)(w2c_i1) + 6u);
+  i32_store8(memory, (u64)(w2c_i0) + 6, w2c_i1);
+  w2c_j0 = w2c_l13;
+  w2c_i0 = (u32)(w2c_j0);
+  w2c_j1 = w2c_p7;
+  w2c_i1 = (u32)(w2c_j1);
+  w2c_i1 = i32_load8_u(memory, (u64)(w2c_i1) + 7u);
+  i32_store8(memory, (u64)(w2c_i0) + 7, w2c_i1);
+  goto w2c_B25;
+  w2c_B27:;
+  w2c_i0 = w2c_l17;
+  switch (w2c_i0) {
+    case 0: goto w2c_B1;
+    case 1: goto w2c_B5;
+    case 2: goto w2c_B2;
+    case 3: goto w2c_B41;
+    default: goto w2c_B1;
+  }
+  w2c_B41:;
+  w2c_j0 = w2c_l8;
+  w2c_i0 = (u32)(w2c_j0);
+  w2c_i0 = i32_load8_u(memory, (u64)(w2c_i0) + 62u);
+  w2c_l14 = w2c_i0;
+  w2c_i0 = w2c_l18;
+  w2c_i1 = 255u;
+  w2c_i0 &= w2c_i1;
+  if (w2c_i0) {goto w2c_B42;}
+  w2c_i0 = 6u;
+  w2c_i1 = 2u;
+  w2c_i2 = w2c_l14;
+  w2c_i3 = 255u;
+  w2c_i2 &= w2c_i3;
+  w2c_i0 = w2c_i2 ? w2c_i0 : w2c_i1;
+  w2c_l14 = w2c_i0;
+  goto w2c_B1;
+  w2c_B42:;
+  w2c_i0 = w2c_l14;
+  w2c_j0 = (u64)(w2c_i0);
+  w2c_j1 = 255ull;
+  w2c_j0 &= w2c_j1;
+  w2c_j1 = 2ull;
+  w2c_j0 <<= (w2c_j1 & 63);
+  w2c_i0 = (u32)(w2c_j0);
+  w2c_i0 = constant_i32_load((u64)(w2c_i0) + 68804u);
+  w2c_l14 = w2c_i0;
+  goto w2c_B1;
+  w2c_B26:;
+  w2c_j0 = w2c_l13;
+  w2c_i0 = (u32)(w2c_j0);
+  w2c_j1 = w2c_p7;
+  w2c_i1 = (u32)(w2c_j1);
+  w2c_j1 = i64_load(memory, (u64)(w2c_i1));
+  i64_store(memory, (u64)(w2c_i0), w2c_j1);
+  w2c_B25:;
+  w2c_j0 = w2c_p5;
+  w2c_i0 = (u32)(w2c_j0);
+  w2c_i1 = 0u;
+  i32_store(memory, (u64)(w2c_i0), w2c_i1);
+  w2c_i0 = w2c_l18;
+  w2c_i1 = 255u;
+  w2c_i0 &= w2c_i1;
+  w2c_i0 = !(w2c_i0);
+  if (w2c_i0) {goto w2c_B43;}
+  w2c_i0 = w2c_l17;
+  w2c_l18 = w2c_i0;
+  goto w2c_B3;
+  w2c_B43:;
+  w2c_i0 = w2c_l17;
+  w2c_i1 = 255u;
+  w2c_i0 &= w2c_i1;
+  w2c_i1 = 0u;
+  w2c_i0 = w2c_i0 != w2c_i1;
+  w2c_l16 = w2c_i0;
+  goto w2c_B0;
+  w2c_B5:;
+  UNREACHABLE;
+  w2c_B4:;
+  w2c_j0 = w2c_p5;
+  w2c_i0 = (u32)(w2c_j0);
+  w2c_i1 = 0u;
+  i32_store(memory, (u64)(w2c_i0), w2c_i1);
+  w2c_B3:;
+  w2c_i0 = w2c_l18;
+  w2c_j0 = (u64)(w2c_i0);
+  w2c_j1 = 255ull;
+  w2c_j0 &= w2c_j1;
+  w2c_j1 = 2ull;
+  w2c_j0 <<= (w2c_j1 & 63);
+  w2c_i0 = (u32)(w2c_j0);
+  w2c_i0 = constant_i32_load((u64)(w2c_i0) + 68816u);
+  w2c_l16 = w2c_i0;
+  goto w2c_B0;
+  w2c_B2:;
+  w2c_i0 = w2c_l18;
+  w2c_j0 = (u64)(w2c_i0);
+  w2c_j1 = 255ull;
+  w2c_j0 &= w2c_j1;
+  w2c_j1 = 2ull;
+  w2c_j0 <<= (w2c_j1 & 63);
+  w2c_i0 = (u32)(w2c_j0);
+  w2c_i0 = constant_i32_load((u64)(w2c_i0) + 68792u);
+  w2c_l14 = w2c_i0;
+  w2c_B1:;
+  w2c_j0 = w2c_p5;
+  w2c_i0 = (u32)(w2c_j0);
+  w2c_i1 = w2c_l14;
+  i32_store(memory, (u64)(w2c_i0), w2c_i1);
+  w2c_i0 = 0u;
+  w2c_l16 = w2c_i0;
+  w2c_B0:;
+  w2c_j0 = w2c_l8;
+  w2c_j1 = 64ull;
+  w2c_j0 += w2c_j1;
+  instance->w2c_g0 = w2c_j0;
+  w2c_i0 = w2c_l16;
+  return w2c_i0;
+}
+#ifndef KEYWRAP_STEPS_ONLY
 static u32 w2c_keywrap_rewrap(struct instance *instance, u64 w2c_p0, u64 w2c_p1, u64 w2c_p2, u64 w2c_p3, u64 w2c_p4, u64 w2c_p5, u32 w2c_p6, u64 w2c_p7) {
   const struct memory memory = instance->w2c_memory;
   (void)memory;
@@ -10551,13 +15404,13 @@ static u32 w2c_keywrap_rewrap(struct instance *instance, u64 w2c_p0, u64 w2c_p1,
   w2c_j5 = w2c_p5;
   w2c_i6 = w2c_p6;
   w2c_j7 = w2c_p7;
-  w2c_i0 = w2c_f41(instance, w2c_j0, w2c_j1, w2c_j2, w2c_j3, w2c_j4, w2c_j5, w2c_i6, w2c_j7);
+  w2c_i0 = w2c_f79(instance, w2c_j0, w2c_j1, w2c_j2, w2c_j3, w2c_j4, w2c_j5, w2c_i6, w2c_j7);
   w2c_p6 = w2c_i0;
   w2c_f1(instance);
   w2c_i0 = w2c_p6;
   return w2c_i0;
 }
-static u32 w2c_f41(struct instance *instance, u64 w2c_p0, u64 w2c_p1, u64 w2c_p2, u64 w2c_p3, u64 w2c_p4, u64 w2c_p5, u32 w2c_p6, u64 w2c_p7) {
+static u32 w2c_f79(struct instance *instance, u64 w2c_p0, u64 w2c_p1, u64 w2c_p2, u64 w2c_p3, u64 w2c_p4, u64 w2c_p5, u32 w2c_p6, u64 w2c_p7) {
   u32 w2c_l9 = 0;
   u64 w2c_l8 = 0;
   const struct memory memory = instance->w2c_memory;
@@ -10690,7 +15543,7 @@ static u32 w2c_f41(struct instance *instance, u64 w2c_p0, u64 w2c_p1, u64 w2c_p2
   w2c_j5 = w2c_i7 ? w2c_j5 : w2c_j6;
   w2c_j4 += w2c_j5;
   w2c_j5 = w2c_p5;
-  w2c_f8(instance, w2c_j0, w2c_j1, w2c_j2, w2c_i3, w2c_j4, w2c_j5);
+  w2c_f10(instance, w2c_j0, w2c_j1, w2c_j2, w2c_i3, w2c_j4, w2c_j5);
   w2c_j0 = w2c_p7;
   w2c_i0 = (u32)(w2c_j0);
   w2c_j1 = w2c_l8;
@@ -10723,7 +15576,7 @@ static u32 w2c_f41(struct instance *instance, u64 w2c_p0, u64 w2c_p1, u64 w2c_p2
   w2c_j1 = 2ull;
   w2c_j0 <<= (w2c_j1 & 63);
   w2c_i0 = (u32)(w2c_j0);
-  w2c_i0 = constant_i32_load((u64)(w2c_i0) + 68780u);
+  w2c_i0 = constant_i32_load((u64)(w2c_i0) + 68816u);
   w2c_l9 = w2c_i0;
   w2c_B0:;
   w2c_j0 = w2c_l8;
@@ -10751,13 +15604,13 @@ static u32 w2c_keywrap_rewrap_in_place(struct instance *instance, u64 w2c_p0, u6
   w2c_j4 = w2c_p4;
   w2c_j5 = w2c_p5;
   w2c_i6 = w2c_p6;
-  w2c_i0 = w2c_f43(instance, w2c_j0, w2c_j1, w2c_j2, w2c_j3, w2c_j4, w2c_j5, w2c_i6);
+  w2c_i0 = w2c_f81(instance, w2c_j0, w2c_j1, w2c_j2, w2c_j3, w2c_j4, w2c_j5, w2c_i6);
   w2c_p6 = w2c_i0;
   w2c_f1(instance);
   w2c_i0 = w2c_p6;
   return w2c_i0;
 }
-static u32 w2c_f43(struct instance *instance, u64 w2c_p0, u64 w2c_p1, u64 w2c_p2, u64 w2c_p3, u64 w2c_p4, u64 w2c_p5, u32 w2c_p6) {
+static u32 w2c_f81(struct instance *instance, u64 w2c_p0, u64 w2c_p1, u64 w2c_p2, u64 w2c_p3, u64 w2c_p4, u64 w2c_p5, u32 w2c_p6) {
   u32 w2c_l8 = 0;
   u64 w2c_l7 = 0;
   const struct memory memory = instance->w2c_memory;
@@ -10850,10 +15703,12 @@ static u32 w2c_f43(struct instance *instance, u64 w2c_p0, u64 w2c_p1, u64 w2c_p2
   w2c_j2 = 244ull;
   w2c_i2 = (u32)(w2c_j2);
   memory_copy(memory, memory, w2c_i0, w2c_i1, w2c_i2);
+  w2c_i0 = 4u;
+  w2c_l8 = w2c_i0;
   w2c_i0 = w2c_p6;
   w2c_i1 = 3u;
   w2c_i0 = w2c_i0 > w2c_i1;
-  if (w2c_i0) {goto w2c_B2;}
+  if (w2c_i0) {goto w2c_B1;}
   w2c_j0 = w2c_l7;
   w2c_i0 = (u32)(w2c_j0);
   w2c_j1 = 0ull;
@@ -10891,18 +15746,15 @@ static u32 w2c_f43(struct instance *instance, u64 w2c_p0, u64 w2c_p1, u64 w2c_p2
   w2c_j4 += w2c_j5;
   w2c_p0 = w2c_j4;
   w2c_j5 = w2c_p5;
-  w2c_f8(instance, w2c_j0, w2c_j1, w2c_j2, w2c_i3, w2c_j4, w2c_j5);
-  w2c_i0 = 0u;
-  w2c_l8 = w2c_i0;
+  w2c_f10(instance, w2c_j0, w2c_j1, w2c_j2, w2c_i3, w2c_j4, w2c_j5);
   w2c_j0 = w2c_l7;
   w2c_i0 = (u32)(w2c_j0);
   w2c_i0 = i32_load8_u(memory, (u64)(w2c_i0));
-  w2c_i1 = 1u;
-  w2c_i0 &= w2c_i1;
-  w2c_i0 = !(w2c_i0);
-  if (w2c_i0) {goto w2c_B1;}
-  w2c_i0 = 4u;
+  if (w2c_i0) {goto w2c_B2;}
+  w2c_i0 = 0u;
   w2c_l8 = w2c_i0;
+  goto w2c_B1;
+  w2c_B2:;
   w2c_j0 = w2c_l7;
   w2c_i0 = (u32)(w2c_j0);
   w2c_i0 = i32_load8_u(memory, (u64)(w2c_i0) + 1u);
@@ -10948,15 +15800,15 @@ static u32 w2c_f43(struct instance *instance, u64 w2c_p0, u64 w2c_p1, u64 w2c_p2
   w2c_B3:;
   w2c_j0 = w2c_p5;
   w2c_i0 = !(w2c_j0);
-  if (w2c_i0) {goto w2c_B2;}
+  if (w2c_i0) {goto w2c_B1;}
   w2c_j0 = w2c_p5;
   w2c_j1 = 18446744073709551615ull;
   w2c_j0 += w2c_j1;
   w2c_p1 = w2c_j0;
   w2c_i0 = !(w2c_j0);
-  w2c_l8 = w2c_i0;
+  w2c_p6 = w2c_i0;
   if (w2c_i0) {goto w2c_B6;}
-  w2c_i0 = w2c_l8;
+  w2c_i0 = w2c_p6;
   if (w2c_i0) {goto w2c_B6;}
   w2c_j0 = w2c_p0;
   w2c_i0 = (u32)(w2c_j0);
@@ -10971,9 +15823,6 @@ static u32 w2c_f43(struct instance *instance, u64 w2c_p0, u64 w2c_p1, u64 w2c_p2
   w2c_i0 = (u32)(w2c_j0);
   w2c_i1 = 0u;
   i32_store8(memory, (u64)(w2c_i0), w2c_i1);
-  w2c_B2:;
-  w2c_i0 = 4u;
-  w2c_l8 = w2c_i0;
   w2c_B1:;
   w2c_j0 = w2c_l7;
   w2c_j1 = 1024ull;
@@ -11007,13 +15856,13 @@ static u32 w2c_keywrap_rewrap_many(struct instance *instance, u64 w2c_p0, u64 w2
   w2c_i6 = w2c_p6;
   w2c_j7 = w2c_p7;
   w2c_j8 = w2c_p8;
-  w2c_i0 = w2c_f45(instance, w2c_j0, w2c_j1, w2c_j2, w2c_j3, w2c_j4, w2c_j5, w2c_i6, w2c_j7, w2c_j8);
+  w2c_i0 = w2c_f83(instance, w2c_j0, w2c_j1, w2c_j2, w2c_j3, w2c_j4, w2c_j5, w2c_i6, w2c_j7, w2c_j8);
   w2c_p6 = w2c_i0;
   w2c_f1(instance);
   w2c_i0 = w2c_p6;
   return w2c_i0;
 }
-static u32 w2c_f45(struct instance *instance, u64 w2c_p0, u64 w2c_p1, u64 w2c_p2, u64 w2c_p3, u64 w2c_p4, u64 w2c_p5, u32 w2c_p6, u64 w2c_p7, 
+static u32 w2c_f83(struct instance *instance, u64 w2c_p0, u64 w2c_p1, u64 w2c_p2, u64 w2c_p3, u64 w2c_p4, u64 w2c_p5, u32 w2c_p6, u64 w2c_p7, 
     u64 w2c_p8) {
   u32 w2c_l10 = 0, w2c_l11 = 0;
   u64 w2c_l9 = 0;
@@ -11208,7 +16057,7 @@ static u32 w2c_f45(struct instance *instance, u64 w2c_p0, u64 w2c_p1, u64 w2c_p2
   w2c_j6 = w2c_i8 ? w2c_j6 : w2c_j7;
   w2c_j5 += w2c_j6;
   w2c_j6 = w2c_p8;
-  w2c_f13(instance, w2c_j0, w2c_j1, w2c_i2, w2c_j3, w2c_j4, w2c_j5, w2c_j6);
+  w2c_f15(instance, w2c_j0, w2c_j1, w2c_i2, w2c_j3, w2c_j4, w2c_j5, w2c_j6);
   w2c_i0 = 0u;
   w2c_l10 = w2c_i0;
   w2c_B1:;
@@ -11234,13 +16083,13 @@ static u32 w2c_keywrap_self_test(struct instance *instance) {
   w2c_f2(instance);
   UNREACHABLE;
   w2c_B0:;
-  w2c_i0 = w2c_f47(instance);
+  w2c_i0 = w2c_f85(instance);
   w2c_l0 = w2c_i0;
   w2c_f1(instance);
   w2c_i0 = w2c_l0;
   return w2c_i0;
 }
-static u32 w2c_f47(struct instance *instance) {
+static u32 w2c_f85(struct instance *instance) {
   u32 w2c_l1 = 0, w2c_l2 = 0, w2c_l3 = 0, w2c_l4 = 0, w2c_l5 = 0, w2c_l6 = 0, w2c_l7 = 0, w2c_l8 = 0, 
       w2c_l9 = 0;
   u64 w2c_l0 = 0;
@@ -11264,7 +16113,7 @@ static u32 w2c_f47(struct instance *instance) {
   w2c_j3 = 16ull;
   w2c_j4 = 68168ull;
   w2c_j5 = 24ull;
-  w2c_i0 = w2c_f14(instance, w2c_j0, w2c_j1, w2c_j2, w2c_j3, w2c_j4, w2c_j5);
+  w2c_i0 = w2c_f16(instance, w2c_j0, w2c_j1, w2c_j2, w2c_j3, w2c_j4, w2c_j5);
   w2c_l1 = w2c_i0;
   w2c_j0 = 68192ull;
   w2c_j1 = 24ull;
@@ -11272,7 +16121,7 @@ static u32 w2c_f47(struct instance *instance) {
   w2c_j3 = 16ull;
   w2c_j4 = 68216ull;
   w2c_j5 = 24ull;
-  w2c_i0 = w2c_f14(instance, w2c_j0, w2c_j1, w2c_j2, w2c_j3, w2c_j4, w2c_j5);
+  w2c_i0 = w2c_f16(instance, w2c_j0, w2c_j1, w2c_j2, w2c_j3, w2c_j4, w2c_j5);
   w2c_l2 = w2c_i0;
   w2c_j0 = 68240ull;
   w2c_j1 = 32ull;
@@ -11280,7 +16129,7 @@ static u32 w2c_f47(struct instance *instance) {
   w2c_j3 = 16ull;
   w2c_j4 = 68272ull;
   w2c_j5 = 24ull;
-  w2c_i0 = w2c_f14(instance, w2c_j0, w2c_j1, w2c_j2, w2c_j3, w2c_j4, w2c_j5);
+  w2c_i0 = w2c_f16(instance, w2c_j0, w2c_j1, w2c_j2, w2c_j3, w2c_j4, w2c_j5);
   w2c_l3 = w2c_i0;
   w2c_j0 = 68192ull;
   w2c_j1 = 24ull;
@@ -11288,7 +16137,7 @@ static u32 w2c_f47(struct instance *instance) {
   w2c_j3 = 24ull;
   w2c_j4 = 68320ull;
   w2c_j5 = 32ull;
-  w2c_i0 = w2c_f14(instance, w2c_j0, w2c_j1, w2c_j2, w2c_j3, w2c_j4, w2c_j5);
+  w2c_i0 = w2c_f16(instance, w2c_j0, w2c_j1, w2c_j2, w2c_j3, w2c_j4, w2c_j5);
   w2c_l4 = w2c_i0;
   w2c_j0 = 68240ull;
   w2c_j1 = 32ull;
@@ -11296,7 +16145,7 @@ static u32 w2c_f47(struct instance *instance) {
   w2c_j3 = 24ull;
   w2c_j4 = 68352ull;
   w2c_j5 = 32ull;
-  w2c_i0 = w2c_f14(instance, w2c_j0, w2c_j1, w2c_j2, w2c_j3, w2c_j4, w2c_j5);
+  w2c_i0 = w2c_f16(instance, w2c_j0, w2c_j1, w2c_j2, w2c_j3, w2c_j4, w2c_j5);
   w2c_l5 = w2c_i0;
   w2c_j0 = 68240ull;
   w2c_j1 = 32ull;
@@ -11304,19 +16153,19 @@ static u32 w2c_f47(struct instance *instance) {
   w2c_j3 = 32ull;
   w2c_j4 = 68416ull;
   w2c_j5 = 40ull;
-  w2c_i0 = w2c_f14(instance, w2c_j0, w2c_j1, w2c_j2, w2c_j3, w2c_j4, w2c_j5);
+  w2c_i0 = w2c_f16(instance, w2c_j0, w2c_j1, w2c_j2, w2c_j3, w2c_j4, w2c_j5);
   w2c_l6 = w2c_i0;
   w2c_j0 = 68480ull;
   w2c_j1 = 20ull;
   w2c_j2 = 68500ull;
   w2c_j3 = 32ull;
-  w2c_i0 = w2c_f17(instance, w2c_j0, w2c_j1, w2c_j2, w2c_j3);
+  w2c_i0 = w2c_f19(instance, w2c_j0, w2c_j1, w2c_j2, w2c_j3);
   w2c_l7 = w2c_i0;
   w2c_j0 = 68532ull;
   w2c_j1 = 7ull;
   w2c_j2 = 68539ull;
   w2c_j3 = 16ull;
-  w2c_i0 = w2c_f17(instance, w2c_j0, w2c_j1, w2c_j2, w2c_j3);
+  w2c_i0 = w2c_f19(instance, w2c_j0, w2c_j1, w2c_j2, w2c_j3);
   w2c_l8 = w2c_i0;
   w2c_j0 = w2c_l0;
   w2c_j1 = 52ull;
@@ -11455,13 +16304,13 @@ static u64 w2c_keywrap_status_text(struct instance *instance, u32 w2c_p0, u64 w2
   w2c_i0 = w2c_p0;
   w2c_j1 = w2c_p1;
   w2c_j2 = w2c_p2;
-  w2c_j0 = w2c_f49(instance, w2c_i0, w2c_j1, w2c_j2);
+  w2c_j0 = w2c_f87(instance, w2c_i0, w2c_j1, w2c_j2);
   w2c_p2 = w2c_j0;
   w2c_f1(instance);
   w2c_j0 = w2c_p2;
   return w2c_j0;
 }
-static u64 w2c_f49(struct instance *instance, u32 w2c_p0, u64 w2c_p1, u64 w2c_p2) {
+static u64 w2c_f87(struct instance *instance, u32 w2c_p0, u64 w2c_p1, u64 w2c_p2) {
   u64 w2c_l3 = 0, w2c_l4 = 0, w2c_l5 = 0, w2c_l6 = 0, w2c_l7 = 0, w2c_l8 = 0, w2c_l9 = 0, w2c_l10 = 0, 
       w2c_l11 = 0;
   const struct memory memory = instance->w2c_memory;
@@ -11488,11 +16337,11 @@ static u64 w2c_f49(struct instance *instance, u32 w2c_p0, u64 w2c_p1, u64 w2c_p2
   w2c_j0 <<= (w2c_j1 & 63);
   w2c_l5 = w2c_j0;
   w2c_i0 = (u32)(w2c_j0);
-  w2c_j0 = constant_i64_load((u64)(w2c_i0) + 68864u);
+  w2c_j0 = constant_i64_load((u64)(w2c_i0) + 68904u);
   w2c_l3 = w2c_j0;
   w2c_j0 = w2c_l5;
   w2c_i0 = (u32)(w2c_j0);
-  w2c_j0 = constant_i64_load((u64)(w2c_i0) + 68792u);
+  w2c_j0 = constant_i64_load((u64)(w2c_i0) + 68832u);
   w2c_l4 = w2c_j0;
   w2c_B1:;
   w2c_j0 = w2c_p2;
@@ -11652,6 +16501,47 @@ static u64 w2c_f49(struct instance *instance, u32 w2c_p0, u64 w2c_p1, u64 w2c_p2
   return w2c_j0;
 }
 #endif
+static u64 w2c_keywrap_step_count(struct instance *instance, u64 w2c_p0) {
+  const struct memory memory = instance->w2c_memory;
+  (void)memory;
+  u32 w2c_i0;
+  u64 w2c_j0;
+  w2c_i0 = w2c_f0(instance);
+  w2c_i0 = !(w2c_i0);
+  if (w2c_i0) {goto w2c_B0;}
+  w2c_f2(instance);
+  UNREACHABLE;
+  w2c_B0:;
+  w2c_j0 = w2c_p0;
+  w2c_j0 = w2c_f89(instance, w2c_j0);
+  w2c_p0 = w2c_j0;
+  w2c_f1(instance);
+  w2c_j0 = w2c_p0;
+  return w2c_j0;
+}
+static u64 w2c_f89(struct instance *instance, u64 w2c_p0) {
+  const struct memory memory = instance->w2c_memory;
+  (void)memory;
+  u32 w2c_i0, w2c_i2;
+  u64 w2c_j0, w2c_j1, w2c_j2, w2c_j3;
+  w2c_j0 = instance->w2c_g0;
+  w2c_j1 = 15ull;
+  w2c_i0 = (u64)((s64)w2c_j0 > (s64)w2c_j1);
+  if (w2c_i0) {goto w2c_B0;}
+  UNREACHABLE;
+  w2c_B0:;
+  w2c_j0 = 1ull;
+  w2c_j1 = w2c_p0;
+  w2c_j2 = 3ull;
+  w2c_j1 >>= (w2c_j2 & 63);
+  w2c_j2 = 6ull;
+  w2c_j1 *= w2c_j2;
+  w2c_j2 = w2c_p0;
+  w2c_j3 = 8ull;
+  w2c_i2 = w2c_j2 == w2c_j3;
+  w2c_j0 = w2c_i2 ? w2c_j0 : w2c_j1;
+  return w2c_j0;
+}
 static u32 w2c_keywrap_step_unwrap(struct instance *instance, u64 w2c_p0, u64 w2c_p1, u64 w2c_p2, u64 w2c_p3) {
   u32 w2c_l4 = 0;
   const struct memory memory = instance->w2c_memory;
@@ -11668,13 +16558,13 @@ static u32 w2c_keywrap_step_unwrap(struct instance *instance, u64 w2c_p0, u64 w2
   w2c_j1 = w2c_p1;
   w2c_j2 = w2c_p2;
   w2c_j3 = w2c_p3;
-  w2c_i0 = w2c_f51(instance, w2c_j0, w2c_j1, w2c_j2, w2c_j3);
+  w2c_i0 = w2c_f91(instance, w2c_j0, w2c_j1, w2c_j2, w2c_j3);
   w2c_l4 = w2c_i0;
   w2c_f1(instance);
   w2c_i0 = w2c_l4;
   return w2c_i0;
 }
-static u32 w2c_f51(struct instance *instance, u64 w2c_p0, u64 w2c_p1, u64 w2c_p2, u64 w2c_p3) {
+static u32 w2c_f91(struct instance *instance, u64 w2c_p0, u64 w2c_p1, u64 w2c_p2, u64 w2c_p3) {
   u32 w2c_l4 = 0;
   u64 w2c_l5 = 0, w2c_l6 = 0, w2c_l7 = 0;
   const struct memory memory = instance->w2c_memory;
@@ -11859,13 +16749,13 @@ static u32 w2c_keywrap_step_wrap(struct instance *instance, u64 w2c_p0, u64 w2c_
   w2c_j1 = w2c_p1;
   w2c_j2 = w2c_p2;
   w2c_j3 = w2c_p3;
-  w2c_i0 = w2c_f53(instance, w2c_j0, w2c_j1, w2c_j2, w2c_j3);
+  w2c_i0 = w2c_f93(instance, w2c_j0, w2c_j1, w2c_j2, w2c_j3);
   w2c_l4 = w2c_i0;
   w2c_f1(instance);
   w2c_i0 = w2c_l4;
   return w2c_i0;
 }
-static u32 w2c_f53(struct instance *instance, u64 w2c_p0, u64 w2c_p1, u64 w2c_p2, u64 w2c_p3) {
+static u32 w2c_f93(struct instance *instance, u64 w2c_p0, u64 w2c_p1, u64 w2c_p2, u64 w2c_p3) {
   u32 w2c_l4 = 0;
   u64 w2c_l5 = 0, w2c_l6 = 0, w2c_l7 = 0, w2c_l8 = 0, w2c_l9 = 0;
   const struct memory memory = instance->w2c_memory;
@@ -12058,13 +16948,13 @@ static u32 w2c_keywrap_unwrap(struct instance *instance, u64 w2c_p0, u64 w2c_p1,
   w2c_j3 = w2c_p3;
   w2c_j4 = w2c_p4;
   w2c_j5 = w2c_p5;
-  w2c_i0 = w2c_f55(instance, w2c_j0, w2c_j1, w2c_j2, w2c_j3, w2c_j4, w2c_j5);
+  w2c_i0 = w2c_f95(instance, w2c_j0, w2c_j1, w2c_j2, w2c_j3, w2c_j4, w2c_j5);
   w2c_l6 = w2c_i0;
   w2c_f1(instance);
   w2c_i0 = w2c_l6;
   return w2c_i0;
 }
-static u32 w2c_f55(struct instance *instance, u64 w2c_p0, u64 w2c_p1, u64 w2c_p2, u64 w2c_p3, u64 w2c_p4, u64 w2c_p5) {
+static u32 w2c_f95(struct instance *instance, u64 w2c_p0, u64 w2c_p1, u64 w2c_p2, u64 w2c_p3, u64 w2c_p4, u64 w2c_p5) {
   const struct memory memory = instance->w2c_memory;
   (void)memory;
   u32 w2c_i0, w2c_i3, w2c_i5, w2c_i7;
@@ -12093,7 +16983,7 @@ static u32 w2c_f55(struct instance *instance, u64 w2c_p0, u64 w2c_p1, u64 w2c_p2
   w2c_j5 = w2c_i7 ? w2c_j5 : w2c_j6;
   w2c_j4 += w2c_j5;
   w2c_j5 = w2c_p5;
-  w2c_i0 = w2c_f16(instance, w2c_j0, w2c_j1, w2c_j2, w2c_j3, w2c_j4, w2c_j5);
+  w2c_i0 = w2c_f18(instance, w2c_j0, w2c_j1, w2c_j2, w2c_j3, w2c_j4, w2c_j5);
   return w2c_i0;
 }
 static u32 w2c_keywrap_unwrap_any(struct instance *instance, u64 w2c_p0, u64 w2c_p1, u64 w2c_p2, u64 w2c_p3, u64 w2c_p4, u64 w2c_p5, u64 w2c_p6, u64 w2c_p7) {
@@ -12116,13 +17006,13 @@ static u32 w2c_keywrap_unwrap_any(struct instance *instance, u64 w2c_p0, u64 w2c
   w2c_j5 = w2c_p5;
   w2c_j6 = w2c_p6;
   w2c_j7 = w2c_p7;
-  w2c_i0 = w2c_f57(instance, w2c_j0, w2c_j1, w2c_j2, w2c_j3, w2c_j4, w2c_j5, w2c_j6, w2c_j7);
+  w2c_i0 = w2c_f97(instance, w2c_j0, w2c_j1, w2c_j2, w2c_j3, w2c_j4, w2c_j5, w2c_j6, w2c_j7);
   w2c_l8 = w2c_i0;
   w2c_f1(instance);
   w2c_i0 = w2c_l8;
   return w2c_i0;
 }
-static u32 w2c_f57(struct instance *instance, u64 w2c_p0, u64 w2c_p1, u64 w2c_p2, u64 w2c_p3, u64 w2c_p4, u64 w2c_p5, u64 w2c_p6, u64 w2c_p7) {
+static u32 w2c_f97(struct instance *instance, u64 w2c_p0, u64 w2c_p1, u64 w2c_p2, u64 w2c_p3, u64 w2c_p4, u64 w2c_p5, u64 w2c_p6, u64 w2c_p7) {
   u32 w2c_l9 = 0;
   u64 w2c_l8 = 0;
   const struct memory memory = instance->w2c_memory;
@@ -12290,13 +17180,13 @@ static u32 w2c_keywrap_unwrap_in_place(struct instance *instance, u64 w2c_p0, u6
   w2c_j1 = w2c_p1;
   w2c_j2 = w2c_p2;
   w2c_j3 = w2c_p3;
-  w2c_i0 = w2c_f59(instance, w2c_j0, w2c_j1, w2c_j2, w2c_j3);
+  w2c_i0 = w2c_f99(instance, w2c_j0, w2c_j1, w2c_j2, w2c_j3);
   w2c_l4 = w2c_i0;
   w2c_f1(instance);
   w2c_i0 = w2c_l4;
   return w2c_i0;
 }
-static u32 w2c_f59(struct instance *instance, u64 w2c_p0, u64 w2c_p1, u64 w2c_p2, u64 w2c_p3) {
+static u32 w2c_f99(struct instance *instance, u64 w2c_p0, u64 w2c_p1, u64 w2c_p2, u64 w2c_p3) {
   u32 w2c_l5 = 0;
   u64 w2c_l4 = 0;
   const struct memory memory = instance->w2c_memory;
@@ -12499,13 +17389,13 @@ static u32 w2c_keywrap_unwrap_many(struct instance *instance, u64 w2c_p0, u64 w2
   w2c_j6 = w2c_p6;
   w2c_j7 = w2c_p7;
   w2c_j8 = w2c_p8;
-  w2c_i0 = w2c_f61(instance, w2c_j0, w2c_j1, w2c_j2, w2c_j3, w2c_i4, w2c_j5, w2c_j6, w2c_j7, w2c_j8);
+  w2c_i0 = w2c_f101(instance, w2c_j0, w2c_j1, w2c_j2, w2c_j3, w2c_i4, w2c_j5, w2c_j6, w2c_j7, w2c_j8);
   w2c_p4 = w2c_i0;
   w2c_f1(instance);
   w2c_i0 = w2c_p4;
   return w2c_i0;
 }
-static u32 w2c_f61(struct instance *instance, u64 w2c_p0, u64 w2c_p1, u64 w2c_p2, u64 w2c_p3, u32 w2c_p4, u64 w2c_p5, u64 w2c_p6, u64 w2c_p7, 
+static u32 w2c_f101(struct instance *instance, u64 w2c_p0, u64 w2c_p1, u64 w2c_p2, u64 w2c_p3, u32 w2c_p4, u64 w2c_p5, u64 w2c_p6, u64 w2c_p7, 
     u64 w2c_p8) {
   u32 w2c_l10 = 0, w2c_l11 = 0;
   u64 w2c_l9 = 0;
@@ -12640,7 +17530,7 @@ static u32 w2c_f61(struct instance *instance, u64 w2c_p0, u64 w2c_p1, u64 w2c_p2
   w2c_j6 = w2c_i8 ? w2c_j6 : w2c_j7;
   w2c_j5 += w2c_j6;
   w2c_j6 = w2c_p8;
-  w2c_f20(instance, w2c_j0, w2c_i1, w2c_j2, w2c_j3, w2c_j4, w2c_j5, w2c_j6);
+  w2c_f22(instance, w2c_j0, w2c_i1, w2c_j2, w2c_j3, w2c_j4, w2c_j5, w2c_j6);
   w2c_i0 = 0u;
   w2c_l10 = w2c_i0;
   w2c_B1:;
@@ -12674,13 +17564,13 @@ static u32 w2c_keywrap_unwrap_padded(struct instance *instance, u64 w2c_p0, u64 
   w2c_j4 = w2c_p4;
   w2c_j5 = w2c_p5;
   w2c_j6 = w2c_p6;
-  w2c_i0 = w2c_f63(instance, w2c_j0, w2c_j1, w2c_j2, w2c_j3, w2c_j4, w2c_j5, w2c_j6);
+  w2c_i0 = w2c_f103(instance, w2c_j0, w2c_j1, w2c_j2, w2c_j3, w2c_j4, w2c_j5, w2c_j6);
   w2c_l7 = w2c_i0;
   w2c_f1(instance);
   w2c_i0 = w2c_l7;
   return w2c_i0;
 }
-static u32 w2c_f63(struct instance *instance, u64 w2c_p0, u64 w2c_p1, u64 w2c_p2, u64 w2c_p3, u64 w2c_p4, u64 w2c_p5, u64 w2c_p6) {
+static u32 w2c_f103(struct instance *instance, u64 w2c_p0, u64 w2c_p1, u64 w2c_p2, u64 w2c_p3, u64 w2c_p4, u64 w2c_p5, u64 w2c_p6) {
   const struct memory memory = instance->w2c_memory;
   (void)memory;
   u32 w2c_i0, w2c_i3, w2c_i5, w2c_i7;
@@ -12710,7 +17600,7 @@ static u32 w2c_f63(struct instance *instance, u64 w2c_p0, u64 w2c_p1, u64 w2c_p2
   w2c_j4 += w2c_j5;
   w2c_j5 = w2c_p5;
   w2c_j6 = w2c_p6;
-  w2c_i0 = w2c_f19(instance, w2c_j0, w2c_j1, w2c_j2, w2c_j3, w2c_j4, w2c_j5, w2c_j6);
+  w2c_i0 = w2c_f21(instance, w2c_j0, w2c_j1, w2c_j2, w2c_j3, w2c_j4, w2c_j5, w2c_j6);
   return w2c_i0;
 }
 static u32 w2c_keywrap_unwrap_padded_in_place(struct instance *instance, u64 w2c_p0, u64 w2c_p1, u64 w2c_p2, u64 w2c_p3, u64 w2c_p4) {
@@ -12730,13 +17620,13 @@ static u32 w2c_keywrap_unwrap_padded_in_place(struct instance *instance, u64 w2c
   w2c_j2 = w2c_p2;
   w2c_j3 = w2c_p3;
   w2c_j4 = w2c_p4;
-  w2c_i0 = w2c_f65(instance, w2c_j0, w2c_j1, w2c_j2, w2c_j3, w2c_j4);
+  w2c_i0 = w2c_f105(instance, w2c_j0, w2c_j1, w2c_j2, w2c_j3, w2c_j4);
   w2c_l5 = w2c_i0;
   w2c_f1(instance);
   w2c_i0 = w2c_l5;
   return w2c_i0;
 }
-static u32 w2c_f65(struct instance *instance, u64 w2c_p0, u64 w2c_p1, u64 w2c_p2, u64 w2c_p3, u64 w2c_p4) {
+static u32 w2c_f105(struct instance *instance, u64 w2c_p0, u64 w2c_p1, u64 w2c_p2, u64 w2c_p3, u64 w2c_p4) {
   u32 w2c_l8 = 0;
   u64 w2c_l5 = 0, w2c_l6 = 0, w2c_l7 = 0;
   const struct memory memory = instance->w2c_memory;
@@ -13024,13 +17914,13 @@ static u32 w2c_keywrap_unwrap_with(struct instance *instance, u64 w2c_p0, u64 w2
   w2c_j5 = w2c_p5;
   w2c_j6 = w2c_p6;
   w2c_j7 = w2c_p7;
-  w2c_i0 = w2c_f67(instance, w2c_j0, w2c_j1, w2c_j2, w2c_j3, w2c_j4, w2c_j5, w2c_j6, w2c_j7);
+  w2c_i0 = w2c_f107(instance, w2c_j0, w2c_j1, w2c_j2, w2c_j3, w2c_j4, w2c_j5, w2c_j6, w2c_j7);
   w2c_l8 = w2c_i0;
   w2c_f1(instance);
   w2c_i0 = w2c_l8;
   return w2c_i0;
 }
-static u32 w2c_f67(struct instance *instance, u64 w2c_p0, u64 w2c_p1, u64 w2c_p2, u64 w2c_p3, u64 w2c_p4, u64 w2c_p5, u64 w2c_p6, u64 w2c_p7) {
+static u32 w2c_f107(struct instance *instance, u64 w2c_p0, u64 w2c_p1, u64 w2c_p2, u64 w2c_p3, u64 w2c_p4, u64 w2c_p5, u64 w2c_p6, u64 w2c_p7) {
   u32 w2c_l14 = 0;
   u64 w2c_l8 = 0, w2c_l9 = 0, w2c_l10 = 0, w2c_l11 = 0, w2c_l12 = 0, w2c_l13 = 0;
   const struct memory memory = instance->w2c_memory;
@@ -13423,12 +18313,12 @@ static u32 w2c_keywrap_version(struct instance *instance) {
   w2c_f2(instance);
   UNREACHABLE;
   w2c_B0:;
-  w2c_f69(instance);
+  w2c_f109(instance);
   w2c_f1(instance);
   w2c_i0 = 66048u;
   return w2c_i0;
 }
-static void w2c_f69(struct instance *instance) {
+static void w2c_f109(struct instance *instance) {
   const struct memory memory = instance->w2c_memory;
   (void)memory;
   u32 w2c_i0;
@@ -13458,13 +18348,13 @@ static u32 w2c_keywrap_wrap(struct instance *instance, u64 w2c_p0, u64 w2c_p1, u
   w2c_j3 = w2c_p3;
   w2c_j4 = w2c_p4;
   w2c_j5 = w2c_p5;
-  w2c_i0 = w2c_f71(instance, w2c_j0, w2c_j1, w2c_j2, w2c_j3, w2c_j4, w2c_j5);
+  w2c_i0 = w2c_f111(instance, w2c_j0, w2c_j1, w2c_j2, w2c_j3, w2c_j4, w2c_j5);
   w2c_l6 = w2c_i0;
   w2c_f1(instance);
   w2c_i0 = w2c_l6;
   return w2c_i0;
 }
-static u32 w2c_f71(struct instance *instance, u64 w2c_p0, u64 w2c_p1, u64 w2c_p2, u64 w2c_p3, u64 w2c_p4, u64 w2c_p5) {
+static u32 w2c_f111(struct instance *instance, u64 w2c_p0, u64 w2c_p1, u64 w2c_p2, u64 w2c_p3, u64 w2c_p4, u64 w2c_p5) {
   u32 w2c_l8 = 0;
   u64 w2c_l6 = 0, w2c_l7 = 0;
   const struct memory memory = instance->w2c_memory;
@@ -13643,7 +18533,7 @@ static u32 w2c_f71(struct instance *instance, u64 w2c_p0, u64 w2c_p1, u64 w2c_p2
   w2c_j1 = 12008468691120727718ull;
   w2c_j2 = w2c_p4;
   w2c_j3 = w2c_p5;
-  w2c_f11(instance, w2c_j0, w2c_j1, w2c_j2, w2c_j3);
+  w2c_f13(instance, w2c_j0, w2c_j1, w2c_j2, w2c_j3);
   w2c_i0 = 0u;
   w2c_l8 = w2c_i0;
   w2c_B1:;
@@ -13674,13 +18564,13 @@ static u32 w2c_keywrap_wrap_in_place(struct instance *instance, u64 w2c_p0, u64 
   w2c_j1 = w2c_p1;
   w2c_j2 = w2c_p2;
   w2c_j3 = w2c_p3;
-  w2c_i0 = w2c_f73(instance, w2c_j0, w2c_j1, w2c_j2, w2c_j3);
+  w2c_i0 = w2c_f113(instance, w2c_j0, w2c_j1, w2c_j2, w2c_j3);
   w2c_l4 = w2c_i0;
   w2c_f1(instance);
   w2c_i0 = w2c_l4;
   return w2c_i0;
 }
-static u32 w2c_f73(struct instance *instance, u64 w2c_p0, u64 w2c_p1, u64 w2c_p2, u64 w2c_p3) {
+static u32 w2c_f113(struct instance *instance, u64 w2c_p0, u64 w2c_p1, u64 w2c_p2, u64 w2c_p3) {
   u32 w2c_l5 = 0;
   u64 w2c_l4 = 0;
   const struct memory memory = instance->w2c_memory;
@@ -13770,7 +18660,7 @@ static u32 w2c_f73(struct instance *instance, u64 w2c_p0, u64 w2c_p1, u64 w2c_p2
   w2c_j3 = w2c_i5 ? w2c_j3 : w2c_j4;
   w2c_j2 += w2c_j3;
   w2c_j3 = w2c_p3;
-  w2c_f11(instance, w2c_j0, w2c_j1, w2c_j2, w2c_j3);
+  w2c_f13(instance, w2c_j0, w2c_j1, w2c_j2, w2c_j3);
   w2c_i0 = 0u;
   w2c_l5 = w2c_i0;
   w2c_B1:;
@@ -13804,13 +18694,13 @@ static u32 w2c_keywrap_wrap_many(struct instance *instance, u64 w2c_p0, u64 w2c_
   w2c_i5 = w2c_p5;
   w2c_j6 = w2c_p6;
   w2c_j7 = w2c_p7;
-  w2c_i0 = w2c_f75(instance, w2c_j0, w2c_j1, w2c_j2, w2c_j3, w2c_j4, w2c_i5, w2c_j6, w2c_j7);
+  w2c_i0 = w2c_f115(instance, w2c_j0, w2c_j1, w2c_j2, w2c_j3, w2c_j4, w2c_i5, w2c_j6, w2c_j7);
   w2c_p5 = w2c_i0;
   w2c_f1(instance);
   w2c_i0 = w2c_p5;
   return w2c_i0;
 }
-static u32 w2c_f75(struct instance *instance, u64 w2c_p0, u64 w2c_p1, u64 w2c_p2, u64 w2c_p3, u64 w2c_p4, u32 w2c_p5, u64 w2c_p6, u64 w2c_p7) {
+static u32 w2c_f115(struct instance *instance, u64 w2c_p0, u64 w2c_p1, u64 w2c_p2, u64 w2c_p3, u64 w2c_p4, u32 w2c_p5, u64 w2c_p6, u64 w2c_p7) {
   u32 w2c_l9 = 0;
   u64 w2c_l8 = 0;
   const struct memory memory = instance->w2c_memory;
@@ -13951,7 +18841,7 @@ static u32 w2c_f75(struct instance *instance, u64 w2c_p0, u64 w2c_p1, u64 w2c_p2
   w2c_j6 = w2c_i8 ? w2c_j6 : w2c_j7;
   w2c_j5 += w2c_j6;
   w2c_j6 = w2c_p7;
-  w2c_f21(instance, w2c_j0, w2c_i1, w2c_j2, w2c_j3, w2c_j4, w2c_j5, w2c_j6);
+  w2c_f23(instance, w2c_j0, w2c_i1, w2c_j2, w2c_j3, w2c_j4, w2c_j5, w2c_j6);
   w2c_i0 = 0u;
   w2c_l9 = w2c_i0;
   w2c_B1:;
@@ -13984,13 +18874,13 @@ static u32 w2c_keywrap_wrap_padded(struct instance *instance, u64 w2c_p0, u64 w2
   w2c_j3 = w2c_p3;
   w2c_j4 = w2c_p4;
   w2c_j5 = w2c_p5;
-  w2c_i0 = w2c_f77(instance, w2c_j0, w2c_j1, w2c_j2, w2c_j3, w2c_j4, w2c_j5);
+  w2c_i0 = w2c_f117(instance, w2c_j0, w2c_j1, w2c_j2, w2c_j3, w2c_j4, w2c_j5);
   w2c_l6 = w2c_i0;
   w2c_f1(instance);
   w2c_i0 = w2c_l6;
   return w2c_i0;
 }
-static u32 w2c_f77(struct instance *instance, u64 w2c_p0, u64 w2c_p1, u64 w2c_p2, u64 w2c_p3, u64 w2c_p4, u64 w2c_p5) {
+static u32 w2c_f117(struct instance *instance, u64 w2c_p0, u64 w2c_p1, u64 w2c_p2, u64 w2c_p3, u64 w2c_p4, u64 w2c_p5) {
   const struct memory memory = instance->w2c_memory;
   (void)memory;
   u32 w2c_i0, w2c_i3, w2c_i5, w2c_i7;
@@ -14019,7 +18909,7 @@ static u32 w2c_f77(struct instance *instance, u64 w2c_p0, u64 w2c_p1, u64 w2c_p2
   w2c_j5 = w2c_i7 ? w2c_j5 : w2c_j6;
   w2c_j4 += w2c_j5;
   w2c_j5 = w2c_p5;
-  w2c_i0 = w2c_f18(instance, w2c_j0, w2c_j1, w2c_j2, w2c_j3, w2c_j4, w2c_j5);
+  w2c_i0 = w2c_f20(instance, w2c_j0, w2c_j1, w2c_j2, w2c_j3, w2c_j4, w2c_j5);
   return w2c_i0;
 }
 static u32 w2c_keywrap_wrap_padded_in_place(struct instance *instance, u64 w2c_p0, u64 w2c_p1, u64 w2c_p2, u64 w2c_p3, u64 w2c_p4) {
@@ -14039,13 +18929,13 @@ static u32 w2c_keywrap_wrap_padded_in_place(struct instance *instance, u64 w2c_p
   w2c_j2 = w2c_p2;
   w2c_j3 = w2c_p3;
   w2c_j4 = w2c_p4;
-  w2c_i0 = w2c_f79(instance, w2c_j0, w2c_j1, w2c_j2, w2c_j3, w2c_j4);
+  w2c_i0 = w2c_f119(instance, w2c_j0, w2c_j1, w2c_j2, w2c_j3, w2c_j4);
   w2c_l5 = w2c_i0;
   w2c_f1(instance);
   w2c_i0 = w2c_l5;
   return w2c_i0;
 }
-static u32 w2c_f79(struct instance *instance, u64 w2c_p0, u64 w2c_p1, u64 w2c_p2, u64 w2c_p3, u64 w2c_p4) {
+static u32 w2c_f119(struct instance *instance, u64 w2c_p0, u64 w2c_p1, u64 w2c_p2, u64 w2c_p3, u64 w2c_p4) {
   u32 w2c_l6 = 0;
   u64 w2c_l5 = 0;
   const struct memory memory = instance->w2c_memory;
@@ -14179,7 +19069,7 @@ static u32 w2c_f79(struct instance *instance, u64 w2c_p0, u64 w2c_p1, u64 w2c_p2
   w2c_j1 |= w2c_j2;
   w2c_j2 = w2c_p0;
   w2c_j3 = w2c_p3;
-  w2c_f11(instance, w2c_j0, w2c_j1, w2c_j2, w2c_j3);
+  w2c_f13(instance, w2c_j0, w2c_j1, w2c_j2, w2c_j3);
   w2c_i0 = 0u;
   w2c_l6 = w2c_i0;
   w2c_B1:;
@@ -14214,13 +19104,13 @@ static u32 w2c_keywrap_wrap_with(struct instance *instance, u64 w2c_p0, u64 w2c_
   w2c_j5 = w2c_p5;
   w2c_j6 = w2c_p6;
   w2c_j7 = w2c_p7;
-  w2c_i0 = w2c_f81(instance, w2c_j0, w2c_j1, w2c_j2, w2c_j3, w2c_j4, w2c_j5, w2c_j6, w2c_j7);
+  w2c_i0 = w2c_f121(instance, w2c_j0, w2c_j1, w2c_j2, w2c_j3, w2c_j4, w2c_j5, w2c_j6, w2c_j7);
   w2c_l8 = w2c_i0;
   w2c_f1(instance);
   w2c_i0 = w2c_l8;
   return w2c_i0;
 }
-static u32 w2c_f81(struct instance *instance, u64 w2c_p0, u64 w2c_p1, u64 w2c_p2, u64 w2c_p3, u64 w2c_p4, u64 w2c_p5, u64 w2c_p6, u64 w2c_p7) {
+static u32 w2c_f121(struct instance *instance, u64 w2c_p0, u64 w2c_p1, u64 w2c_p2, u64 w2c_p3, u64 w2c_p4, u64 w2c_p5, u64 w2c_p6, u64 w2c_p7) {
   u32 w2c_l10 = 0;
   u64 w2c_l8 = 0, w2c_l9 = 0;
   const struct memory memory = instance->w2c_memory;
@@ -14463,7 +19353,7 @@ static u32 w2c_f81(struct instance *instance, u64 w2c_p0, u64 w2c_p1, u64 w2c_p2
   w2c_j1 = w2c_l9;
   w2c_j2 = w2c_p1;
   w2c_j3 = w2c_p7;
-  w2c_f11(instance, w2c_j0, w2c_j1, w2c_j2, w2c_j3);
+  w2c_f13(instance, w2c_j0, w2c_j1, w2c_j2, w2c_j3);
   w2c_i0 = 0u;
   w2c_l10 = w2c_i0;
   w2c_B1:;
@@ -14880,6 +19770,12 @@ ALWAYS_INLINE u64 perform_steps(struct call *call) {
     return perform_in(call, STEPS_STACK);
 }
 
+/* It uses no memory of the module. */
+uint64_t keywrap_step_count(size_t len) {
+    struct instance module = WITHOUT_MEMORY;
+    return w2c_keywrap_step_count(&module, len);
+}
+
 static u64 run_begin_wrap(struct instance *module, const struct call *call) {
     return w2c_keywrap_begin_wrap(module, BUFFER(0), BUFFER(1), NUMBER, BLOCK_AT);
 }
@@ -15028,6 +19924,82 @@ int32_t keywrap_end_unwrap_padded(uint8_t *registers, size_t len, uint64_t left,
     return (int32_t)perform_steps(&call);
 }
 
+static u64 run_end_unwrap_any(struct instance *module, const struct call *call) {
+    return w2c_keywrap_end_unwrap_any(module, BUFFER(0), call->number, BLOCK_AT, FLAG, NUMBER);
+}
+
+int32_t keywrap_end_unwrap_any(uint8_t *registers, size_t len, uint64_t left, uint8_t *block,
+                               uint32_t *padded, size_t *key_len) {
+    struct buffer buffers[] = {WRITES(registers, len, KEYWRAP_MAX_KEY)};
+    struct call call = {
+        .run = run_end_unwrap_any,
+        BUFFERS,
+        .number = left,
+        .key_len = key_len,
+        .flag = padded,
+        .block = block,
+    };
+    return (int32_t)perform_steps(&call);
+}
+
+static u64 run_begin_rewrap(struct instance *module, const struct call *call) {
+    return w2c_keywrap_begin_rewrap(module, call->flags, BUFFER(0), FLAG, NUMBER, BLOCK_AT);
+}
+
+int32_t keywrap_begin_rewrap(uint32_t flags, const uint8_t *text, size_t text_len, uint32_t *phase,
+                             uint64_t *steps, uint8_t *block) {
+    struct buffer buffers[] = {READS(text, text_len, KEYWRAP_MAX_TEXT)};
+    struct call call = {
+        .run = run_begin_rewrap,
+        BUFFERS,
+        .flags = flags,
+        .flag = phase,
+        .steps = steps,
+        .block = block,
+        .begins = 1,
+    };
+    return (int32_t)perform_steps(&call);
+}
+
+static u64 run_next_rewrap(struct instance *module, const struct call *call) {
+    return w2c_keywrap_next_rewrap(module, call->flags, BUFFER(0), FLAG, NUMBER, BLOCK_AT);
+}
+
+int32_t keywrap_next_rewrap(uint32_t flags, uint8_t *text, size_t text_len, uint32_t *phase,
+                            uint64_t *steps, uint8_t *block) {
+    struct buffer buffers[] = {WRITES(text, text_len, KEYWRAP_MAX_TEXT)};
+    struct call call = {
+        .run = run_next_rewrap,
+        BUFFERS,
+        .flags = flags,
+        .flag = phase,
+        .steps = steps,
+        .block = block,
+    };
+    return (int32_t)perform_steps(&call);
+}
+
+static u64 run_next_rewrap_from(struct instance *module, const struct call *call) {
+    return w2c_keywrap_next_rewrap_from(module, call->flags, BUFFER(0), BUFFER(1), FLAG, NUMBER,
+                                        BLOCK_AT);
+}
+
+int32_t keywrap_next_rewrap_from(uint32_t flags, const uint8_t *copy, size_t copy_len,
+                                 uint8_t *text, size_t text_len, uint32_t *phase, uint64_t *steps,
+                                 uint8_t *block) {
+    struct buffer buffers[] = {READS(copy, copy_len, KEYWRAP_MAX_TEXT),
+                               WRITES(text, text_len, KEYWRAP_MAX_TEXT)};
+    struct call call = {
+        .run = run_next_rewrap_from,
+        BUFFERS,
+        .flags = flags,
+        .flag = phase,
+        .steps = steps,
+        .block = block,
+    };
+    return (int32_t)perform_steps(&call);
+}
+
 #ifdef WITH_AES
 /*** The calls by the processor's AES ***/
 
@@ -15087,9 +20059,11 @@ static APART void decrypt_8_blocks(const struct aes *aes, uint8_t blocks[8 * BLO
 
 static const uint8_t DEFAULT_IV[8] = {0xa6, 0xa6, 0xa6, 0xa6, 0xa6, 0xa6, 0xa6, 0xa6};
 
-/* Declares a call of the library that is proved as a whole, with the type of keywrap.h and the name
- * of c/hardware/names. */
-#define PROVED_CALL(call) __typeof__(keywrap_##call) proved_keywrap_##call
+/* On a processor without the instructions a call is the proved one of the whole library, by its name in
+ * c/hardware/names. */
+#define OR_PROVED(call, ...)                                                                       \
+    extern __typeof__(keywrap_##call) proved_keywrap_##call;                                       \
+    if (!aes_works()) return proved_keywrap_##call(__VA_ARGS__)
 
 /* A wrapping or an unwrapping that has begun. */
 struct run {
@@ -15097,13 +20071,13 @@ struct run {
     uint8_t block[BLOCK];
 };
 
-static inline int is_kek(size_t len) {
-    return aes_works() && (len == 16 || len == 24 || len == 32);
-}
-
-/* end_unwrap_any ends an unwrap in the form that the registers have. A refusal leaves any numbers. */
-static APART int32_t end_unwrap_any(struct run *run, uint8_t *registers, size_t len, uint32_t *padded,
-                       size_t *key_len);
+/* The calls for one key in place, in the form of the flags, whose arguments are checked. */
+static APART int32_t wrap_slot(const uint8_t *kek, size_t kek_len, uint32_t flags, uint8_t *text,
+                  size_t text_len, size_t key_len);
+static APART int32_t unwrap_slot(const uint8_t *kek, size_t kek_len, uint32_t flags, uint8_t *text,
+                    size_t text_len, size_t *key_len);
+static APART int32_t rewrap_slot(const uint8_t *old_kek, size_t old_kek_len, const uint8_t *new_kek,
+                    size_t new_kek_len, uint8_t *text, size_t text_len, uint32_t flags);
 
 #endif
 
@@ -15485,325 +20459,336 @@ int aes_works(void) {
     return known == WORKS;
 }
 
-/* keywrap.c: the calls of keywrap.h by the processor's AES, over the proved steps. Whatever a call
- * refuses, and every call on a processor without the instructions, goes to the proved call, whose
- * names begin with proved_ here: so the refusals are the same, and they are made in one place. */
+/* checks.c: the calls of keywrap_checks.h. A check of numbers uses no memory of the module. */
+
+static u64 run_check_plain(struct instance *module, const struct call *call) {
+    return w2c_keywrap_check_plain(module, call->numbers[0], BUFFER(0), call->numbers[1],
+                                   call->numbers[2]);
+}
+
+static int32_t keywrap_check_plain(size_t kek_len, const uint8_t *iv, size_t iv_len, size_t key_len,
+                                   size_t text_len) {
+    struct buffer buffers[] = {READS(iv, iv_len, 8)};
+    const u64 numbers[] = {kek_len, key_len, text_len};
+    struct call call = {.run = run_check_plain, BUFFERS, .numbers = numbers};
+    return (int32_t)perform_steps(&call);
+}
+
+static int32_t keywrap_check_padded(size_t kek_len, size_t key_len, size_t text_len) {
+    struct instance module = WITHOUT_MEMORY;
+    return (int32_t)w2c_keywrap_check_padded(&module, kek_len, key_len, text_len);
+}
+
+static int32_t keywrap_check_room(size_t kek_len, size_t room, size_t text_len) {
+    struct instance module = WITHOUT_MEMORY;
+    return (int32_t)w2c_keywrap_check_room(&module, kek_len, room, text_len);
+}
+
+static int32_t keywrap_check_kind(size_t kek_len, size_t room, size_t text_len) {
+    struct instance module = WITHOUT_MEMORY;
+    return (int32_t)w2c_keywrap_check_kind(&module, kek_len, room, text_len);
+}
+
+static int32_t keywrap_check_keks(size_t old_kek_len, size_t new_kek_len) {
+    struct instance module = WITHOUT_MEMORY;
+    return (int32_t)w2c_keywrap_check_keks(&module, old_kek_len, new_kek_len);
+}
+
+static int32_t keywrap_check_rewrap_in_place(size_t old_kek_len, size_t new_kek_len,
+                                             uint32_t forms) {
+    struct instance module = WITHOUT_MEMORY;
+    return (int32_t)w2c_keywrap_check_rewrap_in_place(&module, old_kek_len, new_kek_len, forms);
+}
+
+static int32_t keywrap_check_wrap_many(size_t kek_len, size_t texts_len, size_t key_len,
+                                       uint32_t flags, size_t count) {
+    struct instance module = WITHOUT_MEMORY;
+    return (int32_t)w2c_keywrap_check_wrap_many(&module, kek_len, texts_len, key_len, flags, count);
+}
+
+static int32_t keywrap_check_unwrap_many(size_t kek_len, size_t texts_len, uint32_t flags,
+                                         size_t key_lens, size_t count) {
+    struct instance module = WITHOUT_MEMORY;
+    return (int32_t)w2c_keywrap_check_unwrap_many(&module, kek_len, texts_len, flags, key_lens, count);
+}
+
+static int32_t keywrap_check_rewrap_many(size_t old_kek_len, size_t new_kek_len, size_t texts_len,
+                                         uint32_t flags, size_t count) {
+    struct instance module = WITHOUT_MEMORY;
+    return (int32_t)w2c_keywrap_check_rewrap_many(&module, old_kek_len, new_kek_len, texts_len, flags,
+                                                  count);
+}
+
+static int32_t keywrap_check_kind_many(size_t kek_len, size_t texts_len, size_t room, size_t forms,
+                                       size_t key_lens, size_t count) {
+    struct instance module = WITHOUT_MEMORY;
+    return (int32_t)w2c_keywrap_check_kind_many(&module, kek_len, texts_len, room, forms, key_lens,
+                                                count);
+}
+
+static u64 run_begin_wrap_slot(struct instance *module, const struct call *call) {
+    return w2c_keywrap_begin_wrap_slot(module, call->flags, call->number, BUFFER(0), NUMBER,
+                                       BLOCK_AT);
+}
+
+static int32_t keywrap_begin_wrap_slot(uint32_t flags, size_t key_len, uint8_t *registers,
+                                       size_t len, uint64_t *done, uint8_t *block) {
+    struct buffer buffers[] = {WRITES(registers, len, KEYWRAP_MAX_KEY)};
+    struct call call = {
+        .run = run_begin_wrap_slot,
+        BUFFERS,
+        .number = key_len,
+        .flags = flags,
+        .steps = done,
+        .block = block,
+        .begins = 1,
+    };
+    return (int32_t)perform_steps(&call);
+}
+
+static u64 run_end_unwrap_slot(struct instance *module, const struct call *call) {
+    return w2c_keywrap_end_unwrap_slot(module, call->flags, BUFFER(0), call->number, BLOCK_AT,
+                                       NUMBER);
+}
+
+static int32_t keywrap_end_unwrap_slot(uint32_t flags, uint8_t *registers, size_t len,
+                                       uint64_t left, uint8_t *block, size_t *key_len) {
+    struct buffer buffers[] = {WRITES(registers, len, KEYWRAP_MAX_KEY)};
+    struct call call = {
+        .run = run_end_unwrap_slot,
+        BUFFERS,
+        .number = left,
+        .flags = flags,
+        .key_len = key_len,
+        .block = block,
+    };
+    return (int32_t)perform_steps(&call);
+}
+
+static u64 run_end_rewrap(struct instance *module, const struct call *call) {
+    return w2c_keywrap_end_rewrap(module, call->flags, FLAG);
+}
+
+static int32_t keywrap_end_rewrap(uint32_t status, uint32_t *already) {
+    struct call call = {.run = run_end_rewrap, .flags = status, .flag = already};
+    return (int32_t)perform_steps(&call);
+}
+
+static u64 run_end_rewrap_in_place(struct instance *module, const struct call *call) {
+    return w2c_keywrap_end_rewrap_in_place(module, call->flags, BUFFER(0));
+}
+
+static int32_t keywrap_end_rewrap_in_place(uint32_t status, uint8_t *buffer, size_t len) {
+    struct buffer buffers[] = {WRITES(buffer, len, KEYWRAP_MAX_TEXT)};
+    struct call call = {.run = run_end_rewrap_in_place, BUFFERS, .flags = status};
+    return (int32_t)perform_steps(&call);
+}
+
+/* keywrap.c: the calls of keywrap.h by the processor's AES, over the proved steps. Each call begins with
+ * a proved check of its arguments. On a processor without the instructions it is the proved call,
+ * whose name begins with proved_ here. */
 
 
 
-PROVED_CALL(wrap);
-PROVED_CALL(unwrap);
-PROVED_CALL(wrap_with);
-PROVED_CALL(unwrap_with);
-PROVED_CALL(wrap_padded);
-PROVED_CALL(unwrap_padded);
-PROVED_CALL(wrap_in_place);
-PROVED_CALL(unwrap_in_place);
-PROVED_CALL(wrap_padded_in_place);
-PROVED_CALL(unwrap_padded_in_place);
-PROVED_CALL(kind);
-PROVED_CALL(unwrap_any);
-PROVED_CALL(rewrap);
-PROVED_CALL(rewrap_in_place);
-PROVED_CALL(self_test);
-
-/* Makes all steps, and writes the first 8 bytes of the wrapped key. */
-static int32_t wrap(const uint8_t *kek, size_t kek_len, struct run *run, uint8_t *first,
-                    uint8_t *registers, size_t len) {
-    const uint64_t steps = len == 8 ? 1 : 6 * (uint64_t)(len / 8);
+/* Makes all steps over the registers, or undoes them. */
+static inline void run_steps(const uint8_t *kek, size_t kek_len, int decrypts, struct run *run,
+                             uint8_t *registers, size_t len) {
+    const uint64_t all = keywrap_step_count(len);
     int32_t status = KEYWRAP_OK;
     struct aes aes;
-    aes_set_encrypt(&aes, kek, kek_len);
-    while (status == KEYWRAP_OK && run->steps < steps) {
+    decrypts ? aes_set_decrypt(&aes, kek, kek_len) : aes_set_encrypt(&aes, kek, kek_len);
+    while (decrypts && status == KEYWRAP_OK && run->steps > 0) {
+        aes_decrypt(&aes, run->block);
+        status = keywrap_step_unwrap(registers, len, &run->steps, run->block);
+    }
+    while (!decrypts && status == KEYWRAP_OK && run->steps < all) {
         aes_encrypt(&aes, run->block);
         status = keywrap_step_wrap(registers, len, &run->steps, run->block);
     }
     wipe(&aes, sizeof aes);
-    return keywrap_end_wrap(first, registers, len, run->steps, run->block);
 }
 
-/* Undoes all steps. */
-static void unwrap(const uint8_t *kek, size_t kek_len, struct run *run, uint8_t *registers,
-                   size_t len) {
-    int32_t status = KEYWRAP_OK;
-    struct aes aes;
-    aes_set_decrypt(&aes, kek, kek_len);
-    while (status == KEYWRAP_OK && run->steps > 0) {
-        aes_decrypt(&aes, run->block);
-        status = keywrap_step_unwrap(registers, len, &run->steps, run->block);
+/* Makes all steps of a wrapping that has begun, and writes the first 8 bytes of the text. */
+static int32_t wrap(const uint8_t *kek, size_t kek_len, struct run *run, uint8_t *text,
+                    size_t text_len) {
+    run_steps(kek, kek_len, 0, run, text + 8, text_len - 8);
+    const int32_t status = keywrap_end_wrap(text, text + 8, text_len - 8, run->steps, run->block);
+    wipe(run, sizeof *run);
+    return status;
+}
+
+/* Copies the text after its first 8 bytes, and undoes all steps there. */
+static int32_t unwrap(const uint8_t *kek, size_t kek_len, struct run *run, const uint8_t *text,
+                      uint8_t *registers, size_t len) {
+    const int32_t status = keywrap_begin_unwrap_padded(text, text + 8, len, &run->steps, run->block);
+    if (status != KEYWRAP_OK) return status;
+    memmove(registers, text + 8, len);
+    run_steps(kek, kek_len, 1, run, registers, len);
+    return KEYWRAP_OK;
+}
+
+int32_t wrap_slot(const uint8_t *kek, size_t kek_len, uint32_t flags, uint8_t *text,
+                  size_t text_len, size_t key_len) {
+    struct run run;
+    const int32_t status = keywrap_begin_wrap_slot(flags, key_len, text + 8, text_len - 8, &run.steps, run.block);
+    return status == KEYWRAP_OK ? wrap(kek, kek_len, &run, text, text_len) : status;
+}
+
+int32_t unwrap_slot(const uint8_t *kek, size_t kek_len, uint32_t flags, uint8_t *text,
+                    size_t text_len, size_t *key_len) {
+    struct run run;
+    const int32_t status = unwrap(kek, kek_len, &run, text, text + 8, text_len - 8);
+    if (status != KEYWRAP_OK) return status;
+    memset(text, 0, 8);
+    return keywrap_end_unwrap_slot(flags, text + 8, text_len - 8, run.steps, run.block, key_len);
+}
+
+/* The proved calls decide which steps come next, under which KEK, and what the text becomes. */
+int32_t rewrap_slot(const uint8_t *old_kek, size_t old_kek_len, const uint8_t *new_kek,
+                    size_t new_kek_len, uint8_t *text, size_t text_len, uint32_t flags) {
+    struct run run;
+    uint32_t phase;
+    int32_t status = keywrap_begin_rewrap(flags, text, text_len, &phase, &run.steps, run.block);
+    while (phase != 0) {
+        run_steps(phase & KEYWRAP_NEW ? new_kek : old_kek, phase & KEYWRAP_NEW ? new_kek_len : old_kek_len,
+                  phase & KEYWRAP_DECRYPT, &run, text + 8, text_len - 8);
+        status = keywrap_next_rewrap(flags, text, text_len, &phase, &run.steps, run.block);
     }
-    wipe(&aes, sizeof aes);
+    wipe(&run, sizeof run);
+    return status;
 }
 
 int32_t keywrap_wrap_with(const uint8_t *kek, size_t kek_len, const uint8_t *iv, size_t iv_len,
                           const uint8_t *key, size_t key_len, uint8_t *wrapped,
                           size_t wrapped_len) {
+    OR_PROVED(wrap_with, kek, kek_len, iv, iv_len, key, key_len, wrapped, wrapped_len);
     struct run run;
-    if (!is_kek(kek_len) || wrapped_len - key_len != 8
-        || keywrap_begin_wrap(iv, iv_len, key, key_len, &run.steps, run.block) != KEYWRAP_OK)
-        return proved_keywrap_wrap_with(kek, kek_len, iv, iv_len, key, key_len, wrapped,
-                                        wrapped_len);
+    int32_t status = keywrap_check_plain(kek_len, iv, iv_len, key_len, wrapped_len);
+    if (status == KEYWRAP_OK)
+        status = keywrap_begin_wrap(iv, iv_len, key, key_len, &run.steps, run.block);
+    if (status != KEYWRAP_OK) return status;
     memcpy(wrapped + 8, key, key_len);
-    return wrap(kek, kek_len, &run, wrapped, wrapped + 8, key_len);
+    return wrap(kek, kek_len, &run, wrapped, wrapped_len);
 }
 
 int32_t keywrap_unwrap_with(const uint8_t *kek, size_t kek_len, const uint8_t *iv, size_t iv_len,
                             const uint8_t *wrapped, size_t wrapped_len, uint8_t *key,
                             size_t key_len) {
+    OR_PROVED(unwrap_with, kek, kek_len, iv, iv_len, wrapped, wrapped_len, key, key_len);
     struct run run;
-    uint64_t none;
-    uint8_t unused[BLOCK];
-    if (!is_kek(kek_len) || wrapped_len - key_len != 8
-        || keywrap_begin_wrap(iv, iv_len, wrapped + 8, key_len, &none, unused) != KEYWRAP_OK
-        || keywrap_begin_unwrap(wrapped, wrapped + 8, key_len, &run.steps, run.block) != KEYWRAP_OK)
-        return proved_keywrap_unwrap_with(kek, kek_len, iv, iv_len, wrapped, wrapped_len, key,
-                                          key_len);
-    memcpy(key, wrapped + 8, key_len);
-    unwrap(kek, kek_len, &run, key, key_len);
-    return keywrap_end_unwrap(iv, iv_len, key, key_len, run.steps, run.block);
+    int32_t status = keywrap_check_plain(kek_len, iv, iv_len, key_len, wrapped_len);
+    if (status == KEYWRAP_OK) status = unwrap(kek, kek_len, &run, wrapped, key, key_len);
+    return status == KEYWRAP_OK ? keywrap_end_unwrap(iv, iv_len, key, key_len, run.steps, run.block) : status;
 }
 
 int32_t keywrap_wrap(const uint8_t *kek, size_t kek_len, const uint8_t *key, size_t key_len,
                      uint8_t *wrapped, size_t wrapped_len) {
-    if (!is_kek(kek_len))
-        return proved_keywrap_wrap(kek, kek_len, key, key_len, wrapped, wrapped_len);
+    OR_PROVED(wrap, kek, kek_len, key, key_len, wrapped, wrapped_len);
     return keywrap_wrap_with(kek, kek_len, DEFAULT_IV, 8, key, key_len, wrapped, wrapped_len);
 }
 
 int32_t keywrap_unwrap(const uint8_t *kek, size_t kek_len, const uint8_t *wrapped,
                        size_t wrapped_len, uint8_t *key, size_t key_len) {
-    if (!is_kek(kek_len))
-        return proved_keywrap_unwrap(kek, kek_len, wrapped, wrapped_len, key, key_len);
+    OR_PROVED(unwrap, kek, kek_len, wrapped, wrapped_len, key, key_len);
     return keywrap_unwrap_with(kek, kek_len, DEFAULT_IV, 8, wrapped, wrapped_len, key, key_len);
 }
 
 int32_t keywrap_wrap_in_place(const uint8_t *kek, size_t kek_len, uint8_t *buffer,
                               size_t wrapped_len) {
-    struct run run;
-    if (!is_kek(kek_len) || wrapped_len < 8
-        || keywrap_begin_wrap(DEFAULT_IV, 8, buffer + 8, wrapped_len - 8, &run.steps, run.block)
-               != KEYWRAP_OK)
-        return proved_keywrap_wrap_in_place(kek, kek_len, buffer, wrapped_len);
-    return wrap(kek, kek_len, &run, buffer, buffer + 8, wrapped_len - 8);
+    OR_PROVED(wrap_in_place, kek, kek_len, buffer, wrapped_len);
+    const size_t len = wrapped_len - 8;
+    const int32_t status = keywrap_check_plain(kek_len, DEFAULT_IV, 8, len, wrapped_len);
+    return status == KEYWRAP_OK ? wrap_slot(kek, kek_len, 0, buffer, wrapped_len, len) : status;
 }
 
 int32_t keywrap_unwrap_in_place(const uint8_t *kek, size_t kek_len, uint8_t *buffer,
                                 size_t wrapped_len) {
-    struct run run;
-    if (!is_kek(kek_len) || wrapped_len < 8
-        || keywrap_begin_unwrap(buffer, buffer + 8, wrapped_len - 8, &run.steps, run.block)
-               != KEYWRAP_OK)
-        return proved_keywrap_unwrap_in_place(kek, kek_len, buffer, wrapped_len);
-    unwrap(kek, kek_len, &run, buffer + 8, wrapped_len - 8);
-    memset(buffer, 0, 8);
-    return keywrap_end_unwrap(DEFAULT_IV, 8, buffer + 8, wrapped_len - 8, run.steps, run.block);
+    OR_PROVED(unwrap_in_place, kek, kek_len, buffer, wrapped_len);
+    size_t len = wrapped_len - 8;
+    const int32_t status = keywrap_check_plain(kek_len, DEFAULT_IV, 8, len, wrapped_len);
+    return status == KEYWRAP_OK ? unwrap_slot(kek, kek_len, 0, buffer, wrapped_len, &len) : status;
 }
 
 int32_t keywrap_wrap_padded_in_place(const uint8_t *kek, size_t kek_len, uint8_t *buffer,
                                      size_t wrapped_len, size_t key_len) {
-    struct run run;
-    if (!is_kek(kek_len) || wrapped_len < 8
-        || keywrap_begin_wrap_padded(key_len, buffer + 8, wrapped_len - 8, &run.steps, run.block)
-               != KEYWRAP_OK)
-        return proved_keywrap_wrap_padded_in_place(kek, kek_len, buffer, wrapped_len, key_len);
-    return wrap(kek, kek_len, &run, buffer, buffer + 8, wrapped_len - 8);
+    OR_PROVED(wrap_padded_in_place, kek, kek_len, buffer, wrapped_len, key_len);
+    const int32_t status = keywrap_check_padded(kek_len, key_len, wrapped_len);
+    return status == KEYWRAP_OK ? wrap_slot(kek, kek_len, KEYWRAP_NEW_PADDED, buffer, wrapped_len, key_len) : status;
 }
 
 int32_t keywrap_unwrap_padded_in_place(const uint8_t *kek, size_t kek_len, uint8_t *buffer,
                                        size_t wrapped_len, size_t *key_len) {
-    struct run run;
-    if (!is_kek(kek_len) || wrapped_len < 8
-        || keywrap_begin_unwrap_padded(buffer, buffer + 8, wrapped_len - 8, &run.steps, run.block)
-               != KEYWRAP_OK)
-        return proved_keywrap_unwrap_padded_in_place(kek, kek_len, buffer, wrapped_len, key_len);
-    unwrap(kek, kek_len, &run, buffer + 8, wrapped_len - 8);
-    memset(buffer, 0, 8);
-    return keywrap_end_unwrap_padded(buffer + 8, wrapped_len - 8, run.steps, run.block, key_len);
+    OR_PROVED(unwrap_padded_in_place, kek, kek_len, buffer, wrapped_len, key_len);
+    *key_len = 0;
+    const int32_t status = keywrap_check_room(kek_len, wrapped_len - 8, wrapped_len);
+    return status == KEYWRAP_OK ? unwrap_slot(kek, kek_len, KEYWRAP_OLD_PADDED, buffer, wrapped_len, key_len) : status;
 }
 
 int32_t keywrap_wrap_padded(const uint8_t *kek, size_t kek_len, const uint8_t *key, size_t key_len,
                             uint8_t *wrapped, size_t wrapped_len) {
-    if (!is_kek(kek_len) || key_len < 1 || key_len > KEYWRAP_MAX_KEY
-        || wrapped_len != KEYWRAP_PADDED_TEXT_LEN(key_len))
-        return proved_keywrap_wrap_padded(kek, kek_len, key, key_len, wrapped, wrapped_len);
+    OR_PROVED(wrap_padded, kek, kek_len, key, key_len, wrapped, wrapped_len);
+    const int32_t status = keywrap_check_padded(kek_len, key_len, wrapped_len);
+    if (status != KEYWRAP_OK) return status;
     memcpy(wrapped + 8, key, key_len);
-    return keywrap_wrap_padded_in_place(kek, kek_len, wrapped, wrapped_len, key_len);
+    return wrap_slot(kek, kek_len, KEYWRAP_NEW_PADDED, wrapped, wrapped_len, key_len);
 }
 
 int32_t keywrap_unwrap_padded(const uint8_t *kek, size_t kek_len, const uint8_t *wrapped,
                               size_t wrapped_len, uint8_t *key, size_t room, size_t *key_len) {
+    OR_PROVED(unwrap_padded, kek, kek_len, wrapped, wrapped_len, key, room, key_len);
     struct run run;
-    if (!is_kek(kek_len) || wrapped_len - room != 8
-        || keywrap_begin_unwrap_padded(wrapped, wrapped + 8, room, &run.steps, run.block)
-               != KEYWRAP_OK)
-        return proved_keywrap_unwrap_padded(kek, kek_len, wrapped, wrapped_len, key, room, key_len);
-    memcpy(key, wrapped + 8, room);
-    unwrap(kek, kek_len, &run, key, room);
-    return keywrap_end_unwrap_padded(key, room, run.steps, run.block, key_len);
-}
-
-/* Whether the registers hold a plain key with the default initial value. The proved end of an
- * unwrap decides it over other registers, since it clears those that it refuses. */
-static int holds_plain(const struct run *run, size_t len) {
-    uint8_t registers[16] = {0}, block[BLOCK];
-    if (len < 16) return 0;
-    memcpy(block, run->block, BLOCK);
-    return keywrap_end_unwrap(DEFAULT_IV, 8, registers, 16, run->steps, block) == KEYWRAP_OK;
-}
-
-/* Whether the registers hold a padded key. Only the last register can have padding, so the proved
- * end decides it over that register, with the part of the key's length that belongs to it. A length
- * that ends in another register becomes 0 or more than 8. */
-static int holds_padded(const struct run *run, const uint8_t *registers, size_t len) {
-    uint8_t last[8], block[BLOCK];
-    uint32_t part = 0;
-    size_t found;
-    memcpy(last, registers + len - 8, 8);
-    memcpy(block, run->block, BLOCK);
-    for (int i = 4; i < 8; i++) part = part << 8 | block[i];
-    part -= (uint32_t)(len - 8);
-    for (int i = 7; i >= 4; i--, part >>= 8) block[i] = (uint8_t)part;
-    const int32_t status = keywrap_end_unwrap_padded(last, 8, run->steps, block, &found);
-    wipe(last, sizeof last);
-    return status == KEYWRAP_OK;
-}
-
-/* A wrong choice of the form would be refused: the proved end of that form decides. */
-int32_t end_unwrap_any(struct run *run, uint8_t *registers, size_t len, uint32_t *padded,
-                       size_t *key_len) {
-    *padded = len == 8 || holds_padded(run, registers, len);
-    if (*padded) return keywrap_end_unwrap_padded(registers, len, run->steps, run->block, key_len);
-    *key_len = len;
-    return keywrap_end_unwrap(DEFAULT_IV, 8, registers, len, run->steps, run->block);
+    *key_len = 0;
+    int32_t status = keywrap_check_room(kek_len, room, wrapped_len);
+    if (status == KEYWRAP_OK) status = unwrap(kek, kek_len, &run, wrapped, key, room);
+    return status == KEYWRAP_OK ? keywrap_end_unwrap_padded(key, room, run.steps, run.block, key_len) : status;
 }
 
 int32_t keywrap_unwrap_any(const uint8_t *kek, size_t kek_len, const uint8_t *wrapped,
                            size_t wrapped_len, uint8_t *key, size_t room, uint32_t *padded,
                            size_t *key_len) {
+    OR_PROVED(unwrap_any, kek, kek_len, wrapped, wrapped_len, key, room, padded, key_len);
     struct run run;
-    if (!is_kek(kek_len) || wrapped_len - room != 8
-        || keywrap_begin_unwrap_padded(wrapped, wrapped + 8, room, &run.steps, run.block)
-               != KEYWRAP_OK)
-        return proved_keywrap_unwrap_any(kek, kek_len, wrapped, wrapped_len, key, room, padded,
-                                         key_len);
-    memcpy(key, wrapped + 8, room);
-    unwrap(kek, kek_len, &run, key, room);
-    const int32_t status = end_unwrap_any(&run, key, room, padded, key_len);
-    if (status != KEYWRAP_OK) {
-        *padded = 0;
-        *key_len = 0;
-    }
-    return status;
+    *key_len = *padded = 0;
+    int32_t status = keywrap_check_room(kek_len, room, wrapped_len);
+    if (status == KEYWRAP_OK) status = unwrap(kek, kek_len, &run, wrapped, key, room);
+    if (status != KEYWRAP_OK) return status;
+    return keywrap_end_unwrap_any(key, room, run.steps, run.block, padded, key_len);
 }
 
 /* The unwrap of a text in either form, in the scratch buffer. */
 int32_t keywrap_kind(const uint8_t *kek, size_t kek_len, const uint8_t *wrapped, size_t wrapped_len,
                      uint8_t *scratch, size_t room, uint32_t *padded, size_t *key_len) {
-    if (!is_kek(kek_len) || wrapped_len - room != 8)
-        return proved_keywrap_kind(kek, kek_len, wrapped, wrapped_len, scratch, room, padded,
-                                   key_len);
-    const int32_t status =
-        keywrap_unwrap_any(kek, kek_len, wrapped, wrapped_len, scratch, room, padded, key_len);
-    if (status == KEYWRAP_BAD_LENGTH)
-        return proved_keywrap_kind(kek, kek_len, wrapped, wrapped_len, scratch, room, padded,
-                                   key_len);
+    OR_PROVED(kind, kek, kek_len, wrapped, wrapped_len, scratch, room, padded, key_len);
+    *key_len = *padded = 0;
+    int32_t status = keywrap_check_kind(kek_len, room, wrapped_len);
+    if (status != KEYWRAP_OK) return status;
+    status = keywrap_unwrap_any(kek, kek_len, wrapped, wrapped_len, scratch, room, padded, key_len);
     wipe(scratch, room);
     return status;
 }
 
-/* Wraps the registers in the buffer from the initial value that was found with them. */
-static int32_t wrap_found(const uint8_t *kek, size_t kek_len, const uint8_t *found, uint8_t *buffer,
-                          size_t wrapped_len) {
-    struct run run = {0, {0}};
-    memcpy(run.block, found, 8);
-    memcpy(run.block + 8, buffer + 8, 8);
-    const int32_t status = wrap(kek, kek_len, &run, buffer, buffer + 8, wrapped_len - 8);
-    wipe(&run, sizeof run);
-    return status;
-}
-
-/* Unwraps what is wrapped in the old form of the flags, or restores the buffer. */
-static int32_t find(const uint8_t *kek, size_t kek_len, uint8_t *buffer, size_t wrapped_len,
-                    uint32_t flags, struct run *run, uint32_t *padded) {
-    const size_t len = wrapped_len - 8;
-    unwrap(kek, kek_len, run, buffer + 8, len);
-    *padded = flags & (KEYWRAP_OLD_PADDED | KEYWRAP_KEEP_FORM)
-              && holds_padded(run, buffer + 8, len);
-    if (*padded || (!(flags & KEYWRAP_OLD_PADDED) && holds_plain(run, len))) return KEYWRAP_OK;
-    const int32_t status = wrap_found(kek, kek_len, run->block, buffer, wrapped_len);
-    wipe(run->block, BLOCK);
-    return status == KEYWRAP_OK ? KEYWRAP_INTEGRITY : status;
-}
-
-/* A rewrap without KEYWRAP_PASS_NEW, of a text of a legal length. */
-static int32_t rewrap_old(const uint8_t *old_kek, size_t old_kek_len, const uint8_t *new_kek,
-                          size_t new_kek_len, uint8_t *buffer, size_t wrapped_len, uint32_t flags) {
-    struct run run;
-    uint8_t found[8];
-    uint32_t padded;
-    size_t key_len = wrapped_len - 8;
-    int32_t status = keywrap_begin_unwrap_padded(buffer, buffer + 8, wrapped_len - 8, &run.steps,
-                                                 run.block);
-    if (status == KEYWRAP_OK)
-        status = find(old_kek, old_kek_len, buffer, wrapped_len, flags, &run, &padded);
-    if (status != KEYWRAP_OK) return status;
-    memcpy(found, run.block, 8);
-    status = padded ? keywrap_end_unwrap_padded(buffer + 8, wrapped_len - 8, run.steps, run.block,
-                                                &key_len)
-                    : keywrap_end_unwrap(DEFAULT_IV, 8, buffer + 8, wrapped_len - 8, run.steps,
-                                         run.block);
-    if (status != KEYWRAP_OK) return status;
-    if (flags & KEYWRAP_KEEP_FORM || (padded && flags & KEYWRAP_NEW_PADDED))
-        return wrap_found(new_kek, new_kek_len, found, buffer, wrapped_len);
-    if (flags & KEYWRAP_NEW_PADDED)
-        return keywrap_wrap_padded_in_place(new_kek, new_kek_len, buffer, wrapped_len, key_len);
-    /* The proved beginning decides whether a plain key has this length. */
-    if (keywrap_begin_wrap(DEFAULT_IV, 8, buffer + 8, key_len, &run.steps, run.block)
-        == KEYWRAP_OK)
-        return wrap(new_kek, new_kek_len, &run, buffer, buffer + 8, wrapped_len - 8);
-    status = wrap_found(old_kek, old_kek_len, found, buffer, wrapped_len);
-    return status == KEYWRAP_OK ? KEYWRAP_KEY_NOT_PLAIN : status;
-}
-
-/* With KEYWRAP_PASS_NEW what is not a wrapped key under the old KEK is rewrapped from the new KEK
- * to itself, which leaves it as it is. A length that is not legal in the old form goes to the
- * proved call. */
 int32_t keywrap_rewrap(const uint8_t *old_kek, size_t old_kek_len, const uint8_t *new_kek,
                        size_t new_kek_len, uint8_t *buffer, size_t wrapped_len, uint32_t flags,
                        uint32_t *already) {
-    const uint32_t forms = flags & ~KEYWRAP_PASS_NEW;
-    const size_t least = forms & (KEYWRAP_OLD_PADDED | KEYWRAP_KEEP_FORM) ? 16 : 24;
-    uint32_t to_itself = forms & KEYWRAP_NEW_PADDED ? KEYWRAP_OLD_PADDED | KEYWRAP_NEW_PADDED : 0;
-    int32_t status;
-    if (!is_kek(old_kek_len) || !is_kek(new_kek_len) || forms > KEYWRAP_KEEP_FORM
-        || wrapped_len % 8 != 0 || wrapped_len < least || wrapped_len > KEYWRAP_MAX_TEXT)
-        return proved_keywrap_rewrap(old_kek, old_kek_len, new_kek, new_kek_len, buffer,
-                                     wrapped_len, flags, already);
-    *already = 0;
-    status = rewrap_old(old_kek, old_kek_len, new_kek, new_kek_len, buffer, wrapped_len, forms);
-    if (status != KEYWRAP_INTEGRITY || !(flags & KEYWRAP_PASS_NEW)) return status;
-    if (forms == KEYWRAP_KEEP_FORM) to_itself = forms;
-    *already = rewrap_old(new_kek, new_kek_len, new_kek, new_kek_len, buffer, wrapped_len,
-                          to_itself)
-               == KEYWRAP_OK;
-    return *already ? KEYWRAP_OK : status;
+    OR_PROVED(rewrap, old_kek, old_kek_len, new_kek, new_kek_len, buffer, wrapped_len, flags, already);
+    int32_t status = keywrap_check_keks(old_kek_len, new_kek_len);
+    if (status == KEYWRAP_OK)
+        status = rewrap_slot(old_kek, old_kek_len, new_kek, new_kek_len, buffer, wrapped_len, flags);
+    return keywrap_end_rewrap((uint32_t)status, already);
 }
 
 int32_t keywrap_rewrap_in_place(const uint8_t *old_kek, size_t old_kek_len, const uint8_t *new_kek,
                                 size_t new_kek_len, uint8_t *buffer, size_t wrapped_len,
                                 uint32_t forms) {
-    uint32_t already;
-    if (!is_kek(old_kek_len) || forms > (KEYWRAP_OLD_PADDED | KEYWRAP_NEW_PADDED))
-        return proved_keywrap_rewrap_in_place(old_kek, old_kek_len, new_kek, new_kek_len, buffer,
-                                              wrapped_len, forms);
-    const int32_t status = keywrap_rewrap(old_kek, old_kek_len, new_kek, new_kek_len, buffer,
-                                          wrapped_len, forms, &already);
-    if (status != KEYWRAP_INTEGRITY && status != KEYWRAP_KEY_NOT_PLAIN) return status;
-    wipe(buffer, wrapped_len);
-    return status == KEYWRAP_INTEGRITY ? status : KEYWRAP_BAD_LENGTH;
+    OR_PROVED(rewrap_in_place, old_kek, old_kek_len, new_kek, new_kek_len, buffer, wrapped_len, forms);
+    int32_t status = keywrap_check_rewrap_in_place(old_kek_len, new_kek_len, forms);
+    if (status == KEYWRAP_OK)
+        status = rewrap_slot(old_kek, old_kek_len, new_kek, new_kek_len, buffer, wrapped_len, forms);
+    return keywrap_end_rewrap_in_place((uint32_t)status, buffer, wrapped_len);
 }
 
 int32_t keywrap_self_test(void) {
+    extern __typeof__(keywrap_self_test) proved_keywrap_self_test;
     if (aes_works() && !aes_known_answers()) return KEYWRAP_INTEGRITY;
     return proved_keywrap_self_test();
 }
@@ -15857,16 +20842,10 @@ static int32_t keywrap_step_unwrap_many(uint8_t *texts, size_t texts_len, size_t
     return status;
 }
 
-/* many.c: the calls of keywrap.h for many keys, with the steps of 24 of them side by side. The proved
- * steps, beginnings and ends are the same as for one key. What a call refuses goes to the
- * proved call, and slots that the steps of many do not take to the call for one key. */
+/* many.c: the calls of keywrap.h for many keys, with the steps of 24 of them side by side. What the
+ * steps of many do not take is done key by key. */
 
 
-
-PROVED_CALL(rewrap_many);
-PROVED_CALL(wrap_many);
-PROVED_CALL(unwrap_many);
-PROVED_CALL(kind_many);
 
 /* Three groups of 8 blocks; and the longest text of which a turn makes copies. */
 enum { LANES = 24, COPIED = 264 };
@@ -15888,197 +20867,145 @@ static struct turn next_turn(uint8_t *texts, size_t text_len, size_t count) {
     return turn;
 }
 
-/* The blocks of whole groups. */
-static size_t grouped(const struct turn *turn) {
-    return (turn->count + 7) / 8 * 8;
-}
-
-/* Makes all steps of wrappings that have begun, and writes the first 8 bytes of each text. */
-static int32_t wrap_turn(const struct aes *aes, struct turn *turn) {
-    const size_t texts_len = turn->text_len * turn->count, blocks_len = BLOCK * turn->count;
-    const uint64_t all = 6 * (uint64_t)(turn->text_len / 8 - 1);
+/* Makes all steps of wrappings that have begun, or undoes those of unwrappings, over whole groups of
+ * 8 blocks. */
+static void run_turn(const struct aes *aes, int decrypts, struct turn *turn) {
+    const size_t len = turn->text_len, texts_len = len * turn->count, of_blocks = BLOCK * turn->count;
+    const size_t grouped = (turn->count + 7) / 8 * 8;
+    const uint64_t all = keywrap_step_count(turn->text_len - 8);
     int32_t status = KEYWRAP_OK;
-    while (status == KEYWRAP_OK && turn->steps < all) {
-        aes_encrypt_many(aes, turn->blocks, grouped(turn));
-        status = keywrap_step_wrap_many(turn->texts, texts_len, turn->text_len, &turn->steps,
-                                        turn->blocks, blocks_len);
+    while (status == KEYWRAP_OK && (decrypts ? turn->steps > 0 : turn->steps < all)) {
+        decrypts ? aes_decrypt_many(aes, turn->blocks, grouped) : aes_encrypt_many(aes, turn->blocks, grouped);
+        status = decrypts ? keywrap_step_unwrap_many(turn->texts, texts_len, len, &turn->steps, turn->blocks, of_blocks)
+                          : keywrap_step_wrap_many(turn->texts, texts_len, len, &turn->steps, turn->blocks, of_blocks);
     }
-    if (status != KEYWRAP_OK) return status;
-    return keywrap_end_wrap_many(turn->texts, texts_len, turn->text_len, turn->steps, turn->blocks,
-                                 blocks_len);
 }
 
-/* Begins to unwrap, and undoes all steps. */
-static int32_t unwrap_turn(const struct aes *aes, struct turn *turn) {
-    const size_t texts_len = turn->text_len * turn->count, blocks_len = BLOCK * turn->count;
-    int32_t status = keywrap_begin_unwrap_many(turn->texts, texts_len, turn->text_len, &turn->steps,
-                                               turn->blocks, blocks_len);
-    while (status == KEYWRAP_OK && turn->steps > 0) {
-        aes_decrypt_many(aes, turn->blocks, grouped(turn));
-        status = keywrap_step_unwrap_many(turn->texts, texts_len, turn->text_len, &turn->steps,
-                                          turn->blocks, blocks_len);
-    }
-    return status;
+/* Begins to unwrap, and undoes all steps. The ends refuse what has not had all steps. */
+static void unwrap_turn(const struct aes *aes, struct turn *turn) {
+    const int32_t status =
+        keywrap_begin_unwrap_many(turn->texts, turn->text_len * turn->count, turn->text_len,
+                                  &turn->steps, turn->blocks, BLOCK * turn->count);
+    if (status == KEYWRAP_OK) run_turn(aes, 1, turn);
 }
 
-/* Ends the unwrap of one lane, in the old form of the flags. */
-static int32_t end_lane(struct turn *turn, size_t lane, uint32_t flags, uint32_t *padded,
-                        size_t *key_len) {
-    uint8_t *registers = text_of(turn, lane) + 8, *block = turn->blocks + BLOCK * lane;
-    const size_t len = turn->text_len - 8;
-    int32_t status;
-    *padded = flags & KEYWRAP_OLD_PADDED;
-    *key_len = len;
-    if (flags & KEYWRAP_KEEP_FORM) {
-        struct run run = {turn->steps, {0}};
-        memcpy(run.block, block, BLOCK);
-        status = end_unwrap_any(&run, registers, len, padded, key_len);
-        wipe(&run, sizeof run);
-    } else if (*padded) {
-        status = keywrap_end_unwrap_padded(registers, len, turn->steps, block, key_len);
-    } else {
-        status = keywrap_end_unwrap(DEFAULT_IV, 8, registers, len, turn->steps, block);
-    }
-    if (status != KEYWRAP_OK) *padded = 0, *key_len = 0;
-    return status;
-}
-
-/* Begins the wrap of one lane. The proved beginning refuses a key that is too short or too long for
- * its form. */
-static int32_t begin_lane(struct turn *turn, size_t lane, uint32_t padded, size_t key_len) {
-    uint8_t *registers = text_of(turn, lane) + 8, *block = turn->blocks + BLOCK * lane;
-    const size_t len = turn->text_len - 8;
-    return padded ? keywrap_begin_wrap_padded(key_len, registers, len, &turn->steps, block)
-                  : keywrap_begin_wrap(DEFAULT_IV, 8, registers, key_len, &turn->steps, block);
-}
-
-/* The end of an unwrap under the old KEK, and the beginning of the wrap under the new one. A form that
- * is kept keeps the initial value that was found. A key is longer than 8 bytes here. */
-static int32_t turn_lane(struct turn *turn, size_t lane, uint32_t flags) {
-    uint8_t *registers = text_of(turn, lane) + 8, *block = turn->blocks + BLOCK * lane, found[8];
-    uint32_t padded;
-    size_t key_len;
-    memcpy(found, block, 8);
-    const int32_t status = end_lane(turn, lane, flags, &padded, &key_len);
-    if (status != KEYWRAP_OK) return status;
-    if (flags & KEYWRAP_KEEP_FORM || (padded && flags & KEYWRAP_NEW_PADDED)) {
-        memcpy(block, found, 8);
-        memcpy(block + 8, registers, 8);
-        return KEYWRAP_OK;
-    }
-    return begin_lane(turn, lane, flags & KEYWRAP_NEW_PADDED, key_len) == KEYWRAP_OK
-               ? KEYWRAP_OK
-               : KEYWRAP_KEY_NOT_PLAIN;
-}
-
-/* The schedules of a rewrap; the last is made for KEYWRAP_PASS_NEW. */
-struct schedules {
-    struct aes old, new, new_old;
+/* What the bits of a phase ask for; and a turn of a rewrap: the schedules by these bits, the texts as
+ * they were, and for each lane its phase and its steps. */
+enum { OPERATION = KEYWRAP_DECRYPT | KEYWRAP_NEW };
+struct rewraps {
+    struct aes of[OPERATION + 1];
+    uint8_t before[COPIED * LANES];
+    uint32_t phases[LANES];
+    uint64_t steps[LANES];
 };
 
-/* Finds the texts that are refused, but are under the new KEK already. */
-static void find_new(const struct schedules *aes, const uint8_t *before, const struct turn *turn,
-                     uint32_t flags, uint8_t *statuses) {
-    uint8_t tried[COPIED * LANES];
-    struct turn again = next_turn(tried, turn->text_len, turn->count);
-    const uint32_t keep = flags & KEYWRAP_KEEP_FORM;
-    const uint32_t form = flags & KEYWRAP_NEW_PADDED ? KEYWRAP_OLD_PADDED : 0;
-    uint32_t padded;
-    size_t key_len;
-    memcpy(tried, before, turn->text_len * turn->count);
-    if (unwrap_turn(&aes->new_old, &again) == KEYWRAP_OK)
-        for (size_t i = 0; i < turn->count; i++)
-            if (statuses[i] == KEYWRAP_INTEGRITY
-                && end_lane(&again, i, keep | form, &padded, &key_len) == KEYWRAP_OK)
-                statuses[i] = KEYWRAP_ALREADY_NEW;
-    wipe(tried, turn->text_len * turn->count);
-    wipe(&again, sizeof again);
+/* Copies the texts and the blocks of these lanes of a turn to those of a part of it, or back. */
+static void copy_lanes(struct turn *turn, struct turn *part, const size_t *lanes, int back) {
+    for (size_t i = 0; i < part->count; i++) {
+        uint8_t *text = text_of(turn, lanes[i]), *block = turn->blocks + BLOCK * lanes[i];
+        uint8_t *part_text = text_of(part, i), *part_block = part->blocks + BLOCK * i;
+        memcpy(back ? text : part_text, back ? part_text : text, turn->text_len);
+        memcpy(back ? block : part_block, back ? part_block : block, BLOCK);
+    }
 }
 
-/* Rewraps the slots of a turn. A slot that is not rewrapped is restored. */
-static void rewrap_turn(const struct schedules *aes, struct turn *turn, uint32_t flags,
+/* Makes or undoes all steps of the lanes from the first one on that have its operation next, and turns
+ * them to what comes next. If there are others, the steps are over copies behind each other. */
+static void run_lanes(struct rewraps *rewraps, struct turn *turn, size_t first, uint32_t flags,
+                      uint8_t *statuses) {
+    const uint32_t operation = rewraps->phases[first] & OPERATION;
+    uint8_t copies[COPIED * LANES];
+    size_t lanes[LANES], count = 0;
+    for (size_t i = first; i < turn->count; i++)
+        if (rewraps->phases[i] != 0 && (rewraps->phases[i] & OPERATION) == operation)
+            lanes[count++] = i;
+    turn->steps = rewraps->steps[first];
+    if (count == turn->count) {
+        run_turn(&rewraps->of[operation], operation & KEYWRAP_DECRYPT, turn);
+    } else {
+        struct turn part = next_turn(copies, turn->text_len, count);
+        part.steps = turn->steps;
+        copy_lanes(turn, &part, lanes, 0);
+        run_turn(&rewraps->of[operation], operation & KEYWRAP_DECRYPT, &part);
+        copy_lanes(turn, &part, lanes, 1);
+        turn->steps = part.steps;
+        wipe(copies, turn->text_len * count);
+        wipe(part.blocks, sizeof part.blocks);
+    }
+    for (size_t i = 0; i < count; i++) {
+        const size_t at = turn->text_len * lanes[i];
+        rewraps->steps[lanes[i]] = turn->steps;
+        statuses[lanes[i]] = (uint8_t)keywrap_next_rewrap_from(
+            flags, rewraps->before + at, turn->text_len, turn->texts + at, turn->text_len,
+            rewraps->phases + lanes[i], rewraps->steps + lanes[i], turn->blocks + BLOCK * lanes[i]);
+    }
+}
+
+/* Rewraps the slots of a turn, until no lane has a phase. */
+static void rewrap_turn(struct rewraps *rewraps, struct turn *turn, uint32_t flags,
                         uint8_t *statuses) {
-    uint8_t before[COPIED * LANES];
-    int refused = 0;
-    memcpy(before, turn->texts, turn->text_len * turn->count);
-    int32_t status = unwrap_turn(&aes->old, turn);
-    for (size_t i = 0; i < turn->count; i++) {
-        statuses[i] = (uint8_t)(status == KEYWRAP_OK ? turn_lane(turn, i, flags) : status);
-        refused |= statuses[i] == KEYWRAP_INTEGRITY;
-    }
-    turn->steps = 0;
-    status = wrap_turn(&aes->new, turn);
-    if (refused && flags & KEYWRAP_PASS_NEW) find_new(aes, before, turn, flags, statuses);
-    for (size_t i = 0; i < turn->count; i++) {
-        if (status != KEYWRAP_OK) statuses[i] = (uint8_t)status;
-        if (statuses[i] != KEYWRAP_OK)
-            memcpy(text_of(turn, i), before + turn->text_len * i, turn->text_len);
-    }
-    wipe(before, turn->text_len * turn->count);
+    memcpy(rewraps->before, turn->texts, turn->text_len * turn->count);
+    for (size_t i = 0; i < turn->count; i++)
+        statuses[i] = (uint8_t)keywrap_begin_rewrap(flags, text_of(turn, i), turn->text_len,
+                                                    rewraps->phases + i, rewraps->steps + i,
+                                                    turn->blocks + BLOCK * i);
+    for (size_t first = 0; first < turn->count;)
+        if (rewraps->phases[first] == 0)
+            first++;
+        else
+            run_lanes(rewraps, turn, first, flags, statuses);
     wipe(turn->blocks, sizeof turn->blocks);
-}
-
-/* Whether there are slots of a length that a wrapped key has, `least` or more. */
-static int are_slots(size_t texts_len, size_t count, size_t least) {
-    if (count == 0 || texts_len % count != 0) return 0;
-    const size_t text_len = texts_len / count;
-    return text_len % 8 == 0 && text_len >= least && text_len <= KEYWRAP_MAX_TEXT;
 }
 
 int32_t keywrap_rewrap_many(const uint8_t *old_kek, size_t old_kek_len, const uint8_t *new_kek,
                             size_t new_kek_len, uint8_t *texts, size_t texts_len, uint32_t flags,
                             uint8_t *statuses, size_t count) {
-    const uint32_t forms = flags & ~KEYWRAP_PASS_NEW;
-    const size_t least = forms & (KEYWRAP_OLD_PADDED | KEYWRAP_KEEP_FORM) ? 16 : 24;
-    if (!is_kek(old_kek_len) || !is_kek(new_kek_len) || forms > KEYWRAP_KEEP_FORM
-        || !are_slots(texts_len, count, least))
-        return proved_keywrap_rewrap_many(old_kek, old_kek_len, new_kek, new_kek_len, texts,
-                                          texts_len, flags, statuses, count);
+    OR_PROVED(rewrap_many, old_kek, old_kek_len, new_kek, new_kek_len, texts, texts_len, flags, statuses, count);
+    const int32_t status = keywrap_check_rewrap_many(old_kek_len, new_kek_len, texts_len, flags, count);
+    if (status != KEYWRAP_OK) return status;
     const size_t text_len = texts_len / count;
     if (text_len == 16 || text_len > COPIED) {
-        for (size_t i = 0; i < count; i++) {
-            uint32_t already;
-            const int32_t status = keywrap_rewrap(old_kek, old_kek_len, new_kek, new_kek_len,
-                                                  texts + text_len * i, text_len, flags, &already);
-            statuses[i] = (uint8_t)(already ? KEYWRAP_ALREADY_NEW : status);
-        }
+        for (size_t i = 0; i < count; i++)
+            statuses[i] = (uint8_t)rewrap_slot(old_kek, old_kek_len, new_kek, new_kek_len,
+                                               texts + text_len * i, text_len, flags);
         return KEYWRAP_OK;
     }
-    struct schedules aes;
-    aes_set_decrypt(&aes.old, old_kek, old_kek_len);
-    aes_set_encrypt(&aes.new, new_kek, new_kek_len);
-    if (flags & KEYWRAP_PASS_NEW) aes_set_decrypt(&aes.new_old, new_kek, new_kek_len);
+    struct rewraps rewraps;
+    aes_set_encrypt(&rewraps.of[0], old_kek, old_kek_len);
+    aes_set_decrypt(&rewraps.of[KEYWRAP_DECRYPT], old_kek, old_kek_len);
+    aes_set_encrypt(&rewraps.of[KEYWRAP_NEW], new_kek, new_kek_len);
+    aes_set_decrypt(&rewraps.of[OPERATION], new_kek, new_kek_len);
     for (size_t i = 0; i < count; i += LANES) {
         struct turn turn = next_turn(texts + text_len * i, text_len, count - i);
-        rewrap_turn(&aes, &turn, flags, statuses + i);
+        rewrap_turn(&rewraps, &turn, flags, statuses + i);
     }
-    wipe(&aes, sizeof aes);
+    wipe(&rewraps, sizeof rewraps);
     return KEYWRAP_OK;
 }
 
 int32_t keywrap_wrap_many(const uint8_t *kek, size_t kek_len, uint8_t *texts, size_t texts_len,
                           size_t key_len, uint32_t flags, uint8_t *statuses, size_t count) {
-    const uint32_t padded = flags & KEYWRAP_NEW_PADDED;
-    const size_t least = padded ? 1 : 16, len = padded ? (key_len + 7) / 8 * 8 : key_len;
-    if (!is_kek(kek_len) || flags != padded || !are_slots(texts_len, count, 16)
-        || key_len < least || key_len > KEYWRAP_MAX_KEY || texts_len / count != len + 8)
-        return proved_keywrap_wrap_many(kek, kek_len, texts, texts_len, key_len, flags, statuses,
-                                        count);
-    const size_t text_len = len + 8;
+    OR_PROVED(wrap_many, kek, kek_len, texts, texts_len, key_len, flags, statuses, count);
+    int32_t status = keywrap_check_wrap_many(kek_len, texts_len, key_len, flags, count);
+    if (status != KEYWRAP_OK) return status;
+    const size_t text_len = texts_len / count;
     if (text_len == 16) {
         for (size_t i = 0; i < count; i++)
-            statuses[i] = (uint8_t)keywrap_wrap_padded_in_place(kek, kek_len, texts + text_len * i,
-                                                                text_len, key_len);
+            statuses[i] = (uint8_t)wrap_slot(kek, kek_len, flags, texts + text_len * i, text_len,
+                                             key_len);
         return KEYWRAP_OK;
     }
     struct aes aes;
     aes_set_encrypt(&aes, kek, kek_len);
     for (size_t i = 0; i < count; i += LANES) {
         struct turn turn = next_turn(texts + text_len * i, text_len, count - i);
-        int32_t status = KEYWRAP_OK;
         for (size_t lane = 0; lane < turn.count && status == KEYWRAP_OK; lane++)
-            status = begin_lane(&turn, lane, padded, key_len);
-        if (status == KEYWRAP_OK) status = wrap_turn(&aes, &turn);
+            status = keywrap_begin_wrap_slot(flags, key_len, text_of(&turn, lane) + 8, text_len - 8,
+                                             &turn.steps, turn.blocks + BLOCK * lane);
+        run_turn(&aes, 0, &turn);
+        if (status == KEYWRAP_OK)
+            status = keywrap_end_wrap_many(turn.texts, text_len * turn.count, text_len, turn.steps,
+                                           turn.blocks, BLOCK * turn.count);
         memset(statuses + i, (uint8_t)status, turn.count);
         wipe(turn.blocks, sizeof turn.blocks);
     }
@@ -16089,29 +21016,27 @@ int32_t keywrap_wrap_many(const uint8_t *kek, size_t kek_len, uint8_t *texts, si
 int32_t keywrap_unwrap_many(const uint8_t *kek, size_t kek_len, uint8_t *texts, size_t texts_len,
                             uint32_t flags, size_t *key_lens, size_t key_lens_count,
                             uint8_t *statuses, size_t count) {
-    uint32_t padded;
-    if (!is_kek(kek_len) || flags > KEYWRAP_OLD_PADDED || key_lens_count != count
-        || !are_slots(texts_len, count, flags ? 16 : 24))
-        return proved_keywrap_unwrap_many(kek, kek_len, texts, texts_len, flags, key_lens,
-                                          key_lens_count, statuses, count);
+    OR_PROVED(unwrap_many, kek, kek_len, texts, texts_len, flags, key_lens, key_lens_count, statuses, count);
+    int32_t status = keywrap_check_unwrap_many(kek_len, texts_len, flags, key_lens_count, count);
+    if (status != KEYWRAP_OK) return status;
     const size_t text_len = texts_len / count;
     if (text_len == 16) {
         for (size_t i = 0; i < count; i++)
-            statuses[i] = (uint8_t)keywrap_unwrap_padded_in_place(
-                kek, kek_len, texts + text_len * i, text_len, key_lens + i);
+            statuses[i] = (uint8_t)unwrap_slot(kek, kek_len, flags, texts + text_len * i, text_len,
+                                               key_lens + i);
         return KEYWRAP_OK;
     }
     struct aes aes;
     aes_set_decrypt(&aes, kek, kek_len);
     for (size_t i = 0; i < count; i += LANES) {
         struct turn turn = next_turn(texts + text_len * i, text_len, count - i);
-        const int32_t status = unwrap_turn(&aes, &turn);
+        unwrap_turn(&aes, &turn);
         for (size_t lane = 0; lane < turn.count; lane++) {
-            memset(text_of(&turn, lane), 0, 8);
-            statuses[i + lane] =
-                (uint8_t)(status == KEYWRAP_OK
-                              ? end_lane(&turn, lane, flags, &padded, key_lens + i + lane)
-                              : status);
+            uint8_t *text = text_of(&turn, lane);
+            memset(text, 0, 8);
+            statuses[i + lane] = (uint8_t)keywrap_end_unwrap_slot(
+                flags, text + 8, text_len - 8, turn.steps, turn.blocks + BLOCK * lane,
+                key_lens + i + lane);
         }
         wipe(turn.blocks, sizeof turn.blocks);
     }
@@ -16119,34 +21044,18 @@ int32_t keywrap_unwrap_many(const uint8_t *kek, size_t kek_len, uint8_t *texts, 
     return KEYWRAP_OK;
 }
 
-/* Finds the forms of the texts of a turn, by way of a copy. */
-static void kind_turn(const struct aes *aes, const uint8_t *texts, struct turn *turn,
-                      uint8_t *forms, size_t *key_lens, uint8_t *statuses) {
-    memcpy(turn->texts, texts, turn->text_len * turn->count);
-    const int32_t status = unwrap_turn(aes, turn);
-    for (size_t i = 0; i < turn->count; i++) {
-        uint32_t padded = 0;
-        statuses[i] = (uint8_t)(status == KEYWRAP_OK ? end_lane(turn, i, KEYWRAP_KEEP_FORM, &padded,
-                                                                key_lens + i)
-                                                     : status);
-        forms[i] = (uint8_t)padded;
-    }
-    wipe(turn->texts, turn->text_len * turn->count);
-    wipe(turn->blocks, sizeof turn->blocks);
-}
-
 int32_t keywrap_kind_many(const uint8_t *kek, size_t kek_len, const uint8_t *texts,
                           size_t texts_len, uint8_t *scratch, size_t room, uint8_t *forms,
                           size_t forms_count, size_t *key_lens, size_t key_lens_count,
                           uint8_t *statuses, size_t count) {
-    if (!is_kek(kek_len) || !are_slots(texts_len, count, 16) || texts_len / count - 8 != room
-        || forms_count != count || key_lens_count != count)
-        return proved_keywrap_kind_many(kek, kek_len, texts, texts_len, scratch, room, forms,
-                                        forms_count, key_lens, key_lens_count, statuses, count);
+    OR_PROVED(kind_many, kek, kek_len, texts, texts_len, scratch, room, forms, forms_count, key_lens, key_lens_count,
+              statuses, count);
+    const int32_t status = keywrap_check_kind_many(kek_len, texts_len, room, forms_count, key_lens_count, count);
+    if (status != KEYWRAP_OK) return status;
     const size_t text_len = texts_len / count;
+    uint32_t padded;
     if (text_len == 16 || text_len > COPIED) {
         for (size_t i = 0; i < count; i++) {
-            uint32_t padded;
             statuses[i] = (uint8_t)keywrap_kind(kek, kek_len, texts + text_len * i, text_len,
                                                 scratch, room, &padded, key_lens + i);
             forms[i] = (uint8_t)padded;
@@ -16158,7 +21067,16 @@ int32_t keywrap_kind_many(const uint8_t *kek, size_t kek_len, const uint8_t *tex
     aes_set_decrypt(&aes, kek, kek_len);
     for (size_t i = 0; i < count; i += LANES) {
         struct turn turn = next_turn(copy, text_len, count - i);
-        kind_turn(&aes, texts + text_len * i, &turn, forms + i, key_lens + i, statuses + i);
+        memcpy(copy, texts + text_len * i, text_len * turn.count);
+        unwrap_turn(&aes, &turn);
+        for (size_t lane = 0; lane < turn.count; lane++) {
+            statuses[i + lane] = (uint8_t)keywrap_end_unwrap_any(
+                text_of(&turn, lane) + 8, text_len - 8, turn.steps, turn.blocks + BLOCK * lane,
+                &padded, key_lens + i + lane);
+            forms[i + lane] = (uint8_t)padded;
+        }
+        wipe(copy, text_len * turn.count);
+        wipe(turn.blocks, sizeof turn.blocks);
     }
     wipe(&aes, sizeof aes);
     memset(scratch, 0, room);

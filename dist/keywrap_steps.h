@@ -4,7 +4,7 @@
  *     uint8_t wrapped[8 + 32], block[16];      the key is in wrapped + 8
  *     uint64_t done;
  *     if (keywrap_begin_wrap(iv, 8, wrapped + 8, 32, &done, block) != KEYWRAP_OK) ..
- *     while (done < 6 * 32 / 8) {
+ *     while (done < keywrap_step_count(32)) {
  *         encrypt(block);
  *         if (keywrap_step_wrap(wrapped + 8, 32, &done, block) != KEYWRAP_OK) ..
  *     }
@@ -22,7 +22,8 @@
  *   - Between two calls the block is encrypted (to wrap) or decrypted (to unwrap), once.
  *   - Between two calls nothing else writes the registers, the number or the block. They do not
  *     overlap each other or `first`.
- *   - Until the end of an unwrap, registers and block hold key material. To give up, clear them. */
+ *   - Until the end of an unwrap, registers and block hold key material. To give up, clear them. To give
+ *     up a rewrap, write a copy of the text over it: without one the key is lost. */
 
 #ifndef KEYWRAP_STEPS_H
 #define KEYWRAP_STEPS_H
@@ -38,6 +39,9 @@
 #ifdef __cplusplus
 extern "C" {
 #endif
+
+/* keywrap_step_count returns how many steps there are over registers of this length. */
+uint64_t keywrap_step_count(size_t len);
 
 /* keywrap_begin_wrap begins the plain wrapping of the key in the registers under the 8 bytes at iv;
  * the default initial value is a6 a6 a6 a6 a6 a6 a6 a6.
@@ -101,6 +105,57 @@ int32_t keywrap_end_unwrap(const uint8_t *iv, size_t iv_len, uint8_t *registers,
 KEYWRAP_CALL
 int32_t keywrap_end_unwrap_padded(uint8_t *registers, size_t len, uint64_t left, uint8_t *block,
                                   size_t *key_len);
+
+/* keywrap_end_unwrap_any ends an unwrapping that was begun by keywrap_begin_unwrap_padded, in the form
+ * that the text has, the plain one with the default initial value:
+ *   KEYWRAP_OK          the first *key_len bytes of the registers are the key, and zeros, up to 7,
+ *                       come after it; *padded is 1 in the padded form, else 0; no other key has this
+ *                       wrapping, in either form
+ *   KEYWRAP_INTEGRITY   there is no such key; the registers are all zeros
+ * The block is all zeros then. At each refusal *padded and *key_len are 0. */
+KEYWRAP_CALL
+int32_t keywrap_end_unwrap_any(uint8_t *registers, size_t len, uint64_t left, uint8_t *block,
+                               uint32_t *padded, size_t *key_len);
+
+/* A rewrapping is a sequence of runs of the steps, in one buffer:
+ *
+ *     status = keywrap_begin_rewrap(flags, text, text_len, &phase, &steps, block);
+ *     while (phase != 0) {
+ *         all steps of a wrapping, or with KEYWRAP_DECRYPT of an unwrapping, with `steps`, over the
+ *         registers text + 8, under the old KEK, or with KEYWRAP_NEW under the new one
+ *         status = keywrap_next_rewrap(flags, text, text_len, &phase, &steps, block);
+ *     }
+ *
+ * The calls decide everything else: which form the text has, whether the key fits the new form, and
+ * whether the text is new already. A text that is refused is restored.
+ *
+ * keywrap_begin_rewrap begins. The flags are those of keywrap_rewrap.
+ *   KEYWRAP_OK          *phase has the bits KEYWRAP_DECRYPT and KEYWRAP_NEW of the first run, and other
+ *                       bits; *steps is the number of its steps, and block its first block
+ *   KEYWRAP_BAD_LENGTH  as in keywrap_rewrap, or the flags are not legal; *phase is 0
+ *
+ * keywrap_next_rewrap ends a run, and begins the next one: *phase, *steps and block are as above. Or it
+ * ends the rewrapping: *phase is 0. It returns KEYWRAP_OK, KEYWRAP_ALREADY_NEW, or a refusal of
+ * keywrap_rewrap, and the buffer is what it is after that call. It also returns KEYWRAP_BAD_LENGTH, and
+ * *phase is 0, if a step is left.
+ *
+ * keywrap_next_rewrap_from does the same with a copy of the text, of the same length, which the caller
+ * made before the rewrapping: a refused text is restored from it, without a run of its own. */
+#define KEYWRAP_DECRYPT 1
+#define KEYWRAP_NEW 2
+
+KEYWRAP_CALL
+int32_t keywrap_begin_rewrap(uint32_t flags, const uint8_t *text, size_t text_len, uint32_t *phase,
+                             uint64_t *steps, uint8_t *block);
+
+KEYWRAP_CALL
+int32_t keywrap_next_rewrap(uint32_t flags, uint8_t *text, size_t text_len, uint32_t *phase,
+                            uint64_t *steps, uint8_t *block);
+
+KEYWRAP_CALL
+int32_t keywrap_next_rewrap_from(uint32_t flags, const uint8_t *copy, size_t copy_len,
+                                 uint8_t *text, size_t text_len, uint32_t *phase, uint64_t *steps,
+                                 uint8_t *block);
 
 #ifndef KEYWRAP_PORTABLE
 /* The calls for many keys of one length make the same step of each, for an AES that works on many

@@ -127,6 +127,12 @@ func UnwrapMany(kek []byte, wrapped [][]byte, flags Flags) ([][]byte, error) {
 		&s.lengths[0], s.count(), at(s.statuses), s.count()), firstLen, func(i int) int { return int(s.lengths[i]) })
 }
 
+// UnwrapManyPadded unwraps padded wrapped keys of one length, each as [UnwrapPadded] does. For lengths and results see
+// [WrapMany].
+func UnwrapManyPadded(kek []byte, wrapped [][]byte) ([][]byte, error) {
+	return UnwrapMany(kek, wrapped, OldPadded)
+}
+
 // RewrapMany rewraps wrapped keys of one length, each as [Rewrap] does. For lengths and results see [WrapMany].
 func RewrapMany(oldKEK, newKEK []byte, wrapped [][]byte, flags Flags) (rewrapped [][]byte, already []bool, err error) {
 	s := slotsOf(wrapped, 0, same)

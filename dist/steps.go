@@ -51,18 +51,25 @@ func (s *steps) clear() {
 	}
 }
 
+// run makes all steps, or undoes them. An end refuses what has not had all steps.
+func (c *Cipher) run(s *steps, decrypts bool) {
+	status := C.int32_t(C.KEYWRAP_OK)
+	for left := C.keywrap_step_count(size(s.registers)); left > 0 && status == C.KEYWRAP_OK; left-- {
+		if decrypts {
+			c.block.Decrypt(s.block, s.block)
+			status = C.keywrap_step_unwrap(at(s.registers), size(s.registers), &s.number, at(s.block))
+		} else {
+			c.block.Encrypt(s.block, s.block)
+			status = C.keywrap_step_wrap(at(s.registers), size(s.registers), &s.number, at(s.block))
+		}
+	}
+}
+
 // wrap makes the steps after a begin with this status.
 func (c *Cipher) wrap(s *steps, status C.int32_t) ([]byte, error) {
 	defer s.clear()
-	steps := C.uint64_t(len(s.registers) / 8 * 6)
-	if len(s.registers) == 8 {
-		steps = 1
-	}
-	for status == C.KEYWRAP_OK && s.number < steps {
-		c.block.Encrypt(s.block, s.block)
-		status = C.keywrap_step_wrap(at(s.registers), size(s.registers), &s.number, at(s.block))
-	}
 	if status == C.KEYWRAP_OK {
+		c.run(s, false)
 		status = C.keywrap_end_wrap(at(s.text), at(s.registers), size(s.registers), s.number, at(s.block))
 	}
 	s.ended = status == C.KEYWRAP_OK
@@ -72,12 +79,9 @@ func (c *Cipher) wrap(s *steps, status C.int32_t) ([]byte, error) {
 // unwrap makes the steps after a begin with this status, and ends them. The key has the length that end returns.
 func (c *Cipher) unwrap(s *steps, status C.int32_t, end func() (C.size_t, C.int32_t)) ([]byte, error) {
 	defer s.clear()
-	for status == C.KEYWRAP_OK && s.number > 0 {
-		c.block.Decrypt(s.block, s.block)
-		status = C.keywrap_step_unwrap(at(s.registers), size(s.registers), &s.number, at(s.block))
-	}
 	length := C.size_t(0)
 	if status == C.KEYWRAP_OK {
+		c.run(s, true)
 		length, status = end()
 	}
 	s.ended = status == C.KEYWRAP_OK
@@ -133,4 +137,49 @@ func (c *Cipher) UnwrapPadded(wrapped []byte) ([]byte, error) {
 				at(s.registers), size(s.registers), s.number, at(s.block), &length)
 			return length, status
 		})
+}
+
+// UnwrapAny is the function [UnwrapAny] under the KEK of the block cipher.
+func (c *Cipher) UnwrapAny(wrapped []byte) (key []byte, form Form, err error) {
+	s := stepsOf(plainLen(roomLen(len(wrapped))))
+	copy(s.text, wrapped)
+	var padded C.uint32_t
+	key, err = c.unwrap(s, C.keywrap_begin_unwrap_padded(
+		at(s.text), at(s.registers), size(s.registers), &s.number, at(s.block)),
+		func() (length C.size_t, status C.int32_t) {
+			status = C.keywrap_end_unwrap_any(
+				at(s.registers), size(s.registers), s.number, at(s.block), &padded, &length)
+			return length, status
+		})
+	if err != nil {
+		return nil, 0, err
+	}
+	return key, formOf(padded), nil
+}
+
+// Rewrap is the function [Rewrap] from the KEK of this block cipher to the KEK of another one. The new one only
+// encrypts, and with [PassNew] also decrypts; this one only decrypts.
+func (c *Cipher) Rewrap(newCipher *Cipher, wrapped []byte, flags Flags) (rewrapped []byte, already bool, err error) {
+	s := &steps{text: append(make([]byte, 0, len(wrapped)), wrapped...), block: make([]byte, aes.BlockSize)}
+	defer s.clear()
+	var phase C.uint32_t
+	status := C.keywrap_begin_rewrap(
+		C.uint32_t(flags), at(s.text), size(s.text), &phase, &s.number, at(s.block))
+	for phase != 0 {
+		s.registers = s.text[firstLen:]
+		next := c
+		if phase&C.KEYWRAP_NEW != 0 {
+			next = newCipher
+		}
+		next.run(s, phase&C.KEYWRAP_DECRYPT != 0)
+		status = C.keywrap_next_rewrap_from(C.uint32_t(flags), at(wrapped), size(wrapped),
+			at(s.text), size(s.text), &phase, &s.number, at(s.block))
+	}
+	already = status == C.KEYWRAP_ALREADY_NEW
+	s.ended = already || status == C.KEYWRAP_OK
+	if already {
+		return s.text, true, nil
+	}
+	rewrapped, err = result(s.text, status)
+	return rewrapped, false, err
 }

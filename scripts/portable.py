@@ -7,6 +7,7 @@ usage: portable.py KEYWRAP.WASM DIRECTORY      (WASM2C names another wasm2c)
        portable.py --needs                     (fails if a tool is missing; builds nothing)
        portable.py --tools                     (prints the tools, as they are named in keywrap.c)"""
 
+import itertools
 import os
 import pathlib
 import re
@@ -25,12 +26,14 @@ FRAME = re.compile(r"w2c_j0 = instance->w2c_g0;\s+w2c_j1 = (\d+)ull;\s+w2c_j0 -=
 # A function without a frame, which only looks whether so many bytes are left.
 LOOK = re.compile(r"w2c_j0 = instance->w2c_g0;\s+(w2c_l\d+) = w2c_j0;\s+w2c_j1 = (\d+)ull;\s+"
                   r"w2c_i0 = \(u64\)\(\(s64\)w2c_j0 ([<>]) \(s64\)w2c_j1\);")
-STEPS = {f"w2c_keywrap_{call}" for call in (
-    "begin_wrap", "begin_wrap_padded", "step_wrap", "end_wrap", "begin_unwrap", "begin_unwrap_padded", "step_unwrap",
-    "end_unwrap", "end_unwrap_padded")}
-WHOLE_ONLY = "#ifndef KEYWRAP_STEPS_ONLY\n"
+STEPS, CHECKS = ({f"w2c_{call}" for call in re.findall(
+    r"^(?:KEYWRAP_CHECK )?u?int\d+_t (keywrap_\w+)\(", (ROOT / "c/include" / header).read_text(), re.M)}
+    for header in ("keywrap_steps.h", "keywrap_checks.h"))
+# The steps of many keys side by side are only in the C library.
+STEPS = {call for call in STEPS if not call.endswith("_many")}
+WHOLE_ONLY, WITH_AES = "#ifndef KEYWRAP_STEPS_ONLY\n", "#ifdef WITH_AES\n"
 # The processor's AES, in the order in which one file can have them.
-HARDWARE = ["aes.h", "run.h", "x86_64.c", "aarch64.c", "aes.c", "keywrap.c"]
+HARDWARE = ["aes.h", "run.h", "x86_64.c", "aarch64.c", "aes.c", "checks.c", "keywrap.c", "lanes.c", "many.c"]
 
 
 def the_one(what, pattern, text):
@@ -141,25 +144,36 @@ def module_of(text):
     if not bodies or prototypes.keys() != bodies.keys() or not STEPS <= bodies.keys():
         sys.exit("portable.py: the functions: not those that are declared")
     needs, steps = stack_needs(bodies), reached_from(STEPS, bodies)
+    whole = reached_from({name for name in bodies if name.startswith("w2c_keywrap_")} - CHECKS, bodies)
     size = constants.count("0x")
-    numbers = {"STACK": in_sixteens(max(needs.values())), "STEPS_STACK": in_sixteens(max(map(needs.get, STEPS))),
+    numbers = {"STACK": in_sixteens(max(needs.values())),
+               "STEPS_STACK": in_sixteens(max(map(needs.get, STEPS | CHECKS))),
                "DATA": size, "TOP": top}
     written = {found[1]: function_of(found, top, top + size) for found in functions}
-    if any("constant_" in written[name] for name in steps):
-        sys.exit("portable.py: the steps: they read constants")
-    parts = [(name in steps, piece) for pieces in (prototypes, written) for name, piece in pieces.items()]
-    module = "".join(piece if always else f"{WHOLE_ONLY}{piece}#endif\n" for always, piece in parts)
-    module = module.replace(f"#endif\n{WHOLE_ONLY}", "")
-    return numbers, f"static const u8 constants[DATA] = {{\n{constants}}};", module
+    # The statuses and phases of a rewrap, in a row: the steps have no table of AES.
+    loads = [load for name in steps for load in re.findall(r"constant_(\w+)\((.*)\);", written[name])]
+    places = sorted({int(place.rpartition("+ ")[2].rstrip("u)")) for _, place in loads})
+    if {load for load, _ in loads} != {"i32_load"} or places[-1] - places[0] > 64:
+        sys.exit("portable.py: the steps: they read other constants")
+    numbers |= {"STEPS_AT": places[0], "STEPS_DATA": places[-1] + 12 - places[0]}
+    those = re.findall("0x..", constants)[places[0] - top:][:numbers["STEPS_DATA"]]
+    parts = [("" if name in steps else WHOLE_ONLY if name in whole else WITH_AES, piece)
+             for pieces in (prototypes, written) for name, piece in pieces.items()]
+    module = ""
+    for only, group in itertools.groupby(parts, lambda part: part[0]):
+        pieces = "".join(piece for _, piece in group)
+        module += f"{only}{pieces}#endif\n" if only else pieces
+    return numbers, [f"static const u8 constants[CONSTANTS] = {{\n{bytes_of}}};"
+                     for bytes_of in (constants, "    " + ", ".join(those) + "\n")], module
 
 
 def hardware():
     """The calls by the processor's AES as one part of the file, in which nothing but the calls has a name outside."""
     parts = []
-    for name in HARDWARE + ["lanes.c", "many.c"]:
-        text = (PARTS if name == "lanes.c" else ROOT / "c/hardware").joinpath(name).read_text()
-        text = re.sub(r"^#include (?:\"(?:aes|run)\.h\"|<keywrap(?:_steps)?\.h>|<std\w+\.h>|<string\.h>)\n", "", text,
-                      flags=re.M)
+    for name in HARDWARE:
+        text = (PARTS if name in ("checks.c", "lanes.c") else ROOT / "c/hardware").joinpath(name).read_text()
+        text = re.sub(r"^#include (?:\"(?:aes|run)\.h\"|<keywrap(?:_steps|_checks)?\.h>|<std\w+\.h>|<string\.h>)\n",
+                      "", text, flags=re.M)
         if name.endswith(".h"):
             # A compiler that sees the round keys of an inlined function would keep copies of them on the stack.
             text = re.sub(r"^(?=(?:int|void|int32_t) \w+\()", "static APART ", text, flags=re.M)
@@ -209,7 +223,8 @@ def main(wasm, directory):
     numbers, constants, module = module_of(translated(wasm))
     macros = "\n".join(f"#define {name} {value}" for name, value in numbers.items())
     runtime, calls, steps = [(PARTS / name).read_text() for name in ("runtime.c", "calls.c", "steps.c")]
-    for name, value in {"HEAD": head(), "NUMBERS": macros, "CONSTANTS": constants}.items():
+    for name, value in {"HEAD": head(), "NUMBERS": macros, "CONSTANTS": constants[0],
+                        "STEPS_CONSTANTS": constants[1]}.items():
         the_one(f"the place of {name}", rf"^@{name}@$", runtime)
         runtime = runtime.replace(f"@{name}@", value)
     by_hand = [calls, steps, hardware()]

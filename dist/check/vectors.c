@@ -1,9 +1,10 @@
 /* vectors.c: wraps and unwraps the vectors of RFC 3394 and RFC 5649, and sees that a damaged wrapped
- * key is refused. Exits with 0 if all is right, otherwise with the number of the vector that is not,
- * or with 9 if the self test of the library fails. */
+ * key is refused. Prints what is right or wrong. Exits with 0 if all is right, otherwise with the number
+ * of the wrong vector, or with 9 if the self test of the library fails. */
 
 #include "keywrap.h"
 
+#include <stdio.h>
 #include <string.h>
 
 enum { LONGEST = 40 };
@@ -70,7 +71,16 @@ static int is_right(const struct vector *vector) {
 }
 
 int main(void) {
-    for (size_t i = 0; i < sizeof VECTORS / sizeof *VECTORS; i++)
-        if (!is_right(&VECTORS[i])) return (int)i + 1;
-    return keywrap_self_test() == KEYWRAP_OK ? 0 : 9;
+    const int count = sizeof VECTORS / sizeof *VECTORS;
+    for (int i = 0; i < count; i++)
+        if (!is_right(&VECTORS[i])) {
+            printf("vector %d of %d: wrong\n", i + 1, count);
+            return i + 1;
+        }
+    if (keywrap_self_test() != KEYWRAP_OK) {
+        printf("%d vectors: right; the self test: wrong\n", count);
+        return 9;
+    }
+    printf("%d vectors and the self test: right\n", count);
+    return 0;
 }

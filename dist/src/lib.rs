@@ -1,7 +1,7 @@
 //! AES Key Wrap, plain (RFC 3394) and padded (RFC 5649), by AES-128, AES-192 and AES-256.
 //!
 //! A key-encryption key (KEK) wraps a key. Unwrapping gives the key back, or fails the integrity
-//! check. The calls have the names of RustCrypto's `aes-kw`.
+//! check. The calls have the names of RustCrypto's `aes-kw` 0.2.
 //!
 //! ```
 //! # #[cfg(feature = "alloc")]

@@ -35,7 +35,7 @@
 //! later, also by a panic of the function, `out` is all zeros.
 
 use crate::error::{result_of, Error, Result};
-use crate::{room, sys, Form, IV};
+use crate::{room, sys, Form, Forms, Rewrapped, IV};
 use core::fmt;
 use core::sync::atomic::{compiler_fence, Ordering};
 
@@ -174,11 +174,8 @@ impl<'a> Wrapping<'a> {
         for (to, from) in registers.iter_mut().zip(data) {
             *to = *from;
         }
-        // 6 steps for each 8 bytes, but 1 for 8 bytes.
-        self.steps = match registers.len() as u64 {
-            8 => 1,
-            len => len / 8 * 6,
-        };
+        // SAFETY: it takes a number only.
+        self.steps = unsafe { sys::keywrap_step_count(registers.len()) };
     }
 
     /// Returns the next block to encrypt, or `None` after the last step.
@@ -257,8 +254,17 @@ pub struct Unwrapping<'a> {
     out: &'a mut [u8],
     left: u64,
     block: [u8; 16],
-    /// The initial value of the plain form.
-    iv: Option<[u8; 8]>,
+    check: Check,
+}
+
+/// The form in which an unwrapping is checked.
+#[derive(Clone, Copy)]
+enum Check {
+    /// The plain form, with this initial value.
+    Plain([u8; 8]),
+    Padded,
+    /// The form that the wrapped key has.
+    Either,
 }
 
 impl<'a> Unwrapping<'a> {
@@ -269,24 +275,29 @@ impl<'a> Unwrapping<'a> {
 
     /// Begins to unwrap `data` in the plain form, under an initial value that both ends agreed on.
     pub fn with_iv(iv: &[u8; 8], data: &[u8], out: &'a mut [u8]) -> Result<Self> {
-        Self::begin(Some(*iv), data, out, sys::keywrap_begin_unwrap)
+        Self::begin(Check::Plain(*iv), data, out, sys::keywrap_begin_unwrap)
     }
 
     /// Begins to unwrap `data` in the padded form.
     pub fn with_padding(data: &[u8], out: &'a mut [u8]) -> Result<Self> {
-        Self::begin(None, data, out, sys::keywrap_begin_unwrap_padded)
+        Self::begin(Check::Padded, data, out, sys::keywrap_begin_unwrap_padded)
+    }
+
+    /// Begins to unwrap `data` in the form that it has, the plain one with the default initial value.
+    /// [`end_with_form`](Self::end_with_form) returns the form.
+    pub fn in_either_form(data: &[u8], out: &'a mut [u8]) -> Result<Self> {
+        Self::begin(Check::Either, data, out, sys::keywrap_begin_unwrap_padded)
     }
 
     fn begin(
-        iv: Option<[u8; 8]>,
+        check: Check,
         data: &[u8],
         out: &'a mut [u8],
         begin: unsafe extern "C" fn(*const u8, *const u8, usize, *mut u64, *mut u8) -> i32,
     ) -> Result<Self> {
-        let form = if iv.is_some() {
-            Form::Plain
-        } else {
-            Form::Padded
+        let form = match check {
+            Check::Plain(_) => Form::Plain,
+            Check::Padded | Check::Either => Form::Padded,
         };
         fits(form.has_text_of(data.len()), room(data.len()), out)?;
         let (first, registers) = data.split_at(data.len().min(8));
@@ -294,7 +305,7 @@ impl<'a> Unwrapping<'a> {
             out: &mut [],
             left: 0,
             block: [0; 16],
-            iv,
+            check,
         };
         // SAFETY: the rules of `sys`. There are 8 bytes before the registers, and a block has 16.
         let status = unsafe {
@@ -345,8 +356,13 @@ impl<'a> Unwrapping<'a> {
 
     /// Ends the unwrapping after the last step, and returns the key, which is the start of `out`.
     /// In the padded form zeros come after it.
-    pub fn end(mut self) -> Result<&'a [u8]> {
-        let mut key_len = self.out.len();
+    pub fn end(self) -> Result<&'a [u8]> {
+        self.end_with_form().map(|(key, _)| key)
+    }
+
+    /// Ends the unwrapping, as [`end`](Self::end) does, and also returns the form of the wrapped key.
+    pub fn end_with_form(mut self) -> Result<(&'a [u8], Form)> {
+        let (mut key_len, mut padded) = (self.out.len(), 0);
         let (out, len, block) = (
             self.out.as_mut_ptr(),
             self.out.len(),
@@ -354,16 +370,28 @@ impl<'a> Unwrapping<'a> {
         );
         // SAFETY: the rules of `sys`. A block has 16 bytes.
         stepped(unsafe {
-            match &self.iv {
-                Some(iv) => {
+            match &self.check {
+                Check::Plain(iv) => {
                     sys::keywrap_end_unwrap(iv.as_ptr(), iv.len(), out, len, self.left, block)
                 }
-                None => sys::keywrap_end_unwrap_padded(out, len, self.left, block, &mut key_len),
+                Check::Padded => {
+                    padded = sys::KEYWRAP_OLD_PADDED;
+                    sys::keywrap_end_unwrap_padded(out, len, self.left, block, &mut key_len)
+                }
+                Check::Either => sys::keywrap_end_unwrap_any(
+                    out,
+                    len,
+                    self.left,
+                    block,
+                    &mut padded,
+                    &mut key_len,
+                ),
             }
         })?;
         // The drop does not clear it.
         let out = core::mem::take(&mut self.out);
-        out.get(..key_len).ok_or(Error::IntegrityCheckFailed)
+        let key = out.get(..key_len).ok_or(Error::IntegrityCheckFailed)?;
+        Ok((key, Form::of(padded)))
     }
 
     /// Makes all steps with a function that decrypts a block, ends the unwrapping, and returns the
@@ -381,6 +409,170 @@ impl<'a> Unwrapping<'a> {
 }
 
 impl Drop for Unwrapping<'_> {
+    fn drop(&mut self) {
+        clear(self.out);
+        clear(&mut self.block);
+    }
+}
+
+/// What a rewrapping does with a block.
+#[derive(Clone, Copy, Debug, PartialEq, Eq)]
+pub enum Operation {
+    /// The block is decrypted under the old KEK.
+    DecryptOld,
+    /// The block is encrypted under the new KEK.
+    EncryptNew,
+    /// The block is decrypted under the new KEK, to see whether the wrapped key is new already.
+    DecryptNew,
+}
+
+/// A rewrapping that has begun.
+#[must_use]
+pub struct Rewrapping<'a> {
+    data: &'a [u8],
+    out: &'a mut [u8],
+    flags: u32,
+    phase: u32,
+    steps: u64,
+    /// How many steps the run still has.
+    left: u64,
+    status: i32,
+    block: [u8; 16],
+}
+
+impl<'a> Rewrapping<'a> {
+    /// Begins to rewrap `data`, as [`rewrap`](crate::KekSlice::rewrap) does, into `out`, which is as
+    /// long.
+    pub fn new(data: &'a [u8], out: &'a mut [u8], forms: Forms, pass_new: bool) -> Result<Self> {
+        fits(true, data.len(), out)?;
+        let mut new = Self {
+            data,
+            out: &mut [],
+            flags: forms.flags(pass_new),
+            phase: 0,
+            steps: 0,
+            left: 0,
+            status: 0,
+            block: [0; 16],
+        };
+        // SAFETY: the rules of `sys`. A block has 16 bytes.
+        let status = unsafe {
+            sys::keywrap_begin_rewrap(
+                new.flags,
+                data.as_ptr(),
+                data.len(),
+                &mut new.phase,
+                &mut new.steps,
+                new.block.as_mut_ptr(),
+            )
+        };
+        result_of(status, 0, Error::InvalidDataSize)?;
+        out.copy_from_slice(data);
+        new.out = out;
+        new.begin_run();
+        Ok(new)
+    }
+
+    fn begin_run(&mut self) {
+        // SAFETY: it takes a number only.
+        self.left = unsafe { sys::keywrap_step_count(room(self.data.len())) };
+    }
+
+    /// Returns the next block and what is to be done with it, or `None` after the last step.
+    #[must_use]
+    pub fn block(&self) -> Option<(Operation, &[u8; 16])> {
+        let operation = match self.phase & (sys::KEYWRAP_DECRYPT | sys::KEYWRAP_NEW) {
+            _ if self.phase == 0 => return None,
+            sys::KEYWRAP_DECRYPT => Operation::DecryptOld,
+            sys::KEYWRAP_NEW => Operation::EncryptNew,
+            _ => Operation::DecryptNew,
+        };
+        Some((operation, &self.block))
+    }
+
+    /// Makes a step with what was made of [`block`](Self::block).
+    pub fn step(&mut self, block: &[u8; 16]) -> Result<()> {
+        if self.phase == 0 {
+            return Err(Error::InvalidStep);
+        }
+        self.block = *block;
+        self.advance()
+    }
+
+    fn advance(&mut self) -> Result<()> {
+        let step = if self.phase & sys::KEYWRAP_DECRYPT == 0 {
+            sys::keywrap_step_wrap
+        } else {
+            sys::keywrap_step_unwrap
+        };
+        let (_, registers) = split(self.out);
+        // SAFETY: the rules of `sys`. A block has 16 bytes.
+        stepped(unsafe {
+            step(
+                registers.as_mut_ptr(),
+                registers.len(),
+                &mut self.steps,
+                self.block.as_mut_ptr(),
+            )
+        })?;
+        self.left -= 1;
+        if self.left == 0 {
+            self.turn();
+        }
+        Ok(())
+    }
+
+    /// Ends a run. The call says which comes next.
+    fn turn(&mut self) {
+        // SAFETY: the rules of `sys`. A block has 16 bytes.
+        self.status = unsafe {
+            sys::keywrap_next_rewrap_from(
+                self.flags,
+                self.data.as_ptr(),
+                self.data.len(),
+                self.out.as_mut_ptr(),
+                self.out.len(),
+                &mut self.phase,
+                &mut self.steps,
+                self.block.as_mut_ptr(),
+            )
+        };
+        self.begin_run();
+    }
+
+    /// Ends the rewrapping after the last step. Then `out` is the new wrapped key, or `data` if that
+    /// was new already.
+    pub fn end(mut self) -> Result<Rewrapped> {
+        if self.phase != 0 {
+            return Err(Error::InvalidStep);
+        }
+        let already = self.status == sys::KEYWRAP_ALREADY_NEW;
+        if !already {
+            result_of(self.status, 0, Error::InvalidDataSize)?;
+        }
+        // The drop does not clear it.
+        self.out = &mut [];
+        Ok(if already {
+            Rewrapped::AlreadyNew
+        } else {
+            Rewrapped::Fresh
+        })
+    }
+
+    /// Makes all steps with a function that does this operation on a block, and ends the rewrapping.
+    pub fn run<E>(
+        mut self,
+        mut cipher: impl FnMut(Operation, &mut [u8; 16]) -> core::result::Result<(), E>,
+    ) -> core::result::Result<Rewrapped, Stopped<E>> {
+        while let Some((operation, _)) = self.block() {
+            cipher(operation, &mut self.block).map_err(Stopped::Cipher)?;
+            self.advance()?;
+        }
+        Ok(self.end()?)
+    }
+}
+
+impl Drop for Rewrapping<'_> {
     fn drop(&mut self) {
         clear(self.out);
         clear(&mut self.block);

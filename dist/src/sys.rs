@@ -43,6 +43,8 @@ constants! {
     KEYWRAP_NEW_PADDED: u32 = 2;
     KEYWRAP_KEEP_FORM: u32 = 4;
     KEYWRAP_PASS_NEW: u32 = 8;
+    KEYWRAP_DECRYPT: u32 = 1;
+    KEYWRAP_NEW: u32 = 2;
     /// The bytes of the longest key.
     KEYWRAP_MAX_KEY: usize = 1048576;
     /// The bytes of the longest wrapped key.
@@ -92,6 +94,7 @@ calls! {
         scratch: *mut u8, room: usize, forms: *mut u8, forms_count: usize, key_lens: *mut usize,
         key_lens_count: usize, statuses: *mut u8, count: usize) -> i32;
 
+    fn keywrap_step_count(len: usize) -> u64;
     fn keywrap_begin_wrap(iv: *const u8, iv_len: usize, registers: *const u8, len: usize,
         done: *mut u64, block: *mut u8) -> i32;
     fn keywrap_begin_wrap_padded(key_len: usize, registers: *mut u8, len: usize, done: *mut u64,
@@ -108,6 +111,12 @@ calls! {
         block: *mut u8) -> i32;
     fn keywrap_end_unwrap_padded(registers: *mut u8, len: usize, left: u64, block: *mut u8,
         key_len: *mut usize) -> i32;
+    fn keywrap_end_unwrap_any(registers: *mut u8, len: usize, left: u64, block: *mut u8,
+        padded: *mut u32, key_len: *mut usize) -> i32;
+    fn keywrap_begin_rewrap(flags: u32, text: *const u8, text_len: usize, phase: *mut u32,
+        steps: *mut u64, block: *mut u8) -> i32;
+    fn keywrap_next_rewrap_from(flags: u32, copy: *const u8, copy_len: usize, text: *mut u8,
+        text_len: usize, phase: *mut u32, steps: *mut u64, block: *mut u8) -> i32;
 }
 
 #[cfg(test)]

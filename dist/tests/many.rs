@@ -1,8 +1,6 @@
 //! The calls for many keys: each slot as the call for one key, and the refusals of the whole call.
 
-use keywrap::{
-    Error, Form, Forms, KekAes128, KekAes256, KekSlice, Kind, Rewrapped, Status, KEYWRAP_MAX_TEXT,
-};
+use keywrap::{Error, Form, Forms, KekAes128, KekAes256, KekSlice, Kind, Rewrapped, Status};
 use Error::{IntegrityCheckFailed, InvalidDataSize, KeyNotPlain};
 use Form::{Padded, Plain};
 
@@ -152,83 +150,30 @@ fn kinds() {
     assert_eq!(scratch, [0; SLOT - 8]);
 }
 
-/// Each number of slots with every length of the whole: nothing is changed if it is refused.
+/// The refusals of the whole name what is wrong. A status is a refusal before a call.
 #[test]
-fn lengths() {
+fn refusals() {
     let (kek, other) = keks();
     let before = Status::default();
     assert_eq!(before.result(), Err(IntegrityCheckFailed));
-    for count in 0..5 {
-        for len in 0..100 {
-            let is_legal = |least| {
-                count > 0 && len % count == 0 && len / count % 8 == 0 && len / count >= least
-            };
-            let mut statuses = vec![before; count];
-            let mut slots = vec![1; len];
-            let due = if is_legal(24) {
-                Ok(())
-            } else {
-                Err(InvalidDataSize)
-            };
-            let key_len = len.checked_div(count).unwrap_or(0).saturating_sub(8);
-            assert_eq!(
-                kek.wrap_many(Plain, &mut slots, key_len, &mut statuses),
-                due
-            );
-            assert_eq!(slots == vec![1; len], due.is_err());
-            let mut slots = vec![1; len];
-            let rewrapped = kek.rewrap_many(&other, &mut slots, Forms::Kept, true, &mut statuses);
-            assert_eq!(
-                rewrapped.map(|_| ()),
-                if is_legal(16) {
-                    Ok(())
-                } else {
-                    Err(InvalidDataSize)
-                }
-            );
-            assert_eq!(slots, vec![1; len]);
-            for lens in 0..5 {
-                let due = match lens == count {
-                    true if is_legal(24) => Ok(()),
-                    true => Err(InvalidDataSize),
-                    false => Err(output(count)),
-                };
-                let mut slots = vec![1; len];
-                let mut lens = vec![7; lens];
-                let made = kek.unwrap_many(Plain, &mut slots, &mut lens, &mut statuses);
-                assert_eq!(made.map(|_| ()), due);
-                assert_eq!(
-                    lens.contains(&7) || lens.is_empty(),
-                    due.is_err() || lens.is_empty()
-                );
-                for room in [0, 8, 16, 24] {
-                    let slot = len.checked_div(count).unwrap_or(0);
-                    let due = match lens.len() == count {
-                        true if is_legal(16) && room == slot - 8 => Ok(()),
-                        true if room == slot.saturating_sub(8) => Err(InvalidDataSize),
-                        true => Err(output(slot.saturating_sub(8))),
-                        false => Err(output(count)),
-                    };
-                    let mut padded = vec![7; count];
-                    let slots = vec![1; len];
-                    let scratch = &mut vec![7; room];
-                    let made =
-                        kek.kind_many(&slots, scratch, &mut padded, &mut lens, &mut statuses);
-                    assert_eq!(made.map(|_| ()), due);
-                }
-            }
-        }
+    let (mut one, mut slots) = ([before], vec![1; 24]);
+    let refused = kek
+        .unwrap_many(Plain, &mut slots, &mut [7; 2], &mut one)
+        .map(|_| ());
+    assert_eq!(refused, Err(output(1)));
+    for (room, forms, due) in [(8, 1, 16), (16, 2, 1)] {
+        let (mut scratch, mut forms) = (vec![7; room], vec![7; forms]);
+        let refused = kek
+            .kind_many(&slots, &mut scratch, &mut forms, &mut [7], &mut one)
+            .map(|_| ());
+        assert_eq!(refused, Err(output(due)));
     }
-    let mut slots = vec![1; KEYWRAP_MAX_TEXT + 8];
-    let refused = kek.wrap_many(Plain, &mut slots, KEYWRAP_MAX_TEXT, &mut [before]);
-    assert_eq!(refused, Err(InvalidDataSize));
+    let made = kek.rewrap_many(&other, &mut slots[..17], Forms::Kept, true, &mut one);
+    assert_eq!(made.map(|_| ()), Err(InvalidDataSize));
     let short = KekSlice::new(&[1; 15]);
     let size = Error::InvalidKekSize { size: 15 };
-    assert_eq!(
-        short.wrap_many(Plain, &mut [1; 24], 16, &mut [before]),
-        Err(size)
-    );
-    let mut one = [before];
-    let refused = kek.rewrap_many(short, &mut [1; 24], Forms::Kept, true, &mut one);
-    assert_eq!(refused.map(|_| ()), Err(size));
+    assert_eq!(short.wrap_many(Plain, &mut slots, 16, &mut one), Err(size));
+    let made = kek.rewrap_many(short, &mut slots, Forms::Kept, true, &mut one);
+    assert_eq!(made.map(|_| ()), Err(size));
+    assert_eq!((slots, one), (vec![1; 24], [before]));
 }

@@ -3,8 +3,8 @@
 mod common;
 
 use common::{hex, Aes};
-use keywrap::steps::{Stopped, Unwrapping, Wrapping};
-use keywrap::{Error, KekSlice};
+use keywrap::steps::{Operation, Rewrapping, Stopped, Unwrapping, Wrapping};
+use keywrap::{Error, Form, Forms, KekSlice};
 use std::convert::Infallible;
 use std::mem::ManuallyDrop;
 use Error::{IntegrityCheckFailed, InvalidDataSize, InvalidIv, InvalidStep};
@@ -310,4 +310,85 @@ fn blocks_are_cleared() {
     assert_eq!(after_drop(wrapping, |steps| steps.block()), [0; 16]);
     let unwrapping = ManuallyDrop::new(Unwrapping::new(&[9; 24], &mut key).unwrap());
     assert_eq!(after_drop(unwrapping, |steps| steps.block()), [0; 16]);
+}
+
+/// Wrapped keys of both forms, under each of two KEKs, and what is none.
+fn wrapped_keys(old: &KekSlice, new: &KekSlice) -> Vec<Vec<u8>> {
+    let mut texts = vec![vec![], vec![3; 20], vec![3; 24]];
+    for kek in [old, new] {
+        for len in [5, 8, 16, 24, 27, 40] {
+            let key: Vec<u8> = (0..len).collect();
+            let mut padded = vec![0; 8 + (key.len() + 7) / 8 * 8];
+            kek.wrap_with_padding(&key, &mut padded).unwrap();
+            texts.push(padded);
+            let mut plain = vec![0; 8 + key.len()];
+            if kek.wrap(&key, &mut plain).is_ok() {
+                texts.push(plain);
+            }
+        }
+    }
+    texts
+}
+
+/// A rewrap by steps is that of the call with both KEKs, for each form and each text.
+#[test]
+fn rewraps_as_the_call() {
+    let (old_bytes, new_bytes) = ([7; 16], [9; 32]);
+    let (old, new) = (KekSlice::new(&old_bytes), KekSlice::new(&new_bytes));
+    let (old_aes, new_aes) = (Aes::new(&old_bytes), Aes::new(&new_bytes));
+    let given = [Form::Plain, Form::Padded];
+    let mut all = vec![Forms::Kept];
+    all.extend(
+        given
+            .map(|old| given.map(|new| Forms::Given { old, new }))
+            .concat(),
+    );
+    for text in wrapped_keys(old, new) {
+        for &forms in &all {
+            for pass_new in [false, true] {
+                let mut due = text.clone();
+                let called = old.rewrap(new, &mut due, forms, pass_new);
+                let mut out = vec![1; text.len()];
+                let result =
+                    Rewrapping::new(&text, &mut out, forms, pass_new).map_err(Stopped::from);
+                let result = result.and_then(|begun| {
+                    begun.run(|operation, block| {
+                        match operation {
+                            Operation::DecryptOld => old_aes.decrypt(block),
+                            Operation::EncryptNew => new_aes.encrypt(block),
+                            Operation::DecryptNew => new_aes.decrypt(block),
+                        }
+                        Ok::<(), Infallible>(())
+                    })
+                });
+                if called.is_ok() {
+                    assert_eq!(out, due);
+                }
+                assert_eq!(result, called.map_err(Stopped::from));
+            }
+        }
+    }
+}
+
+/// The form is returned, and the key, of what has one.
+#[test]
+fn unwraps_in_either_form() {
+    let kek_bytes = [7; 16];
+    let (kek, aes) = (KekSlice::new(&kek_bytes), Aes::new(&kek_bytes));
+    for text in wrapped_keys(kek, KekSlice::new(&[9; 32])) {
+        let kind = kek.kind(&text, &mut vec![0; text.len().saturating_sub(8)]);
+        let mut out = vec![1; text.len().saturating_sub(8)];
+        match Unwrapping::in_either_form(&text, &mut out) {
+            Err(error) => assert_eq!((error, kind.is_err()), (InvalidDataSize, true)),
+            Ok(mut begun) => {
+                while let Some(block) = begun.block() {
+                    let mut block = *block;
+                    aes.decrypt(&mut block);
+                    begun.step(&block).unwrap();
+                }
+                let ended = begun.end_with_form().map(|(key, form)| (key.len(), form));
+                assert_eq!(ended, kind.map(|kind| (kind.key_len, kind.form)));
+            }
+        };
+    }
 }

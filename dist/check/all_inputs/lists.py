@@ -1,0 +1,143 @@
+"""The lists of calls: each is the name of a function of calls.py and its numbers."""
+
+import itertools
+
+KEKS = 16, 24, 32
+SHORT = """
+begin_wrap 16 8,begin_wrap_padded 5 8,step_wrap 16 3,step_unwrap 16 3,step_wrap 8 0,end_wrap 16 12,begin_unwrap 16 0
+begin_unwrap 8 1,end_unwrap 16 0,end_unwrap_padded 16 0,end_unwrap_any 16 0,wrap 17 16,wrap 16 8,wrap 16 17,wrap 16 20
+wrap 16 16 23,unwrap 16 16 23,wrap_padded 16 16 23,unwrap_padded 16 16 23,unwrap 16 8,unwrap_padded 16 15
+wrap_padded 16 0,unwrap_padded 16 8,wrap_padded 16 1,wrap_padded 16 17,wrap 16 16,unwrap 16 16,wrap 24 24,unwrap 24 24
+wrap 32 16,unwrap 32 16,unwrap_padded 32 16,wrap_with 16 16,unwrap_with 16 16,wrap_in_place 16 16,unwrap_in_place 16 16
+wrap_padded_in_place 16 9,unwrap_padded_in_place 16 16,unwrap_any 16 16,kind 16 16,rewrap 16 24 24 1,rewrap 16 32 24 8
+rewrap_in_place 16 16 24 2,rewrap_steps 16 24 24 9,rewrap_steps 16 16 16 4 1,wrap_many 16 16 0 2,unwrap_many 16 24 0 2
+rewrap_many 16 16 24 0 1,kind_many 16 16 1,begin_wrap_many 16 2 2,step_wrap_many 16 3 2 2,end_wrap_many 16 12 2 2
+begin_unwrap_many 16 2 2,step_unwrap_many 16 3 2 2,end_unwrap_many 16 0 2 2,self_test,wrap 16 352,unwrap 16 352
+"""
+FLAGS = (0, 1, 2, 3, 4, 8, 9, 10, 11, 12)
+
+
+def short_list():
+    for line in SHORT.replace('\n', ',').split(','):
+        if line:
+            name, *numbers = line.split()
+            yield name, *map(int, numbers)
+
+
+def lengths_list(keks, most):
+    """Every call for one key, at each length to `most`."""
+    for kek in keks:
+        for n in range(16, most + 1, 8):
+            for name in 'wrap', 'unwrap', 'wrap_with', 'unwrap_with', 'wrap_in_place', 'unwrap_in_place':
+                yield name, kek, n
+        for n in range(1, most + 1):
+            yield 'wrap_padded', kek, n
+            yield 'wrap_padded_in_place', kek, n
+        for n in range(8, most + 1, 8):
+            for name in 'unwrap_padded', 'unwrap_padded_in_place', 'unwrap_any', 'kind':
+                yield name, kek, n
+
+
+def rewraps_list(pairs, texts):
+    for flags, text, (old, new) in itertools.product(FLAGS, texts, pairs):
+        yield 'rewrap', old, new, text, flags
+        yield 'rewrap_steps', old, new, text, flags
+        yield 'rewrap_steps', old, new, text, flags, 1
+        if flags < 4:
+            yield 'rewrap_in_place', old, new, text, flags
+
+
+def many_list(keks, places):
+    for kek, count in itertools.product(keks, (1, 2)):
+        yield 'wrap_many', kek, 16, 0, count
+        yield 'wrap_many', kek, 11, 2, count
+        yield 'unwrap_many', kek, 24, 0, count
+        yield 'unwrap_many', kek, 16, 1, count
+        yield 'kind_many', kek, 16, count
+        yield 'kind_many', kek, 24, count
+        yield 'rewrap_many', kek, 24, 24, 0, count
+        yield 'rewrap_many', kek, 24, 24, 9, count
+    for count in 24, 25:
+        yield 'wrap_many', 16, 16, 0, count
+    for only in places:
+        yield 'unwrap_many', 16, 24, 0, 25, only
+        yield 'unwrap_many', 32, 24, 1, 25, only
+        yield 'kind_many', 16, 24, 25, only
+        for flags in 8, 9, 12:
+            yield 'rewrap_many', 16, 32, 24, flags, 25, only
+
+
+def steps_list(most):
+    for n in range(most + 2):
+        for iv in 0, 7, 8, 9:
+            yield 'begin_wrap', n, iv
+        yield 'begin_unwrap', n, 0
+        yield 'begin_unwrap', n, 1
+        for left, name in itertools.product((0, 1), ('end_unwrap', 'end_unwrap_padded', 'end_unwrap_any')):
+            yield name, n, left
+        for key in range(n + 2):
+            yield 'begin_wrap_padded', key, n
+        for done in range(6 * n // 8 + 2):
+            for name in 'step_wrap', 'step_unwrap', 'end_wrap':
+                yield name, n, done
+    for n, count, lanes in itertools.product((8, 16, 17, 24), (1, 2), (1, 2)):
+        yield 'begin_wrap_many', n, count, lanes
+        yield 'begin_unwrap_many', n, count, lanes
+        for number in range(6 * n // 8 + 2):
+            for name in 'step_wrap_many', 'step_unwrap_many', 'end_wrap_many', 'end_unwrap_many':
+                yield name, n, number, count, lanes
+
+
+def refusals_list():
+    """Lengths that are refused, and their neighbours."""
+    for kek, n in itertools.product((0, 15, 16, 17, 24, 32, 33), (0, 1, 8, 15, 16, 17)):
+        for out in 0, 8, 16, 23, 24, 25:
+            for name in 'wrap', 'unwrap', 'wrap_padded', 'unwrap_padded', 'unwrap_any', 'kind':
+                yield name, kek, n, out
+        for name in 'wrap_in_place', 'unwrap_in_place', 'wrap_padded_in_place', 'unwrap_padded_in_place':
+            yield name, kek, n
+        for text, flags in itertools.product((0, 8, 15, 16, 23), (0, 1, 4, 5, 8, 16)):
+            if (kek, n) in ((17, 16), (16, 17)) or n == 16 and text != 16:
+                yield 'rewrap', kek, n, text, flags
+                yield 'rewrap_in_place', kek, n, text, flags
+    for kek, n in itertools.product(KEKS, range(34)):
+        if n % 8:
+            for name in ('wrap', 'unwrap', 'wrap_with', 'unwrap_with', 'wrap_in_place', 'unwrap_in_place',
+                         'unwrap_padded', 'unwrap_padded_in_place'):
+                yield name, kek, n
+    for iv in 0, 7, 9:
+        yield 'wrap_with', 16, 16, iv
+        yield 'unwrap_with', 16, 16, iv
+    for name, kek, n, flags in itertools.product(('wrap_many', 'unwrap_many'), (16, 17), (0, 8, 23, 24), (0, 1, 2, 4)):
+        if (kek, n) != (16, 24) and (name, flags) != ('unwrap_many', 1) or flags == 4:
+            yield name, kek, n, flags, 2
+    for kek, n in (17, 24), (16, 0), (16, 23):
+        yield 'kind_many', kek, n, 2
+        yield 'rewrap_many', kek, 16, n, 0, 2
+        yield 'rewrap_many', 16, kek, n, 12, 2
+
+
+def long_list():
+    yield from lengths_list(KEKS, 32)
+    yield from rewraps_list(((16, 16), (32, 24)), (16, 24, 32))
+    yield from many_list((16,), (0, 23, 24))
+    yield from steps_list(24)
+    yield from refusals_list()
+    yield 'self_test',
+
+
+def full_list():
+    yield from lengths_list(KEKS, 64)
+    yield from rewraps_list(tuple(itertools.product(KEKS, KEKS)), (16, 24, 32, 40))
+    yield from many_list(KEKS, range(25))
+    yield from steps_list(64)
+    yield from refusals_list()
+    yield 'self_test',
+    for kek in KEKS:
+        yield 'wrap', kek, 4096
+        yield 'unwrap', kek, 4096
+    yield 'unwrap_padded', 16, 4096
+    yield 'wrap', 16, 87392
+
+
+LISTS = {'short': short_list, 'long': long_list, 'full': full_list}

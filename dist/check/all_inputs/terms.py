@@ -1,0 +1,550 @@
+"""Values for all inputs at once, in canonical form, and what is known about them on a path.
+
+A value is an int, a V (an affine form over GF(2)), or an N (an operation on values that is not affine).
+
+An atom is a byte: an input byte, S(v) or T(v), where S is the S-box of AES, T is the inverse S-box, and v is an affine
+form. A V is its constant `c`, xored with a matrix times the atom for each atom. The matrix has 8 columns of 64 bits,
+packed into one int: column i has the bits of the value that bit i of the atom flips.
+
+If two V are equal as forms, then the values are equal for all inputs. S and T are the only functions of AES that are
+not affine, and each pair of function and form has one atom. So results can be compared by ==. The only law on S and T
+that the checker uses is S(T(v)) = T(S(v)) = v.
+"""
+
+from itertools import count
+
+M64 = 2 ** 64 - 1
+EACH = sum(1 << 64 * i for i in range(8))
+IDENTITY = sum(1 << 65 * i for i in range(8))
+
+
+class V:
+    __slots__ = ('c', 't', 's')
+
+    def __init__(self, c, t):
+        self.c, self.t, self.s = c, t, None
+
+    def __eq__(self, other):
+        return isinstance(other, V) and self.c == other.c and self.t == other.t
+
+    def __hash__(self):
+        return hash((self.c, frozenset(self.t.items())))
+
+
+class N:
+    """op(*args). It has no bit above those of `top`."""
+    __slots__ = ('op', 'args', 'top')
+    made = {}
+
+    def __new__(cls, op, *args, top):
+        key = (op, args)
+        if key not in cls.made:
+            self = object.__new__(cls)
+            self.op, self.args, self.top = op, args, top
+            cls.made[key] = self
+        return cls.made[key]
+
+    def __repr__(self):
+        return f'{self.op}({", ".join(map(show, self.args))})'
+
+
+def show(v):
+    return hex(v) if isinstance(v, int) else f'<{len(v.t)} atoms>' if isinstance(v, V) else repr(v)
+
+
+def form(c, t):
+    return V(c, t) if t else c
+
+
+def bits(v):
+    """Returns the bits that can be 1."""
+    if isinstance(v, int):
+        return v
+    if isinstance(v, N):
+        return (1 << v.top.bit_length()) - 1
+    if v.s is None:
+        s = 0
+        for x in v.t.values():
+            s |= x
+        s |= s >> 256
+        s |= s >> 128
+        v.s = (s | s >> 64) & M64 | v.c
+    return v.s
+
+
+def least(v):
+    """Returns bits that are always 1."""
+    if isinstance(v, N):
+        return least(v.args[0]) | least(v.args[1]) if v.op == 'or' else 0
+    return v if isinstance(v, int) else v.c & ~bits(V(0, v.t))
+
+
+# Atoms
+
+ATOMS = {}                      # number: (name, place) of an input byte, or ('S' or 'T', form)
+_number = count()
+_made = {'S': {}, 'T': {}}      # form: number of the atom
+_inputs = {}                    # (name, place): V
+_shared = {}                    # one object for each matrix
+turns = None                    # the Turns of a call that forgets atoms while it runs
+
+
+def new_atom(kind, what):
+    atom = next(_number)
+    ATOMS[atom] = kind, what
+    return atom
+
+
+def fresh(name, place=0):
+    """Returns a new byte of any value."""
+    return V(0, {new_atom(name, place): IDENTITY})
+
+
+def input_byte(name, i):
+    """Returns byte i of the input with this name, of any value."""
+    if (name, i) not in _inputs:
+        _inputs[name, i] = fresh(name, i)
+    return _inputs[name, i]
+
+
+def forget():
+    """Forgets all atoms. No value made before may be used any more."""
+    for made in (ATOMS, N.made, _inputs, *_made.values()):
+        made.clear()
+
+
+def forget_between(first, end):
+    """Forgets how these atoms were made. This never makes two values equal: the same byte gets another atom later."""
+    for atom in range(first, end):
+        kind, v = ATOMS.pop(atom, (None, None))
+        if kind in _made:
+            _made[kind].pop(v, None)
+
+
+def _field_inverse():
+    exp, x = [], 1
+    for _ in range(255):
+        exp.append(x)
+        x ^= x << 1 ^ (0x11B if x & 0x80 else 0)
+    log = {x: i for i, x in enumerate(exp)}
+    return [0] + [exp[-log[x] % 255] for x in range(1, 256)]
+
+
+def _affine(x):
+    return 0x63 ^ x ^ (x << 1 | x >> 7) & 255 ^ (x << 2 | x >> 6) & 255 ^ (x << 3 | x >> 5) & 255 \
+        ^ (x << 4 | x >> 4) & 255
+
+
+S = [_affine(x) for x in _field_inverse()]
+T = [S.index(x) for x in range(256)]
+TABLES = {'S': S, 'T': T}
+
+
+def substituted(kind, v):
+    """Returns S or T of a byte."""
+    for v in v, Known.now.reduced(v):
+        if isinstance(v, int):
+            return TABLES[kind][v]
+        if v.c == 0 and len(v.t) == 1:
+            (atom, x), = v.t.items()
+            other, argument = ATOMS.get(atom, (None, None))
+            if x == IDENTITY and other == ('T' if kind == 'S' else 'S'):
+                return argument
+    argument = Known.now.argument(kind, v)
+    if argument is not None:
+        return argument
+    atom = _made[kind].get(v)
+    if atom is None and turns:
+        turns.wait()
+        atom = _made[kind].get(v)
+    if atom is None:
+        v = V(v.c, {a: _shared.setdefault(x, x) for a, x in v.t.items()})
+        atom = _made[kind][v] = new_atom(kind, v)
+    if turns:
+        turns.met(atom)
+    return V(0, {atom: IDENTITY})
+
+
+class Table:
+    """A function of a byte: an affine map of the byte, its S or its T. Another function is refused."""
+    known = {}
+
+    def __init__(self, entries, kinds=(('', range(256)), ('S', T), ('T', S))):
+        for self.kind, order in kinds:
+            f = [entries[x] for x in order]
+            self.c, columns = f[0], [f[1 << i] ^ f[0] for i in range(8)]
+            self.linear = [0] * 256
+            for x in range(1, 256):
+                low = x & -x
+                self.linear[x] = self.linear[x ^ low] ^ columns[low.bit_length() - 1]
+            if all(f[x] == self.linear[x] ^ self.c for x in range(256)):
+                self.images = {}
+                return
+        raise Refused('a table that is not an affine map of a byte, its S-box or its inverse S-box')
+
+    @classmethod
+    def affine(cls, entries):
+        """Returns the table as an affine map of the byte, or None."""
+        try:
+            return cls(entries, [('', range(256))])
+        except Refused:
+            return None
+
+    def image(self, x):
+        if x not in self.images:
+            self.images[x] = sum(self.linear[x >> 64 * i & 255] << 64 * i for i in range(8))
+        return self.images[x]
+
+    def of(self, v):
+        v = substituted(self.kind, v) if self.kind else v
+        if isinstance(v, int):
+            return self.c ^ self.linear[v]
+        image = self.image
+        return form(self.c ^ self.linear[v.c], {a: y for a, x in v.t.items() if (y := image(x))})
+
+
+def looked_up(entries, v):
+    if entries not in Table.known:
+        Table.known[entries] = Table(entries)
+    return Table.known[entries].of(v)
+
+
+class Refused(Exception):
+    """Something that is wrong, or that the checker cannot follow."""
+
+
+# Operations
+
+def xor(a, b):
+    if isinstance(a, int) and isinstance(b, int):
+        return a ^ b
+    if isinstance(a, N) or isinstance(b, N):
+        a, b = (b, a) if isinstance(a, int) else (a, b)
+        if b == 0:
+            return a
+        if b == 1 and a.top == 1:
+            return eqz(a)
+        return N('xor', a, b, top=(1 << (bits(a) | bits(b)).bit_length()) - 1)
+    if isinstance(a, int):
+        return V(b.c ^ a, b.t)
+    if isinstance(b, int):
+        return V(a.c ^ b, a.t)
+    if len(a.t) < len(b.t):
+        a, b = b, a
+    t = dict(a.t)
+    for atom, x in b.t.items():
+        y = t.get(atom, 0) ^ x
+        if y:
+            t[atom] = y
+        else:
+            del t[atom]
+    return form(a.c ^ b.c, t)
+
+
+def and_(a, b):
+    if isinstance(a, int) and isinstance(b, int):
+        return a & b
+    if isinstance(a, int):
+        a, b = b, a
+    if isinstance(b, int):
+        if bits(a) & ~b == 0:
+            return a
+        if bits(a) & b == 0:
+            return 0
+        if isinstance(a, V):
+            mask = b * EACH
+            return form(a.c & b, {atom: y for atom, x in a.t.items() if (y := x & mask)})
+        if a.op == 'and' and isinstance(a.args[1], int):
+            return and_(a.args[0], a.args[1] & b)
+        if a.op == 'or' and 0 in (parts := [and_(part, b) for part in a.args]):
+            return or_(*parts)
+    return a if a == b else N('and', a, b, top=min(bits(a), bits(b)))
+
+
+def or_(a, b):
+    if isinstance(a, int) and isinstance(b, int):
+        return a | b
+    if a == 0 or b == 0:
+        return b if a == 0 else a
+    if not isinstance(a, N) and not isinstance(b, N) and bits(a) & bits(b) == 0:
+        return xor(a, b)
+    return a if a == b else N('or', a, b, top=bits(a) | bits(b))
+
+
+def shl(a, k, w):
+    if not isinstance(k, int):
+        return N('shl', a, k, w, top=2 ** w - 1)
+    k %= w
+    if isinstance(a, int):
+        return a << k & 2 ** w - 1
+    a = and_(a, 2 ** (w - k) - 1)
+    if isinstance(a, N):
+        return a if k == 0 else N('shl', a, k, w, top=a.top << k)
+    return a << k if isinstance(a, int) else V(a.c << k, {atom: x << k for atom, x in a.t.items()})
+
+
+def shr(a, k, w):
+    if not isinstance(k, int):
+        return N('shr', a, k, w, top=bits(a))
+    k %= w
+    if isinstance(a, int):
+        return a >> k
+    if isinstance(a, N):
+        if a.op == 'or' and 0 in (parts := [shr(part, k, w) for part in a.args]):
+            return or_(*parts)
+        return 0 if a.top >> k == 0 else a if k == 0 else N('shr', a, k, w, top=a.top >> k)
+    a = and_(a, 2 ** w - 2 ** k)
+    return a >> k if isinstance(a, int) else V(a.c >> k, {atom: x >> k for atom, x in a.t.items()})
+
+
+def rotl(a, k, w):
+    if not isinstance(k, int):
+        raise Refused('a rotation by a secret')
+    return or_(shl(a, k, w), shr(a, -k, w)) if k % w else a
+
+
+def rotr(a, k, w):
+    return rotl(a, -k, w)
+
+
+def bswap(a, w):
+    """Returns the bytes in reverse order."""
+    if isinstance(a, N):
+        if a.op == 'bswap' and a.args[1] == w:
+            return a.args[0]
+        if a.op == 'or':
+            return or_(*(bswap(part, w) for part in a.args))
+        if a.op == 'shl' and isinstance(k := a.args[1], int) and k % 8 == 0 and bits(a.args[0]) >> w - k == 0:
+            return bswap(a.args[0], w - k)
+        return N('bswap', a, w, top=2 ** w - 1)
+    total = 0
+    for k in range(0, w, 8):
+        total = or_(total, shl(and_(shr(a, k, 64), 255), w - 8 - k, 64))
+    return total
+
+
+def add(a, b, w):
+    if isinstance(a, int) and isinstance(b, int):
+        return a + b & 2 ** w - 1
+    a, b = (b, a) if isinstance(a, int) else (a, b)
+    if isinstance(b, int) and isinstance(a, N) and a.op == 'add' and isinstance(a.args[1], int):
+        inner, c, v = a.args
+        if v == w or bits(inner) + c < 2 ** v:
+            return add(inner, b + c & 2 ** w - 1, w)
+    if bits(a) & bits(b) == 0:
+        return or_(a, b)
+    return N('add', a, b, w, top=min(bits(a) + bits(b), 2 ** w - 1))
+
+
+def sub(a, b, w):
+    if isinstance(a, int) and isinstance(b, int):
+        return a - b & 2 ** w - 1
+    if isinstance(b, int):
+        return add(a, -b & 2 ** w - 1, w)
+    return 0 if a == b else N('sub', a, b, w, top=2 ** w - 1)
+
+
+def mul(a, b, w):
+    if isinstance(a, int) and isinstance(b, int):
+        return a * b & 2 ** w - 1
+    if isinstance(a, int):
+        a, b = b, a
+    if isinstance(b, int) and b & b - 1 == 0:
+        return shl(a, b.bit_length() - 1, w) if b else 0
+    return N('mul', a, b, w, top=2 ** w - 1)
+
+
+def nz(a):
+    if isinstance(a, int):
+        return int(a != 0)
+    return 1 if least(a) else a if isinstance(a, N) and a.top == 1 else N('nz', a, top=1)
+
+
+def eqz(a):
+    if isinstance(a, int):
+        return int(a == 0)
+    if isinstance(a, N) and a.op == 'eqz':
+        return nz(a.args[0])
+    if isinstance(a, N) and a.op == 'nz':
+        return eqz(a.args[0])
+    return 0 if least(a) else N('eqz', a, top=1)
+
+
+def ne(a, b):
+    return nz(xor(a, b))
+
+
+def eq(a, b):
+    return eqz(xor(a, b))
+
+
+def ltu(a, b):
+    if bits(a) < least(b):
+        return 1
+    return 0 if least(a) >= bits(b) else N('ltu', a, b, top=1)
+
+
+def ite(c, a, b):
+    if isinstance(c, int):
+        return a if c else b
+    return a if a == b else N('ite', c, a, b, top=bits(a) | bits(b))
+
+
+OPS = {'xor': xor, 'and': and_, 'or': or_, 'shl': shl, 'shr': shr, 'add': add, 'sub': sub, 'mul': mul,
+       'bswap': bswap, 'nz': nz, 'eqz': eqz, 'ltu': ltu, 'ite': ite}
+
+
+# What is known on a path
+
+class Known:
+    """Solved linear equations over the bits of atoms: each pivot bit is a sum of other bits. The form is canonical."""
+
+    def __init__(self, rows=()):
+        self.rows = dict(rows)      # pivot: (frozenset of other bits, constant); a bit is (atom, number)
+        self.pivots = {}
+        for atom, i in self.rows:
+            self.pivots.setdefault(atom, []).append(i)
+        self.memo, self.arguments = {}, None
+
+    def closed(self):
+        """Returns the equations with those that follow for existing atoms: if T(x) = v, then S(v) = x."""
+        self.argument('S', 0)
+        for (kind, v), x in self.arguments.items():
+            atom = None if isinstance(v, int) else _made[kind].get(v)
+            if atom is not None and (atom, 0) not in self.rows:
+                more = self.with_zero(xor(V(0, {atom: IDENTITY}), x))
+                if more is not None and more is not self:
+                    return more.closed()
+        return self
+
+    def argument(self, kind, v):
+        """Returns x if it is known that v is T(x) (for S) or S(x) (for T), although its atom is eliminated; or None."""
+        if self.arguments is None:
+            self.arguments = {}
+            for atom in self.pivots:
+                other, x = ATOMS.get(atom, (None, None))
+                if other in TABLES:
+                    self.arguments['T' if other == 'S' else 'S', self.reduced(V(0, {atom: IDENTITY}))] = x
+        return self.arguments.get((kind, v))
+
+    def reduced(self, v):
+        """Returns the value without pivots."""
+        if isinstance(v, int) or not self.rows:
+            return v
+        if isinstance(v, N):
+            if v not in self.memo:
+                self.memo[v] = OPS[v.op](*(self.reduced(a) for a in v.args))
+            return self.memo[v]
+        hit = [atom for atom in v.t if atom in self.pivots]
+        if not hit:
+            return v
+        c, t = v.c, dict(v.t)
+        for atom in hit:
+            for i in self.pivots[atom]:
+                column = v.t[atom] >> 64 * i & M64
+                if column:
+                    others, constant = self.rows[atom, i]
+                    t[atom] ^= column << 64 * i
+                    c ^= column * constant
+                    for other, j in others:
+                        t[other] = t.get(other, 0) ^ column << 64 * j
+        return form(c, {atom: x for atom, x in t.items() if x})
+
+    def with_zero(self, v):
+        """Returns the equations with v == 0, or None if that is a contradiction."""
+        v = self.reduced(v)
+        if isinstance(v, int):
+            return self if v == 0 else None
+        rows = dict(self.rows)
+        ones_at = {}
+        for atom, x in v.t.items():
+            for i in range(8):
+                column = x >> 64 * i & M64
+                while column:
+                    low = column & -column
+                    ones_at.setdefault(low, set()).add((atom, i))
+                    column ^= low
+        if v.c & ~sum(ones_at):
+            return None
+        for b, ones in ones_at.items():
+            c = int(v.c & b != 0)
+            for bit in [bit for bit in ones if bit in rows]:
+                ones = ones ^ {bit} ^ rows[bit][0]
+                c ^= rows[bit][1]
+            if not ones:
+                if c:
+                    return None
+                continue
+            pivot = max(ones)
+            rest = frozenset(ones - {pivot})
+            for bit, (others, constant) in list(rows.items()):
+                if pivot in others:
+                    rows[bit] = others ^ {pivot} ^ rest, constant ^ c
+            rows[pivot] = rest, c
+        return Known(rows)
+
+    def implies(self, other):
+        return all(self.reduced(V(c, _columns([pivot, *others]))) == 0
+                   for pivot, (others, c) in other.rows.items())
+
+
+Known.now = Known()     # what is known on the path that is followed now
+
+
+def _columns(ones):
+    t = {}
+    for atom, i in ones:
+        t[atom] = t.get(atom, 0) ^ 1 << 64 * i
+    return t
+
+
+def fits(v, w):
+    """Returns v, which must have at most w bits."""
+    if bits(v) >> w:
+        raise Refused(f'a number of more than {w} bits: {show(v)[:200]}')
+    return v
+
+
+def zero_cases(v, known):
+    """Returns systems of equations. For an input for which `known` holds, v is 0 if and only if one of them holds."""
+    v = known.reduced(v)
+    if isinstance(v, int):
+        return [known] if v == 0 else []
+    if isinstance(v, V):
+        more = known.with_zero(v)
+        return [more] if more else []
+    a, *rest = v.args
+    if v.op == 'nz' or v.op == 'shl' and isinstance(rest[0], int):     # no bit is shifted out
+        return zero_cases(a, known)
+    if v.op == 'eqz' and isinstance(a, N) and a.op == 'ltu':
+        return less_cases(*a.args, known)
+    if v.op == 'or':
+        try:
+            return [two for one in zero_cases(a, known) for two in zero_cases(rest[0], one)]
+        except Refused:
+            return [two for one in zero_cases(rest[0], known) for two in zero_cases(a, one)]
+    if v.op == 'xor' and isinstance(rest[0], int) and isinstance(a, N) and a.op == 'add' and isinstance(a.args[1], int):
+        x, c, w = a.args
+        return zero_cases(xor(fits(x, w), rest[0] - c & 2 ** w - 1), known) if rest[0] >> w == 0 else []
+    if v.op == 'and' and bits(a) | bits(rest[0]) == 1:
+        return zero_cases(a, known) + zero_cases(rest[0], known)
+    if v.op == 'shr' and isinstance(rest[0], int) and rest[0] < 8:
+        return less_cases(a, 1 << rest[0], known)
+    if v.op in ('add', 'sub'):
+        return less_cases(v, 1, known)
+    raise Refused(f'a decision over {show(v)[:200]}')
+
+
+def less_cases(v, limit, known):
+    """Returns systems of equations. For an input for which `known` holds, v < limit if and only if one holds."""
+    if isinstance(v, N) and isinstance(limit, int) and limit <= 256:
+        a, b, *w = v.args
+        if v.op == 'sub' and isinstance(a, int):
+            values = [(b, a - i & 2 ** w[0] - 1) for i in range(limit)]
+        elif v.op == 'add' and (isinstance(a, int) or isinstance(b, int)):
+            a, b = (b, a) if isinstance(a, int) else (a, b)
+            values = [(a, i - b & 2 ** w[0] - 1) for i in range(limit)]
+        else:
+            raise Refused(f'a decision over {show(v)[:200]}')
+        return [case for x, value in values for case in zero_cases(xor(fits(x, w[0]), value), known)]
+    raise Refused(f'a decision over {show(v)[:200]} < {limit}')

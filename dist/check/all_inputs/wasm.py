@@ -1,0 +1,334 @@
+"""A WebAssembly module of the first version with bulk memory, and its execution for all inputs at once."""
+
+from paths import Machine, Path, cells_of
+from terms import V, Refused, add, and_, eq, eqz, ite, ltu, mul, ne, nz, or_, rotl, rotr, shl, shr, sub, xor
+
+LOADS = {0x28: (4, 4), 0x29: (8, 8), 0x2D: (1, 4), 0x2F: (2, 4), 0x31: (1, 8), 0x33: (2, 8), 0x35: (4, 8)}
+STORES = {0x36: 4, 0x37: 8, 0x3A: 1, 0x3B: 2, 0x3C: 1, 0x3D: 2, 0x3E: 4}
+
+
+class Reader:
+    def __init__(self, data, at=0):
+        self.data, self.at = data, at
+
+    def byte(self):
+        self.at += 1
+        return self.data[self.at - 1]
+
+    def take(self, n):
+        self.at += n
+        return self.data[self.at - n:self.at]
+
+    def u(self):
+        value = shift = 0
+        while True:
+            byte = self.byte()
+            value |= (byte & 127) << shift
+            shift += 7
+            if byte < 128:
+                return value
+
+    def s(self, width):
+        start = self.at
+        value = self.u()
+        n = 7 * (self.at - start)
+        return (value - (value >> n - 1 << n)) & 2 ** width - 1
+
+    def list(self, item):
+        return [item() for _ in range(self.u())]
+
+
+class Module:
+    def __init__(self, path):
+        with open(path, 'rb') as file:
+            data = file.read()
+        if data[:8] != b'\0asm\1\0\0\0':
+            raise Refused('not a WebAssembly module')
+        r = Reader(data, 8)
+        self.types, self.exports, self.globals, self.constants, self.variables = [], {}, [], {}, {}
+        self.functions, self.code, self.table, self.names = [], [], {}, {}
+        while r.at < len(data):
+            kind, size = r.byte(), r.u()
+            end = r.at + size
+            if kind == 0 and r.take(r.u()) == b'name':
+                self.read_names(r, end)
+            elif kind == 1:
+                self.types = r.list(lambda: (r.byte(), r.list(r.byte), r.list(r.byte))[1:])
+            elif kind == 3:
+                self.functions = r.list(r.u)
+            elif kind == 6:
+                self.globals = r.list(lambda: (r.take(2), self.constant(r))[1])
+            elif kind == 7:
+                self.exports = dict(r.list(lambda: (r.take(r.u()).decode(), (r.byte(), r.u()))))
+            elif kind == 9:
+                for _ in range(r.u()):
+                    assert r.u() == 0
+                    at = self.constant(r)
+                    self.table |= {at + i: f for i, f in enumerate(r.list(r.u))}
+            elif kind == 10:
+                self.code = r.list(lambda: self.body(r))
+            elif kind == 11:
+                for at, found in r.list(lambda: (r.u(), self.constant(r), r.take(r.u()))[1:]):
+                    self.constants |= enumerate(found, at)
+            elif kind not in (0, 4, 5, 12):
+                raise Refused(f'section {kind}')
+            r.at = end
+        # Memory is zero where no segment is. A linker leaves zeros out.
+        self.constants = dict.fromkeys(range(min(self.constants), max(self.constants)), 0) | self.constants
+        self.heap = self.globals[self.exports['__heap_base'][1]]
+        # Only the module of the JavaScript package exports its guard. It has 64-bit numbers, keywrap.c has 32-bit ones.
+        self.size_bytes = 8 if '__in_call' in self.exports else 4
+        for name, (kind, index) in self.exports.items():
+            if kind == 0:
+                self.names.setdefault(index, name)
+
+    def read_names(self, r, end):
+        while r.at < end:
+            kind, after = r.byte(), r.u() + r.at
+            if kind == 1:
+                self.names = dict(r.list(lambda: (r.u(), r.take(r.u()).decode())))
+            r.at = after
+
+    @staticmethod
+    def constant(r):
+        width = {0x41: 32, 0x42: 64}[r.byte()]
+        value = r.s(width)
+        assert r.byte() == 0x0B
+        return value
+
+    @staticmethod
+    def body(r):
+        end = r.u() + r.at
+        local_count = sum(n for n, _ in r.list(lambda: (r.u(), r.byte())))
+        code, opened = [], []
+        while r.at < end:
+            op = r.byte()
+            if op in (2, 3, 4):
+                opened.append(len(code))
+                code.append([op, {0x40: 0, 0x7E: 1, 0x7F: 1}[r.byte()], None, None])   # arity, end, else
+            elif op == 5:
+                code[opened[-1]][3] = len(code)
+                code.append([op, opened[-1]])
+            elif op == 0x0B:
+                if opened:
+                    code[opened.pop()][2] = len(code)
+                code.append([op])
+            elif op in (0x0C, 0x0D, 0x10, 0x20, 0x21, 0x22, 0x23, 0x24):
+                code.append([op, r.u()])
+            elif op == 0x11:
+                code.append([op, (r.u(), r.u())[0]])
+            elif op == 0x0E:
+                code.append([op, r.list(r.u) + [r.u()]])
+            elif op == 0x41:
+                code.append([0x41, r.s(32)])
+            elif op == 0x42:
+                code.append([0x41, r.s(64)])
+            elif op in LOADS or op in STORES:
+                r.u()
+                code.append([op, r.u()])
+            elif op == 0xFC:
+                sub_op = r.u()
+                r.take({10: 2, 11: 1}[sub_op])
+                code.append([0xFC00 + sub_op])
+            elif op in BINARY or op in UNARY or op in (0, 1, 0x0F, 0x1A, 0x1B):
+                code.append([op])
+            else:
+                raise Refused(f'opcode {op:#x}')
+        return local_count, code
+
+
+def signed(v, w):
+    if not isinstance(v, int):
+        raise Refused('a signed comparison of a secret')
+    return v - (v >> w - 1 << w)
+
+
+def divided(a, b):
+    if not isinstance(a, int) or not isinstance(b, int):
+        raise Refused('a division of a secret')
+    if b == 0:
+        raise Refused('a division by 0')
+    return a // b
+
+
+UNARY = {0x45: eqz, 0x50: eqz, 0xA7: lambda a: and_(a, 0xFFFFFFFF), 0xAD: lambda a: a}
+BINARY = {
+    0x46: eq, 0x47: ne, 0x51: eq, 0x52: ne,
+    0x49: ltu, 0x54: ltu, 0x4B: lambda a, b: ltu(b, a), 0x56: lambda a, b: ltu(b, a),
+    0x4D: lambda a, b: eqz(ltu(b, a)), 0x58: lambda a, b: eqz(ltu(b, a)),
+    0x4F: lambda a, b: eqz(ltu(a, b)), 0x5A: lambda a, b: eqz(ltu(a, b)),
+    0x80: divided, 0x6E: divided,
+    0x82: lambda a, b: a - divided(a, b) * b, 0x70: lambda a, b: a - divided(a, b) * b,
+}
+for start, w in (0x6A, 32), (0x7C, 64):
+    for place, operation in (0, add), (1, sub), (2, mul), (10, shl), (12, shr), (13, rotl), (14, rotr):
+        BINARY[start + place] = lambda a, b, operation=operation, w=w: operation(a, b, w)
+    for place, operation in (7, and_), (8, or_), (9, xor):
+        BINARY[start + place] = operation
+for start, w in (0x48, 32), (0x53, 64):
+    BINARY[start] = lambda a, b, w=w: int(signed(a, w) < signed(b, w))
+    BINARY[start + 2] = lambda a, b, w=w: int(signed(a, w) > signed(b, w))
+    BINARY[start + 4] = lambda a, b, w=w: int(signed(a, w) <= signed(b, w))
+    BINARY[start + 6] = lambda a, b, w=w: int(signed(a, w) >= signed(b, w))
+
+
+class State:
+    """The frames (function, code, number of results, stack, locals, labels) and the globals. The first item of a stack
+    is the next instruction, if the frame is not the one that runs."""
+
+    def __init__(self, frames, globals_):
+        self.frames, self.globals = frames, globals_
+
+    def copy(self):
+        return State([[*frame[:3], *map(list, frame[3:])] for frame in self.frames], list(self.globals))
+
+
+class Run(Machine):
+    def __init__(self, module, inputs, stack):
+        top = module.globals[module.exports['__stack_pointer'][1]]
+        super().__init__(module, inputs, range(top - stack, top))
+
+    def call(self, name, args, memory, before=None):
+        """Yields each path at the end of the call, with its status."""
+        path = Path(dict(memory), State([], list(self.module.globals)), before)
+        self.enter(path, self.module.exports[name][1], args)
+        for path in self.paths(path):
+            if path.state.globals != self.module.globals:
+                raise Refused('the globals are not what they were')
+            yield path, path.results[0]
+
+    def enter(self, path, index, args):
+        params, results = self.module.types[self.module.functions[index]]
+        local_count, code = self.module.code[index]
+        path.state.frames.append([index, code, len(results), [0], args + [0] * local_count, []])
+
+    def decided(self, path, frame, pc, waiting):
+        """Whether the condition on the stack is known on this path. If it is not, several paths wait instead."""
+        stack = frame[3]
+        cases = path.cases(stack[-1])
+        if len(cases) == 1:
+            stack[-1] = int(cases[0][2])
+            return True
+        for known, excluded, holds in cases:
+            other = path.fork(known, excluded, self.module.names.get(frame[0], f'function {frame[0]}') + f', {pc}')
+            other.state.frames[-1][3][-1] = int(holds)
+            other.state.frames[-1][3][0] = pc
+            waiting.append(other)
+        return False
+
+    def run(self, path, waiting):
+        """Whether the call ended. If it did not, its paths wait."""
+        module, state = self.module, path.state
+        while True:
+            frame = state.frames[-1]
+            _, code, result_count, stack, local, labels = frame
+            pc, stack[0] = stack[0], None       # a frame that is not on top keeps its place there
+            push, pop = stack.append, stack.pop
+            while True:
+                instruction = code[pc]
+                op = instruction[0]
+                self.steps += 1
+                if op == 0x20:
+                    push(local[instruction[1]])
+                elif op == 0x41:
+                    push(instruction[1])
+                elif op in BINARY:
+                    b = pop()
+                    stack[-1] = BINARY[op](stack[-1], b)
+                elif op in UNARY:
+                    stack[-1] = UNARY[op](stack[-1])
+                elif op == 0x21:
+                    local[instruction[1]] = pop()
+                elif op == 0x22:
+                    local[instruction[1]] = stack[-1]
+                elif op in LOADS:
+                    stack[-1] = self.load(path, stack[-1], instruction[1], LOADS[op][0])
+                elif op in STORES:
+                    v, n = pop(), STORES[op]
+                    self.store(path, self.place(path, pop()) + instruction[1], cells_of(and_(v, 2 ** (8 * n) - 1), n))
+                elif op in (2, 3):
+                    labels.append((op, pc, instruction[2], len(stack), instruction[1]))
+                elif op in (0x0C, 0x0D, 0x0E, 4):
+                    if op == 0x0E:
+                        v = self.place(path, pop())
+                    elif op != 0x0C:
+                        if not isinstance(stack[-1], int) and not self.decided(path, frame, pc, waiting):
+                            return False
+                        v = pop()
+                    if op == 4:
+                        labels.append((op, pc, instruction[2], len(stack), instruction[1]))
+                        if not v:
+                            if instruction[3] is None:
+                                labels.pop()
+                                pc = instruction[2]
+                            else:
+                                pc = instruction[3]
+                        pc += 1
+                        continue
+                    if op == 0x0D and not v:
+                        pc += 1
+                        continue
+                    depth = instruction[1]
+                    if op == 0x0E:
+                        depth = depth[min(v, len(depth) - 1)]
+                    if depth >= len(labels):
+                        break
+                    kind, start, end, height, arity = labels[-1 - depth]
+                    if kind == 3:
+                        del stack[height:]
+                        if depth:
+                            del labels[-depth:]
+                        pc = start
+                    else:
+                        if arity:
+                            stack[height:] = [stack[-1]]
+                        else:
+                            del stack[height:]
+                        del labels[-1 - depth:]
+                        pc = end
+                elif op == 0x0B:
+                    if not labels:
+                        break
+                    labels.pop()
+                elif op == 5:
+                    labels.pop()
+                    pc = code[instruction[1]][2]
+                elif op == 0x0F:
+                    break
+                elif op in (0x10, 0x11):
+                    callee = instruction[1]
+                    if op == 0x11:
+                        callee = module.table[self.place(path, pop())]
+                        if module.types[module.functions[callee]] != module.types[instruction[1]]:
+                            raise Refused('a call of a function of another type')
+                    params, _ = module.types[module.functions[callee]]
+                    args = stack[len(stack) - len(params):]
+                    del stack[len(stack) - len(params):]
+                    stack[0] = pc + 1
+                    self.enter(path, callee, args)
+                    break
+                elif op == 0x1B:
+                    c, b = pop(), pop()
+                    stack[-1] = ite(nz(c) if isinstance(c, V) else c, stack[-1], b)
+                elif op == 0x1A:
+                    pop()
+                elif op == 0x23:
+                    push(state.globals[instruction[1]])
+                elif op == 0x24:
+                    state.globals[instruction[1]] = pop()
+                elif op == 0xFC0A:
+                    n, source, to = (self.place(path, pop()) for _ in range(3))
+                    self.store(path, to, self.cells(path, source, n))
+                elif op == 0xFC0B:
+                    n, v, to = self.place(path, pop()), pop(), self.place(path, pop())
+                    self.store(path, to, cells_of(and_(v, 255), 1) * n)
+                elif op == 0:
+                    raise Refused('unreachable')
+                pc += 1
+            if state.frames[-1] is frame:
+                state.frames.pop()
+                results = stack[len(stack) - result_count:] if result_count else []
+                if not state.frames:
+                    path.results = results
+                    return True
+                state.frames[-1][3].extend(results)

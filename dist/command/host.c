@@ -1,0 +1,380 @@
+/* host.c: what the program's module needs of the system, over POSIX. The module has the numbers and the layouts of
+ * Linux on a 64-bit processor, which this file translates. */
+
+#define _GNU_SOURCE /* pipe2 */
+#define _FILE_OFFSET_BITS 64
+#include <errno.h>
+#include <fcntl.h>
+#include <limits.h>
+#include <signal.h>
+#include <stdio.h>
+#include <stddef.h>
+#include <sys/file.h>
+#include <sys/stat.h>
+#include <time.h>
+#include <unistd.h>
+
+#include "module.h"
+
+#ifndef O_CLOEXEC
+#error "O_CLOEXEC is missing: a child would inherit the descriptor of the KEK"
+#endif
+
+static ALIGNED u8 memory[SIZE];
+u8 *base = memory;
+
+static int arg_count;
+static char **args;
+extern char **environ;
+
+#define AT(address) ((void *)POINTER(address))
+
+/* A number in the module's byte order. */
+static u64 get(u64 address, unsigned len) {
+    const u8 *from = AT(address);
+    u64 value = 0;
+    for (unsigned i = len; i-- > 0;) value = value << 8 | from[i];
+    return value;
+}
+
+static void put(u64 address, unsigned len, u64 value) {
+    u8 *to = AT(address);
+    for (unsigned i = 0; i < len; i++) to[i] = (u8)(value >> 8 * i);
+}
+
+static u32 refuse(int error) {
+    errno = error;
+    return (u32)-1;
+}
+
+/*** Errors ***/
+
+/* The number of an error on Linux, and here. */
+static const struct {
+    int linux_number, number;
+} errors[] = {
+    {1, EPERM},      {2, ENOENT},     {3, ESRCH},   {4, EINTR},      {5, EIO},         {6, ENXIO},
+    {7, E2BIG},      {8, ENOEXEC},    {9, EBADF},   {10, ECHILD},    {11, EAGAIN},     {12, ENOMEM},
+    {13, EACCES},    {14, EFAULT},    {16, EBUSY},  {17, EEXIST},    {18, EXDEV},      {19, ENODEV},
+    {20, ENOTDIR},   {21, EISDIR},    {22, EINVAL}, {23, ENFILE},    {24, EMFILE},     {25, ENOTTY},
+    {26, ETXTBSY},   {27, EFBIG},     {28, ENOSPC}, {29, ESPIPE},    {30, EROFS},      {31, EMLINK},
+    {32, EPIPE},     {33, EDOM},      {34, ERANGE}, {35, EDEADLK},   {36, ENAMETOOLONG}, {37, ENOLCK},
+    {38, ENOSYS},    {39, ENOTEMPTY}, {40, ELOOP},  {75, EOVERFLOW}, {84, EILSEQ},     {88, ENOTSOCK},
+    {95, EOPNOTSUPP}, {104, ECONNRESET}, {107, ENOTCONN}, {110, ETIMEDOUT}, {116, ESTALE}, {122, EDQUOT},
+    {125, ECANCELED},
+};
+enum { ERRORS = sizeof errors / sizeof *errors, OTHERS = 4096 };
+
+/* Other errors keep their numbers on Linux. Elsewhere they get numbers that no error of Linux has. */
+static u32 to_linux(int number) {
+    for (int i = 0; i < ERRORS; i++)
+        if (errors[i].number == number) return (u32)errors[i].linux_number;
+#ifdef __linux__
+    return (u32)number;
+#else
+    return (u32)number + OTHERS;
+#endif
+}
+
+static int from_linux(u32 number) {
+    for (int i = 0; i < ERRORS; i++)
+        if ((u32)errors[i].linux_number == number) return errors[i].number;
+    return (int)(number >= OTHERS ? number - OTHERS : number);
+}
+
+u32 host_rattle_errno(void) {
+    return to_linux(errno);
+}
+
+void host_rattle_set_errno(u32 number) {
+    errno = from_linux(number);
+}
+
+u32 host___xpg_strerror_r(u32 number, u64 to, u64 len) {
+    const char *text = strerror(from_linux(number));
+    size_t needed = strlen(text) + 1;
+    if (len > 0) {
+        size_t kept = needed <= len ? needed - 1 : (size_t)len - 1;
+        memcpy(AT(to), text, kept);
+        put(to + kept, 1, 0);
+    }
+    return needed <= len ? 0 : to_linux(ERANGE);
+}
+
+/*** Memory ***/
+
+/* Writes whether there is a block, and its address. */
+static void give(u64 result, void *block) {
+    put(result, 1, block != NULL);
+    put(result + 8, 8, ADDRESS(block ? block : memory));
+}
+
+/* malloc aligns every block for any type of C, and the module wants no more. */
+static size_t size_of_block(u64 size, u64 align) {
+    if (align > _Alignof(max_align_t)) abort();
+    size = size ? size : align;
+    return size <= SIZE_MAX ? (size_t)size : SIZE_MAX;
+}
+
+void host_rattle_alloc(u64 result, u64 size, u64 align) {
+    give(result, malloc(size_of_block(size, align)));
+}
+
+void host_rattle_realloc(u64 result, u64 block, u64 old_size, u64 size, u64 align) {
+    (void)old_size;
+    give(result, realloc(AT(block), size_of_block(size, align)));
+}
+
+void host_rattle_dealloc(u64 block) {
+    free(AT(block));
+}
+
+/*** Arguments and environment ***/
+
+/* Copies a text that fits, and returns its length, -1 if there is none, or -2 if it does not fit. */
+static u64 copy_text(const char *text, u64 to, u64 len) {
+    size_t size;
+    if (!text) return (u64)-1;
+    size = strlen(text);
+    memcpy(AT(to), text, size < len ? size : (size_t)len);
+    return size <= len ? size : (u64)-2;
+}
+
+u64 host_rattle_arg(u64 number, u64 to, u64 len) {
+    return copy_text(number < (u64)arg_count ? args[number] : NULL, to, len);
+}
+
+u64 host_rattle_env(u64 name, u64 to, u64 len) {
+    return copy_text(getenv(AT(name)), to, len);
+}
+
+u64 host_rattle_env_at(u64 number, u64 to, u64 len) {
+    char **entry = environ;
+    while (entry && *entry && number-- > 0) entry++;
+    return copy_text(entry ? *entry : NULL, to, len);
+}
+
+/*** Files ***/
+
+u32 host_open(u64 path, u32 flags, u64 rest) {
+    static const struct {
+        u32 linux_flag;
+        int flag;
+    } names[] = {
+        {0100, O_CREAT},     {0200, O_EXCL},          {0400, O_NOCTTY},       {01000, O_TRUNC},       {02000, O_APPEND},
+        {04000, O_NONBLOCK}, {0200000, O_DIRECTORY},  {0400000, O_NOFOLLOW},  {02000000, O_CLOEXEC},
+    };
+    static const int modes[] = {O_RDONLY, O_WRONLY, O_RDWR};
+    int ours;
+    if ((flags & 3) == 3) return refuse(EINVAL);
+    ours = modes[flags & 3];
+    flags &= ~(u32)3;
+    for (unsigned i = 0; i < sizeof names / sizeof *names; i++) {
+        if (flags & names[i].linux_flag) ours |= names[i].flag;
+        flags &= ~names[i].linux_flag;
+    }
+    if (flags) return refuse(EINVAL);
+    return (u32)open(AT(path), ours, ours & O_CREAT ? (mode_t)get(rest, 4) : 0);
+}
+
+u32 host_close(u32 file) {
+    return (u32)close((int)file);
+}
+
+u64 host_read(u32 file, u64 to, u64 len) {
+    return (u64)(s64)read((int)file, AT(to), len < SSIZE_MAX ? (size_t)len : SSIZE_MAX);
+}
+
+u64 host_write(u32 file, u64 from, u64 len) {
+    return (u64)(s64)write((int)file, AT(from), len < SSIZE_MAX ? (size_t)len : SSIZE_MAX);
+}
+
+u64 host_lseek(u32 file, u64 offset, u32 whence) {
+    static const int names[] = {SEEK_SET, SEEK_CUR, SEEK_END};
+    if (whence > 2) return (u64)(s64)(s32)refuse(EINVAL);
+    return (u64)(s64)lseek((int)file, (off_t)offset, names[whence]);
+}
+
+u32 host_fsync(u32 file) {
+    return (u32)fsync((int)file);
+}
+
+u32 host_fdatasync(u32 file) {
+#ifdef __APPLE__
+    return (u32)fsync((int)file);
+#else
+    return (u32)fdatasync((int)file);
+#endif
+}
+
+u32 host_ftruncate(u32 file, u64 len) {
+    return (u32)ftruncate((int)file, (off_t)len);
+}
+
+u32 host_fchmod(u32 file, u32 mode) {
+    return (u32)fchmod((int)file, (mode_t)mode);
+}
+
+u32 host_fchown(u32 file, u32 owner, u32 group) {
+    return (u32)fchown((int)file, (uid_t)owner, (gid_t)group);
+}
+
+u32 host_flock(u32 file, u32 operation) {
+    static const int names[] = {0, LOCK_SH, LOCK_EX, 0, LOCK_NB, LOCK_SH | LOCK_NB, LOCK_EX | LOCK_NB, 0, LOCK_UN};
+    if (operation > 8 || !names[operation]) return refuse(EINVAL);
+    return (u32)flock((int)file, names[operation]);
+}
+
+u32 host_isatty(u32 file) {
+    return (u32)isatty((int)file);
+}
+
+/* The module only duplicates: F_DUPFD_CLOEXEC. */
+u32 host_fcntl(u32 file, u32 command, u64 rest) {
+    if (command != 1030) return refuse(EINVAL);
+    return (u32)fcntl((int)file, F_DUPFD_CLOEXEC, (int)get(rest, 4));
+}
+
+/* The module's flag is O_CLOEXEC. */
+u32 host_pipe2(u64 files, u32 flags) {
+    int ends[2];
+    if (flags != 02000000) return refuse(EINVAL);
+#ifdef __APPLE__
+    if (pipe(ends)) return (u32)-1;
+    fcntl(ends[0], F_SETFD, FD_CLOEXEC);
+    fcntl(ends[1], F_SETFD, FD_CLOEXEC);
+#else
+    if (pipe2(ends, O_CLOEXEC)) return (u32)-1;
+#endif
+    put(files, 4, (u32)ends[0]);
+    put(files + 4, 4, (u32)ends[1]);
+    return 0;
+}
+
+u32 host_rename(u64 from, u64 to) {
+    return (u32)rename(AT(from), AT(to));
+}
+
+u32 host_unlink(u64 path) {
+    return (u32)unlink(AT(path));
+}
+
+#ifdef __APPLE__
+#define st_atim st_atimespec
+#define st_mtim st_mtimespec
+#define st_ctim st_ctimespec
+#endif
+
+static void put_time(u64 to, struct timespec time) {
+    put(to, 8, (u64)time.tv_sec);
+    put(to + 8, 8, (u64)time.tv_nsec);
+}
+
+static u32 linux_kind(mode_t mode) {
+    return S_ISREG(mode)    ? 0100000
+           : S_ISDIR(mode)  ? 0040000
+           : S_ISLNK(mode)  ? 0120000
+           : S_ISFIFO(mode) ? 0010000
+           : S_ISCHR(mode)  ? 0020000
+           : S_ISBLK(mode)  ? 0060000
+           : S_ISSOCK(mode) ? 0140000
+                            : 0;
+}
+
+/* Writes struct statx of Linux. The module joins the two halves of a device, so they are split alike here. */
+static void put_status(u64 to, const struct stat *found) {
+    u64 device = (u64)found->st_dev;
+    memset(AT(to), 0, 256);
+    put(to, 4, 0x7ff);
+    put(to + 4, 4, (u64)found->st_blksize);
+    put(to + 16, 4, (u64)found->st_nlink);
+    put(to + 20, 4, (u64)found->st_uid);
+    put(to + 24, 4, (u64)found->st_gid);
+    put(to + 28, 2, (found->st_mode & 07777) | linux_kind(found->st_mode));
+    put(to + 32, 8, (u64)found->st_ino);
+    put(to + 40, 8, (u64)found->st_size);
+    put(to + 48, 8, (u64)found->st_blocks);
+    put_time(to + 64, found->st_atim);
+    put_time(to + 96, found->st_ctim);
+    put_time(to + 112, found->st_mtim);
+    put(to + 136, 4, (device >> 32 & 0xfffff000) | (device >> 8 & 0xfff));
+    put(to + 140, 4, (device >> 12 & 0xffffff00) | (device & 0xff));
+}
+
+/* statx of a path or, with AT_EMPTY_PATH, of an open file. */
+u32 host_statx(u32 file, u64 path, u32 flags, u32 mask, u64 to) {
+    enum { EMPTY_PATH = 0x1000, NO_FOLLOW = 0x100 };
+    const char *name = AT(path);
+    struct stat found;
+    int failed;
+    (void)mask;
+#ifndef __linux__
+    /* Linux's names of the standard streams. */
+    if (!strncmp(name, "/proc/self/fd/", 14) && name[14] >= '0' && name[14] <= '2' && !name[15]) {
+        file = (u32)(name[14] - '0');
+        name = "";
+        flags |= EMPTY_PATH;
+    }
+#endif
+    if (!*name && flags & EMPTY_PATH) failed = fstat((int)file, &found);
+    else if (flags & NO_FOLLOW) failed = lstat(name, &found);
+    else failed = stat(name, &found);
+    if (failed) return (u32)-1;
+    put_status(to, &found);
+    return 0;
+}
+
+/*** Time and signals ***/
+
+u32 host_clock_gettime(u32 clock, u64 to) {
+    struct timespec time;
+    if (clock_gettime(clock == 1 ? CLOCK_MONOTONIC : CLOCK_REALTIME, &time)) return (u32)-1;
+    put_time(to, time);
+    return 0;
+}
+
+/* The program ignores SIGPIPE when it starts, and changes no other signal. */
+u64 host___sysv_signal(u32 number, u64 action) {
+    if (number != 13 || action != 1) abort();
+    return signal(SIGPIPE, SIG_IGN) == SIG_ERR ? (u64)-1 : 0;
+}
+
+/*** Numbers of 128 bits ***/
+
+static void put_pair(u64 to, u64 low, u64 high) {
+    put(to, 8, low);
+    put(to + 8, 8, high);
+}
+
+void host___multi3(u64 result, u64 a, u64 a_high, u64 b, u64 b_high) {
+    u64 low = (a & 0xffffffff) * (b & 0xffffffff), middle = (a >> 32) * (b & 0xffffffff) + (low >> 32);
+    u64 other = (a & 0xffffffff) * (b >> 32) + (middle & 0xffffffff);
+    u64 high = (a >> 32) * (b >> 32) + (middle >> 32) + (other >> 32);
+    put_pair(result, a * b, high + a * b_high + a_high * b);
+}
+
+void host___ashlti3(u64 result, u64 low, u64 high, u32 by) {
+    if (by & 64) put_pair(result, 0, low << (by & 63));
+    else put_pair(result, low << by, by ? high << by | low >> (64 - by) : high);
+}
+
+void host___lshrti3(u64 result, u64 low, u64 high, u32 by) {
+    if (by & 64) put_pair(result, high >> (by & 63), 0);
+    else put_pair(result, by ? low >> by | high << (64 - by) : low, high >> by);
+}
+
+/* After `--version` alone a second line says which build this is. */
+static int is_version(int count, char **words) {
+    return count == 2 && (!strcmp(words[1], "--version") || !strcmp(words[1], "-V"));
+}
+
+int main(int count, char **words) {
+    static const char BUILD[] = "built from C (dist/command)\n";
+    int status;
+    arg_count = count;
+    args = words;
+    memcpy(memory + TOP, constants, sizeof constants);
+    status = (int)module_main(0, 0);
+    if (status == 0 && is_version(count, words) && write(1, BUILD, sizeof BUILD - 1) < 0) status = 6;
+    return status;
+}
