@@ -37,12 +37,12 @@ row 'the shuffles' shuffles
 
 # The calls run over the shared object, on an early processor. The other tests use the archive.
 row 'the calls: compile' "$cc" -std=c99 -O2 -Wall -Wextra -pedantic -Werror "-I$root/c/include" \
-    "-I$root/c/reference" "$root"/tests/library/*.c "$root/c/reference/one_table.c" "$library/libkeywrap.so.1" \
-    -o checks
+    "$root/tests/rows.c" "$library/libkeywrap.so.1" -o checks
 # They run beside the next rows.
 calls=
-if [ "${KEYWRAP_ALL:-}" = 1 ]; then
-    "${runs[@]}" -cpu cortex-a53 -E "LD_LIBRARY_PATH=$library" ./checks few >calls.log 2>&1 &
+if [ "${KEYWRAP_EVIDENCE:-}" = 1 ]; then
+    "${runs[@]}" -cpu cortex-a53 -E "LD_LIBRARY_PATH=$library" ./checks \
+        <"$root/tests/rows.txt" >calls.log 2>&1 &
     calls=$!
 fi
 
@@ -55,7 +55,7 @@ secrets() {
 }
 of_debian="no $sysroot (packaging/sysroot.sh '$sysroot')"
 if [ -d "$sysroot" ]; then
-    slow row 'what depends on secrets' secrets
+    evidence row 'what depends on secrets' secrets
 else
     skip 'what depends on secrets' "$of_debian"
 fi
@@ -68,7 +68,8 @@ if [ ! -d "$sysroot" ]; then
 elif needs_python 'the wheel' build cffi setuptools wheel; then
     row 'make dist' making dist PYTHON="$python"
     row 'what it makes' diff <(ls dist) \
-        <(printf '%s\n' SHA256SUMS "$wheel" "keywrap-$version.cdx.json" "$packed.tar.gz" | sort)
+        <(printf '%s\n' SHA256SUMS "$wheel" "keywrap-$version.cdx.json" "$packed.tar.gz" \
+            "keywrap-$version-aarch64-linux-static.tar.gz" | sort)
     row 'its checksums' env -C dist sha256sum -c --strict SHA256SUMS
     row 'its checksums in TRUST.md' "$python" "$root/scripts/trust.py" --check-hashes dist/SHA256SUMS
     row 'the wheel, unpacked' "$python" -m zipfile -e "dist/$wheel" site
@@ -99,8 +100,10 @@ assert utils.parse_wheel_filename(sys.argv[1])[3] & set(tags.sys_tags())' "$whee
 # package_tests: no test of the package fails or is skipped. Tests of threads are left out, and tests that start other
 # programs, which qemu cannot: one_exception, keywrap.rotate, keywrap.vectors and install().
 package_tests() {
+    # The memory of an emulator is not that of the calls.
     PYTHONPATH=$workdir/site KEYWRAP_CALLS=10000 "${arm_python[@]}" -m pytest -q -p no:cacheprovider \
-        -k 'not thread and not one_exception and not pyca_installed' "$root"/python/tests/test_[!rv]*.py >tests.log
+        -k 'not thread and not one_exception and not pyca_installed and not take_no_memory' \
+        "$root"/python/tests/test_[!rv]*.py >tests.log
     grep -E '^[0-9]+ passed' tests.log | grep -vE 'skipped|failed|error' || { cat tests.log && false; }
 }
 
@@ -112,5 +115,5 @@ if [ -d site ]; then
     row 'Python takes the wheel' takes
     slow row 'the tests of the package' package_tests
 fi
-slow row 'the calls' eval 'wait $calls || { cat calls.log && false; }'
+evidence row 'the calls' eval 'wait $calls || { cat calls.log && false; }'
 finish

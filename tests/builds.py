@@ -80,6 +80,22 @@ def library(once, built):
     return once("library", build)
 
 
+STRICT = ["-O1", "-Wall", "-Wextra", "-Werror"]
+
+
+@pytest.fixture(scope="session")
+def in_c(once):
+    """The path of the program as `make -C dist keywrap` builds it, without a warning."""
+    need("cc")
+
+    def build(directory):
+        shutil.copytree(ROOT / "dist/command", directory / "command")
+        shutil.copy(ROOT / "dist/Makefile", directory)
+        run("make", "-C", directory, "keywrap", f"CFLAGS={' '.join(STRICT)} -DKEYWRAP_AES_INSTRUCTIONS_MUST_WORK")
+
+    return once("program in C", build) / "keywrap"
+
+
 @pytest.fixture(scope="session")
 def portable():
     """The sources that everyone builds without the kit."""
@@ -168,9 +184,10 @@ def unpacked(archive, directory):
     return next(directory.iterdir())
 
 
-@pytest.fixture(scope="session")
+@pytest.fixture
 def thing(request, once):
-    """thing("wheel") is the directory with all of its files, as a user has it."""
+    """thing("wheel") is the directory with all of its files, as a user has it. Each test has its own request: pytest
+    fails if a request asks twice for a fixture that was skipped."""
     def installed(goal, *more):
         def build(directory):
             run("make", "-s", "-C", ROOT, goal, *request.getfixturevalue("words"), f"DESTDIR={directory}", "prefix=",

@@ -17,7 +17,7 @@ import pytest
 
 pytest.register_assert_rewrite("checks")
 
-from builds import built, debs, dist, library, once, portable, python, thing, words  # noqa: F401
+from builds import built, debs, dist, in_c, library, once, portable, python, thing, words  # noqa: F401
 from commands import FILES, LARGE
 from program import SLOW, Ended, Program, shared, wait_for
 from tools import need
@@ -25,7 +25,7 @@ from tools import need
 ROOT = pathlib.Path(__file__).resolve().parent.parent
 # The files of long tests.
 LONG = ("test_portable", "test_python", "test_dist", "test_debian", "test_handed_out",
-        "test_provider", "test_facts", "test_go", "test_java")
+        "test_provider", "test_facts", "test_go", "test_java", "test_js")
 
 
 def pytest_addoption(parser):

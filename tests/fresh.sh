@@ -1,45 +1,111 @@
 #!/usr/bin/env bash
-# Makes a root directory with a minimal Debian, the packages that README names and the kit. Clones the repository there,
-# and runs the commands of README's "Run it". This needs root, debootstrap, a Debian mirror and about half an hour.
+# Runs README's commands as a newcomer does: in a root directory with a minimal Debian, the packages that README names
+# and the kit, as a user who is not root, without a variable of this machine. Then runs the lines of each page of
+# without_kit.txt in such a directory without the kit. Whatever this machine cannot do is a failure.
 #
-# usage: KEYWRAP_FRESH=1 tests/fresh.sh        (without it nothing is run; KEYWRAP_FRESH=DIRECTORY keeps the root
-#        directory there, or takes the one that was kept)
+# usage: KEYWRAP_FRESH=1 tests/fresh.sh [PAGE..]        only these pages, if one is named. Without KEYWRAP_FRESH
+#        nothing is run. KEYWRAP_FRESH=DIRECTORY keeps the minimal Debian, the packages and what was proved there, and
+#        begins with what was kept
 
 set -u
 # shellcheck source=tests/lib/workdir.sh
 . "${BASH_SOURCE[0]%/*}/lib/workdir.sh"
-[ -n "${KEYWRAP_FRESH:-}" ] && needs 'a fresh machine' root debootstrap 'overlay of the root directory' ||
+[ -n "${KEYWRAP_FRESH:-}" ] || { finish; exit; }
+verdict 'what a root directory needs' "$(lacks root debootstrap git rt 'overlay of the root directory')" ||
     { finish; exit; }
 [[ $KEYWRAP_FRESH = /* ]] && fresh=$KEYWRAP_FRESH || fresh=$workdir/fresh
 kit=$(dirname "$(dirname "$(readlink -f "$(command -v rt)")")")
-run_it() { sed -n '/^## Run it/,/^## /s/^    //p' "$root/README.md"; }
-# The packages of its first line.
-packages=$(run_it | sed -n 's/^apt-get install \([^#]*[^# ]\).*/\1/p')
-run_it | grep -v '^apt-get install' >commands
+mkdir -p "$fresh/packages" "$fresh/built" machine over
 
-row 'README names packages' test -n "$packages" || { finish; exit; }
-[ -d "$fresh/etc" ] || row 'debootstrap' debootstrap --variant=minbase --include="${packages// /,}" \
-    "$(. /etc/os-release && echo "$VERSION_CODENAME")" "$fresh" || { finish; exit; }
-rm -rf "$fresh/root/keywrap"
-row 'a clone' git clone -q "$root" "$fresh/root/keywrap" || { finish; exit; }
-install -m 644 commands "$fresh/root"
-
-# inside: README's commands in the root directory, with the kit, which nothing outside changes.
-inside() {
-    # shellcheck disable=SC2016
-    unshare -mpf --mount-proc="$fresh/proc" bash -ec '
-        mount -t overlay overlay -o lowerdir="$2",upperdir=upper,workdir=work "$1$2"
-        exec env -i HOME=/root PATH="$2/bin:/usr/local/sbin:/usr/local/bin:/usr/sbin:/usr/bin:/sbin:/bin" \
-            chroot "$1" bash -exc "cd /root/keywrap && . ../commands"' - "$fresh" "$kit"
+# enter DIRECTORY COMMAND..: runs it in this root directory, with the processes, terminals and downloaded packages that
+# it needs, without a variable. Only for a shell that inside() starts.
+enter() {
+    mount -t proc proc "$1/proc"
+    mount -t devpts -o newinstance,ptmxmode=666,mode=620,gid=5 devpts "$1/dev/pts"
+    mount --bind "$1/dev/pts/ptmx" "$1/dev/ptmx"
+    mount -t tmpfs -o mode=1777 tmpfs "$1/dev/shm"
+    mkdir -p "$1/var/cache/apt/archives" && mount --bind "$fresh/packages" "$1/var/cache/apt/archives"
+    env -i PATH=/usr/sbin:/usr/bin:/sbin:/bin DEBIAN_FRONTEND=noninteractive chroot "$@"
 }
-mkdir -p "$fresh/proc" "$fresh$kit" upper work
-inside >said 2>&1
-status=$?
-tail -n 40 said
-verdict "README's commands" "$([ $status = 0 ] || echo "status $status")"
-# The last two lines: what to install, and the counts.
-verdict 'no test fails' "$(tail -n 1 said | grep -vE '^[0-9]+ passed, 0 failed, [0-9]+ skipped')"
-verdict 'the packages to install are named' "$(comm -23 \
-    <(sed -n 's/^SKIPPED: .*(apt-get install \(.*\))$/\1/p' said | tr ' ' '\n' | sort -u) \
-    <(tail -n 2 said | sed -n 's/.* apt-get install //p' | tr ' ' '\n' | sort -u))"
+# inside LINES WORD..: runs lines of bash in namespaces of their own: no mount is seen outside. Bash stays the first
+# process there, which waits for every process that has lost its parent.
+inside() { unshare -mpf bash -ec "$(declare -f enter); $(declare -p fresh kit); $1"$'\n:' - "${@:2}"; }
+# as_root DIRECTORY LINES and as_user DIRECTORY LINES: in this root directory. Only the user has the kit.
+as_root() { inside 'enter "$1" bash -ec "$2"' "$@"; }
+as_user() {
+    inside 'mkdir -p "$1$kit" && mount --bind "$kit" "$1$kit" && mount -o remount,bind,ro "$1$kit"
+        enter "$1" su -l user -c "$2"' "$@"
+}
+# lines PAGE HEADING: the commands of a section, of which the first installs packages.
+lines() { python3 "$root/tests/lib/page_lines.py" "$root/$1" "$2"; }
+# prepare DIRECTORY: a user, and a clone in the user's directory.
+prepare() {
+    as_root "$1" 'useradd -m -s /bin/bash user' && git clone -q "$root" "$1/home/user/keywrap" &&
+        as_root "$1" 'chown -R user: /home/user'
+}
+# problem STATUS: why the lines failed that wrote `said`.
+problem() { [ "$1" = 0 ] || { echo "status $1:" && tail -n 5 said; }; }
+
+### The minimal Debian
+
+if [ ! -e "$fresh/minimal/etc/apt/apt.conf.d/machine" ]; then
+    rm -rf "$fresh/minimal"
+    debootstrap --variant=minbase "$(. /etc/os-release && echo "$VERSION_CODENAME")" "$fresh/minimal" >said 2>&1
+    verdict 'debootstrap, with a Debian mirror' "$(problem $?)" || { finish; exit; }
+    # This machine's way to the mirror. README's line asks, and here nobody answers.
+    apt-config dump | grep -E '^Acquire::(http|https|Check-|Retries)' >machine.conf
+    echo 'APT::Get::Assume-Yes "yes";' >>machine.conf
+    cp /etc/resolv.conf "$fresh/minimal/etc"
+    as_root "$fresh/minimal" "cat >/etc/apt/apt.conf.d/machine && apt-get update" <machine.conf >said 2>&1
+    verdict 'its mirror' "$(problem $?)" || { finish; exit; }
+fi
+
+### README, with the kit
+
+# beside_the_sources: what a run leaves in the clone, except what is built and Python's caches of the tests.
+beside_the_sources() {
+    as_user "$workdir/machine" 'git -C keywrap status --porcelain --ignored' |
+        grep -vE '^!! (crates/[a-z0-9_]+/out|out|(scripts|tests)(/.*)?/__pycache__|tests/.pytest_cache)/$'
+}
+readme() {
+    local last least
+    lines README.md 'With the kit' >commands
+    least=$(grep -oP '^make test .*at least \K[0-9,]+(?= rows)' commands | tr -d ,)
+    row 'README: how many rows run' test -n "$least"
+    row 'README: a clone' eval 'cp -a "$fresh/minimal/." machine && prepare "$workdir/machine" &&
+        cp -a "$fresh/built/." machine/home/user/keywrap/crates && ln -s "$kit/bin/rt" machine/usr/local/bin' || return
+    as_root "$workdir/machine" "$(head -n 1 commands)" >said 2>&1
+    verdict 'README: the packages' "$(problem $?)" || return
+    as_user "$workdir/machine" "set -ex; cd keywrap; $(tail -n +2 commands)" >said 2>&1
+    verdict 'README: the commands' "$(problem $?)"
+    tail -n 30 said
+    last=$(tail -n 1 said)
+    verdict 'README: no row fails' "$([[ $last =~ ^[0-9]+\ passed,\ 0\ failed, ]] || echo "the last line is: $last")"
+    verdict "README: at least $least rows run" "$([ "${last%% *}" -ge "$least" ] 2>&1 || echo "$last")"
+    verdict 'README: what is left out is said in one line' "$(tail -n 2 said | grep -E '^.{121}|^SKIPPED')"
+    verdict 'README: nothing is written beside the sources' "$(beside_the_sources)"
+    [ "$fresh" = "$workdir/fresh" ] ||
+        (cd machine/home/user/keywrap/crates && cp -a --parents -- */out "$fresh/built")
+}
+[ $# -gt 0 ] || readme
+
+### Each page, without the kit
+
+# page PAGE HEADING: the lines in an overlay of the minimal Debian. The network is off once the packages are there.
+page() {
+    lines "$1" "$2" >commands
+    inside 'mount -t tmpfs none over && mkdir over/upper over/work over/at && mount -t overlay overlay \
+            -o lowerdir="$fresh/minimal",upperdir=over/upper,workdir=over/work over/at
+        git clone -q "$1" over/at/home/keywrap && cp commands over/at/home && enter over/at bash -ec "
+            useradd -m -s /bin/bash user && mv /home/keywrap ~user && chown -R user: ~user
+            . <(head -n 1 /home/commands)
+            unshare -n su -l user -c \"set -ex; cd keywrap; . <(tail -n +2 /home/commands)\""' "$root" >said 2>&1
+    verdict "$1: $2" "$(problem $?)"
+}
+while IFS='|' read -r name heading; do
+    [ $# = 0 ] || [[ " $* " = *" $name "* ]] || continue
+    began=$SECONDS
+    page "$name" "$heading"
+    echo "$name: $((SECONDS - began)) s"
+done < <(sed -n 's/ *| */|/; /^[^#]/p' "$root/tests/without_kit.txt")
 finish

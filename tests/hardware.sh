@@ -11,7 +11,7 @@ set -u
 
 needs 'all of libkeywrap_hw' cc || { finish; exit; }
 row 'make library HARDWARE=1' in_library library HARDWARE=1 || { finish; exit; }
-row 'the names of the archive' shows -g "$library/libkeywrap_hw.a"
+row 'the names of the archive' shows "$names" -g "$library/libkeywrap_hw.a"
 row 'the names of the shared object' versioned "$library/libkeywrap_hw.so.1"
 row 'it needs nothing more' wants "$library/libkeywrap_hw.a"
 row 'a hardened shared object' hardened "$library/libkeywrap_hw.so.1"
@@ -29,9 +29,8 @@ options=(-std=c99 -O2 -Wall -Wextra -pedantic -Werror "-I$root/c/include" "-I$ro
 # passes.
 with_lto() {
     make -s -C "$root" library HARDWARE=1 CC="$1" CFLAGS='-O2 -flto' LIBRARY="$workdir/with lto" ARCHIVE="$archive" &&
-        "$1" -flto "${options[@]}" "$root"/tests/library/*.c "$root/c/reference/one_table.c" \
-            'with lto/libkeywrap_hw.a' -o 'with lto/checks' &&
-        writes ' passed, 0 failed' 'with lto/checks' few
+        "$1" -flto "${options[@]}" "$root/tests/rows.c" 'with lto/libkeywrap_hw.a' -o 'with lto/rows' &&
+        'with lto/rows' <"$root/tests/rows.txt"
 }
 row 'with -flto' with_lto cc
 
@@ -90,25 +89,21 @@ if needs 'what depends on secrets in the steps' valgrind '<valgrind/memcheck.h>'
         "$root/c/reference/one_table.c" "$library/libkeywrap_hw.a" -o hw_secrets
     slow row 'secrets of libkeywrap_hw: runs' writes 'keywrap_kind: 0 reports' valgrind -q --error-limit=no \
         --log-file=valgrind.log --suppressions="$root/tests/secrets/decision.supp" ./hw_secrets 264
-    slow row 'secrets of libkeywrap_hw: whether a length is plain' diff <(sed '/: 0 reports/d; s/:.*//' written) \
-        <(printf '%s\n' 'keywrap_rewrap_in_place, to plain' 'keywrap_rewrap, to plain' \
-            'keywrap_rewrap, to plain, not plain' 'keywrap_rewrap_many, to plain' tables)
-    # That is one branch for each key, and the calls for many keys have two.
-    slow row 'secrets of libkeywrap_hw: one branch for each length' awk -F ': ' '/, to plain/ {
-        split($2, n, " "); found++; if (n[1] > 2 * n[4]) { print; bad = 1 } } END { exit bad || found != 8 }' written
+    slow row 'secrets of libkeywrap_hw: nothing but tables' diff <(sed '/: 0 reports/d; s/:.*//' written) <(echo tables)
 fi
 
 ### libkeywrap_hw, on each processor
 
-python3 "$root/tests/published.py" foreign >cases
-! needs_python "NIST's cases" cryptography_vectors || "$python" "$root/tests/published.py" nist >>cases
+python3 "$root/tests/published.py" rows foreign >kept
+! needs_python "NIST's cases" cryptography_vectors || "$python" "$root/tests/published.py" nist >>kept
+cp kept all && { ! needs_python 'the rows that are not kept' cryptography ||
+    "$python" "$root/tests/published.py" more >>all; }
 mapfile -t comparing < <(printf '%s\n' "$root"/tests/provider/*.c | grep -v '/direct\.c$')
 # builds DIRECTORY COMPILER WORD..: builds the programs over $library/libkeywrap_hw.so.1 in the directory.
 builds() {
     mkdir -p "$1" && set -- "$1" "${@:2}" "${options[@]}" &&
-        "${@:2}" "$root"/tests/library/*.c "$root/c/reference/one_table.c" "$library/libkeywrap_hw.so.1" \
-            -o "$1/checks" &&
-        "${@:2}" "$root/tests/published.c" "$library/libkeywrap_hw.so.1" -o "$1/published" &&
+        "${@:2}" "$root/tests/rows.c" "$library/libkeywrap_hw.so.1" -o "$1/rows" &&
+        "${@:2}" "$root/tests/library/own.c" "$library/libkeywrap_hw.so.1" -o "$1/own" &&
         "${@:2}" "$root/tests/hardware/chosen.c" "$root"/c/hardware/{aes,x86_64,aarch64}.c -o "$1/chosen"
 }
 # compares DIRECTORY LIBCRYPTO COMPILER WORD..: builds the program that compares the provider with OpenSSL's.
@@ -118,9 +113,9 @@ on() {
     local part software=
     [[ $1 != *without* ]] || software=slow
     row "$1: the AES" writes "$3" "${@:4}" "$2/chosen"
-    slow row "$1: the calls" writes ' passed, 0 failed' "${@:4}" "$2/checks" few
-    slow row "$1: many keys, at each place" writes ' passed, 0 failed' "${@:4}" "$2/checks" many
-    $software row "$1: the published cases" writes "$(wc -l <cases) right" "${@:4}" "$2/published" <cases
+    $software row "$1: the rows, and published cases" "${@:4}" "$2/rows" <kept
+    slow row "$1: the rows that are not kept" "${@:4}" "$2/rows" <all
+    slow row "$1: beside the rows" "${@:4}" "$2/own"
     [ -e "${2%_without}/compared" ] || return
     row "$1: the provider, parameters" "${@:4}" "$2/compared" "$2" parameters
     # shellcheck disable=SC2086
@@ -139,7 +134,7 @@ export LD_LIBRARY_PATH=$library KEYWRAP_VERSION=$version
 if needs 'each processor' qemu-x86_64; then
     on 'x86-64 with AES' here instructions qemu-x86_64 -cpu max
     on 'x86-64 without AES' here software qemu-x86_64 -cpu Nehalem
-    slow row 'planted bugs' python3 "$root/tests/hardware/bugs.py" "$library/libkeywrap.a"
+    evidence row 'planted bugs' python3 "$root/tests/hardware/bugs.py" "$library/libkeywrap.a"
 fi
 # left MOST: no call leaves more bytes below the stack pointer that depend on a secret, except the first call, which
 # makes the known-answer test. The 16 bytes are a block of the wrapped key.
@@ -157,11 +152,12 @@ row 'the stack: compiles' cc -std=c99 -O1 -g "${options[@]:2}" "$root/tests/secr
 row 'the stack: runs' ./stack && cp row.log stacked
 row 'the stack: every export' diff <(sed 's/[, ].*//; s/^/keywrap_/' stacked | sort -u) <(echo "$exports")
 row 'the stack: round keys are cleared' left 16
-slow row 'the calls, all' writes ' passed, 0 failed' here/checks
+row 'the rows' here/rows <all
+row 'beside the rows' here/own
 if needs 'the calls, sanitized' 'sanitizers of cc'; then
-    slow row 'the calls, sanitized: compile' cc "${options[@]}" -g "${sanitize[@]}" "$root"/tests/library/*.c \
-        "$root/c/reference/one_table.c" "$root"/c/hardware/*.c proved.a -o sanitized
-    slow row 'the calls, sanitized' writes ' passed, 0 failed' ./sanitized few
+    slow row 'the calls, sanitized: compile' cc "${options[@]}" -g "${sanitize[@]}" "$root/tests/rows.c" \
+        "$root"/c/hardware/*.c proved.a -o sanitized
+    slow row 'the calls, sanitized' ./sanitized <all
 fi
 threads=(cc "${options[@]}" -g -pthread "$root/tests/hardware/threads.c")
 for name in keywrap keywrap_hw; do
@@ -187,7 +183,7 @@ made=(make -s -C "$root" HARDWARE=1 LIBRARY="$library" ${KEYWRAP_ARM64:+ARCHIVE=
 row 'aarch64: make library HARDWARE=1' "${made[@]}" library
 row 'aarch64: the programs: compile' builds arm $arm-gcc
 # Every processor of qemu has the instructions, so these programs replace getauxval.
-slow row 'aarch64 without AES: the programs: compile' builds arm_without $arm-gcc -rdynamic \
+evidence row 'aarch64 without AES: the programs: compile' builds arm_without $arm-gcc -rdynamic \
     "$root/tests/hardware/no_aes.c"
 if [ -d "$sysroot/usr/include/openssl" ]; then
     runs=(qemu-aarch64 -L "$sysroot")
@@ -196,7 +192,7 @@ if [ -d "$sysroot/usr/include/openssl" ]; then
     row 'aarch64: make provider HARDWARE=1' "${made[@]}" provider PROVIDER="$workdir/arm" CPPFLAGS="${of_debian[*]}"
     row 'aarch64: the comparisons: compile' compares arm "$libcrypto" $arm-gcc "${of_debian[@]}"
     mkdir -p arm_without
-    slow row 'aarch64 without AES: the comparisons: compile' compares arm_without "$libcrypto" $arm-gcc \
+    evidence row 'aarch64 without AES: the comparisons: compile' compares arm_without "$libcrypto" $arm-gcc \
         "${of_debian[@]}" -rdynamic "$root/tests/hardware/no_aes.c"
     ln -s ../arm/keywrap.so arm_without
 else
@@ -205,5 +201,5 @@ fi
 # An early processor.
 runs+=(-cpu cortex-a53 -E "LD_LIBRARY_PATH=$library")
 on 'aarch64 with AES' arm instructions "${runs[@]}"
-slow on 'aarch64 without AES' arm_without software "${runs[@]}"
+evidence on 'aarch64 without AES' arm_without software "${runs[@]}"
 finish

@@ -1,8 +1,7 @@
 #!/usr/bin/env bash
 # Runs the tests in copies of the root directory without some tools of tests/packages.txt. No test may fail; rows are
-# skipped. Two copies have only the tools of a minimal Debian and the packages that README names, one of them with
-# pytest. Each other copy lacks every sixth tool, so each row runs once without each tool. This takes up to eight times
-# as long as `make test`.
+# skipped. One copy has only the tools of a minimal Debian, and no pytest. Each other copy lacks every sixth tool, so
+# each row runs once without each tool. This takes up to seven times as long as `make test`.
 #
 # usage: KEYWRAP_HIDDEN=1 tests/hidden.sh [NAME..]        tests/test_NAME.py or tests/NAME.sh; all of them, if none is
 #        named. Without KEYWRAP_HIDDEN=1 nothing is run
@@ -63,8 +62,6 @@ tools_but() {
 }
 minimal=$'cc\ngcc\ngit\nopenssl\nscript' pytest=$'import pytest\nimport xdist'
 mapfile -t hidden < <(tools_but "$minimal")
-row_without "${hidden[@]}"
-mapfile -t hidden < <(tools_but "$minimal"$'\n'"$pytest")
 row_without "${hidden[@]}"
 mapfile -t tools < <(tools_but "$pytest")
 for ((part = 0; part < 6; part++)); do

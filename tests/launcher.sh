@@ -50,9 +50,34 @@ said() { printf '%s\n' "the first line of $1" 'the second line'; }
 ### When it is built, and from where it is called
 
 fresh; PATH=$tree/tmp launch
-launched 'no rt' 70 '' 'keywrap: not built yet, and rt, which proves and builds it, is not on the PATH'
+launched 'neither rt nor make' 70 '' \
+    'keywrap: not built yet: neither rt, which proves and builds it, nor make, which builds dist/, is on the PATH'
 mkdir alone && cp bin/rt alone && PATH=$tree/alone launch
-launched 'no make' 70 '' 'keywrap: not built yet, and make, which proves and builds it, is not on the PATH'
+launched 'no make' 70 '' 'keywrap: not built yet, and make, which builds it, is not on the PATH'
+# Without rt: the cc of this fake writes a program that prints its arguments.
+mkdir plain && ln -s /usr/bin/* plain && rm -f plain/cc plain/rt
+fresh; PATH=$tree/plain launch
+launched 'neither rt nor cc' 70 '' \
+    'keywrap: not built yet: neither rt, which proves and builds it, nor cc, which builds dist/, is on the PATH'
+install -m 755 /dev/stdin plain/cc <<'END_OF_CC'
+#!/bin/sh
+[ ! -e "$tree/broken" ] || { echo 'error: of the compiler' >&2 && exit 1; }
+while [ "$1" != -o ]; do shift; done
+echo compiled >>"$tree/notes"
+printf '#!/bin/sh\necho "compiled, $# words: $*"\n[ "$1" = --version ] || exit 5\n' >"$2" && chmod +x "$2"
+END_OF_CC
+compiles='keywrap: no rt on the PATH: compiling the program in dist/, half a minute the first time'
+PATH=$tree/plain launch a 'b c'
+launched 'without the kit' 5 'compiled, 2 words: a b c'$'\n' "$compiles" compiled
+PATH=$tree/plain launch a
+launched 'without the kit, again' 5 'compiled, 1 words: a'$'\n' '' compiled
+: >notes; append dist/command/host.c; PATH=$tree/plain launch a
+launched 'without the kit, after a change' 5 'compiled, 1 words: a'$'\n' "$compiles" compiled
+append dist/command/host.c; touch broken; PATH=$tree/plain launch
+verdict 'the compiler fails' "$([ "$status" = 70 ] || echo "status $status"
+    grep -q '^error: of the compiler' err || cat err; tail -n 1 err | grep -vx 'keywrap: the build failed: dist/')"
+rm -r dist/keywrap dist/keywrap.built_from broken plain
+: >notes
 TMPDIR=$tree/missing launch
 launched 'no directory for the logs' 70 '' "keywrap: no directory for the build's logs"
 launch a 'b c'

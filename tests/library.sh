@@ -26,7 +26,7 @@ done
 
 ### The header
 
-include=("-I$root/c/include" -I"$root/c/reference")
+include=("-I$root/c/include")
 strict=(-Wall -Wextra -pedantic -Werror)
 printf '#include <keywrap.h>\n' >header.c
 # in_each STANDARDS LANGUAGE COMPILER..: no compiler warns of the header.
@@ -176,20 +176,20 @@ fi
 
 ### The library, by each of the archives
 
-# The other AES is built once, and without the sanitizers.
-row 'the other AES: compiles' cc -std=c99 -O2 "${strict[@]}" -c "$root/c/reference/one_table.c" -o one_table.o
-checks=("$root"/tests/library/*.c one_table.o)
+cp "$root/tests/rows.txt" table
+! needs_python 'the rows that are not kept' cryptography || "$python" "$root/tests/published.py" more >>table
 
-# run_calls NAME OPTION..: the C program, linked with the library by these options, finds no fault. The gate makes all
-# calls, and a plain run a few.
+# run_calls NAME OPTION..: the C programs, linked with the library by these options, find no fault in the rows of
+# tests/rows.txt and beside them.
 run_calls() {
-    local part=few
-    [ "${KEYWRAP_ALL:-}" != 1 ] || part=
-    row "$1: compiles" "$compiler" -std=c99 -O1 -g "${strict[@]}" "${include[@]}" "${checks[@]}" "${@:2}" \
-        -o checks && row "$1" env LD_LIBRARY_PATH="$library" ./checks ${part:+"$part"}
+    row "$1: compiles" "$compiler" -std=c99 -O1 -g "${strict[@]}" "${include[@]}" "$root/tests/rows.c" "${@:2}" \
+        -o rows &&
+        row "$1" env LD_LIBRARY_PATH="$library" ./rows <table
+    row "$1, own: compiles" "$compiler" -std=c99 -O1 -g "${strict[@]}" "${include[@]}" "$root/tests/library/own.c" \
+        "${@:2}" -o own && row "$1, own" env LD_LIBRARY_PATH="$library" ./own
 }
 
-# each_way: static and shared, and so with the sanitizers. This is slow for all archives but the last.
+# each_way: static and shared, and so with the sanitizers. All archives but the last are left to `make evidence`.
 each_way() {
     run_calls "$name by $compiler, static" "$library/libkeywrap.a"
     run_calls "$name by $compiler, shared" "$library/libkeywrap.so.1"
@@ -205,7 +205,7 @@ for archive in "${archives[@]}"; do
     row "make library, of $name" in_library library
     shown "$name"
     for compiler in "${compilers[@]}"; do
-        if [ "$archive" = "${archives[-1]}" ]; then each_way; else slow each_way; fi
+        if [ "$archive" = "${archives[-1]}" ]; then each_way; else evidence each_way; fi
     done
 done
 
@@ -265,18 +265,6 @@ for compiler in "${of_cpp[@]}"; do
         "$compiler" -std=c++11 "${strict[@]}" -I. "$installed/calls.cc" "${flags[@]}"
 done
 
-jna=/usr/share/java/jna.jar
-if needs 'the Java example' javac jna.jar; then
-    row 'the Java example' writes $rfc3394_41 java -Djava.io.tmpdir="$workdir" -Djna.library.path="$prefix/lib" \
-        -cp $jna "$root/c/examples/java/Wrap.java"
-fi
-if needs 'the Node example' node node_api.h; then
-    node_headers=$(dirname "$(command -v node)")/../include/node
-    row 'the Node example: builds' cc -std=c11 -shared -fPIC "${strict[@]}" -I"$node_headers" \
-        "$root/c/examples/node/keywrap.c" "${flags[@]}" -o keywrap.node
-    row 'the Node example: runs' writes $rfc3394_41 node "$root/c/examples/node/wrap.js" keywrap.node
-fi
-
 ### By CMake, and in other directories
 
 # by_cmake LIBDIR [VERSION]: the example builds by the package file there, both ways, and runs.
@@ -314,7 +302,8 @@ row 'its make uninstall-library' eval 'in_library uninstall-library DESTDIR="$wo
 stripped() {
     lies 'prefix= STRIP=1' include/keywrap{,_steps}.h $(of_lib lib) &&
         nm stage/lib/libkeywrap.so 2>&1 | grep 'no symbols' &&
-        shows -D --without-symbol-versions stage/lib/libkeywrap.so && shows -g stage/lib/libkeywrap.a
+        shows "$names" -D --without-symbol-versions stage/lib/libkeywrap.so &&
+        shows "$archived" -g stage/lib/libkeywrap.a
 }
 row 'STRIP=1' stripped
 

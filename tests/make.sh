@@ -16,7 +16,7 @@ export TMPDIR=$workdir/temporary
 script() {
     cat >"tests/$1.sh" <<END_OF_SCRIPT
 echo "$1: \${KEYWRAP_ARCHIVES:+over \$(cat \$KEYWRAP_ARCHIVES | wc -l) lines}\${TESTS:+the programs of \$TESTS}\
-\${KEYWRAP_ALL:+, all rows}" >>"\$tree/notes"
+\${KEYWRAP_ALL:+, all rows}\${KEYWRAP_FRESH:+in a minimal Debian}" >>"\$tree/notes"
 echo '$2'
 exit $3
 END_OF_SCRIPT
@@ -73,6 +73,8 @@ script command $'SLOW: 7 left to KEYWRAP_ALL=1\n1 passed, 0 failed, 0 skipped' 0
 script library $'SLOW: 4 left to KEYWRAP_ALL=1\n2 passed, 0 failed, 0 skipped' 0
 does 'slow rows' 0 '3 passed, 0 failed, 0 skipped, 11 slow left to KEYWRAP_ALL=1 make test' scripts/tests.sh -- \
     "${archives[@]}" 'command: ' "library: $over"
+KEYWRAP_ALL=1 does 'rows that the gate leaves out' 0 '3 passed, 0 failed, 0 skipped, 11 slow left to make evidence' \
+    scripts/tests.sh -- "${archives[@]}" 'command: , all rows' "library: $over, all rows"
 scripts
 does 'a script that is not there' 1 '2 passed, 1 failed, 1 skipped' scripts/tests.sh command missing -- 'command: '
 fresh
@@ -109,7 +111,8 @@ verdict 'a gate that fails records nothing' "$(find crates -name 'built_from*')"
 
 # The packages are installed one by one where all together can't be. The requests are recorded.
 mkdir tests/lib && cp "$root/tests/lib/tools.sh" tests/lib
-printf '# A comment.\nfirst | one | false\nsecond | two | false\nthird | three | true\n' >tests/packages.txt
+printf '# A comment.\nfirst | one | false\nsecond | two | false\nthird | three | true\ndebootstrap | four | true\n' \
+    >tests/packages.txt
 install -m 755 /dev/stdin bin/apt-get <<'END_OF_APT'
 #!/bin/sh
 echo "apt-get: $*" >>"$tree/notes"
@@ -120,25 +123,28 @@ installs='apt-get: install -y --no-install-recommends --no-upgrade'
 cp packaging/sysroot.sh tmp/kept
 printf '#!/bin/sh\necho "sysroot: $*" >>"$tree/notes"\n' >packaging/sysroot.sh
 unpacks='sysroot: '
-as_it_is=("${in_gate[@]:0:2}" "${archives[@]}" 'command: ' "library: $over")
-# The archives are built once.
-all_rows=("${in_gate[@]:2 + ${#archives[@]}}")
-at='a tree' event='exit 1' does 'CI, where a proof fails' 2 '' .ci/run -- 'a tree: ci'
-script command '2 passed, 1 failed, 0 skipped' 1
-at='a tree' event=$ci does 'CI, where a test fails as the machine is' 2 '42 passed, 1 failed, 0 skipped' .ci/run -- \
-    "${as_it_is[@]}"
+# fresh.sh does nothing among the other scripts.
 scripts
-at='a tree' event=$ci does 'CI' 0 '42 passed, 0 failed, 1 skipped' .ci/run -- "${as_it_is[@]}" 'apt-get: update' \
-    "$installs one two" "$unpacks" "${all_rows[@]}"
+minimal='fresh: in a minimal Debian'
+export KEYWRAP_FRESH=1
+script fresh '0 passed, 1 failed, 0 skipped' 1
+does 'CI, where a row fails in a minimal Debian' 1 '0 passed, 1 failed, 0 skipped' .ci/run -- "$minimal"
+script fresh '0 passed, 0 failed, 0 skipped' 0
+sed -i '1i [ -n "${KEYWRAP_FRESH:-}" ] || { echo "0 passed, 0 failed, 0 skipped"; exit; }' tests/fresh.sh
+at='a tree' event='exit 1' does 'CI, where a proof fails' 2 '' .ci/run -- "$minimal" 'a tree: ci'
+installed=('apt-get: update' "$installs one two" "$unpacks")
+at='a tree' event=$ci does 'CI' 0 '42 passed, 0 failed, 1 skipped' .ci/run -- "$minimal" "${in_gate[@]}" \
+    "${installed[@]}"
 at='a tree' event=$ci takes=5 does 'CI, where a package is missing' 0 '42 passed, 0 failed, 1 skipped' .ci/run -- \
-    "${as_it_is[@]}" 'apt-get: update' "$installs one two" "$installs one" "$installs two" "$unpacks" "${all_rows[@]}"
+    "$minimal" "${in_gate[@]}" "${installed[@]}" "$installs one" "$installs two"
 at='a tree' event=$ci uid=1 does 'CI without the right to install' 0 '42 passed, 0 failed, 1 skipped' .ci/run -- \
-    "${as_it_is[@]}" "${all_rows[@]}"
-# Only the second run of the tests fails.
+    "$minimal" "${in_gate[@]}"
 script command '2 passed, 1 failed, 1 skipped' 1
-sed -i '1a [ -n "${KEYWRAP_ALL:-}" ] || { echo "2 passed, 0 failed, 1 skipped"; exit; }' tests/command.sh
-at='a tree' event=$ci does 'CI, where a test fails with packages' 2 '42 passed, 1 failed, 1 skipped' .ci/run -- \
-    "${as_it_is[@]}" 'apt-get: update' "$installs one two" "$unpacks" "${all_rows[@]}"
+at='a tree' event=$ci does 'CI, where a test fails' 2 '42 passed, 1 failed, 1 skipped' .ci/run -- "$minimal" \
+    "${in_gate[@]}" "${installed[@]}"
+unset KEYWRAP_FRESH
+at='a tree' event=$ci does 'CI, where a test fails, without a minimal Debian' 2 '42 passed, 1 failed, 1 skipped' \
+    .ci/run -- "${in_gate[@]}" "${installed[@]}"
 rm bin/id bin/apt-get
 cp tmp/kept packaging/sysroot.sh
 
@@ -151,11 +157,12 @@ install -m 755 /dev/stdin bin/linker <<'END_OF_LINKER'
 #!/bin/sh
 words="$* "
 while [ "$1" != -o ]; do shift; done
-case $words in *' -c '* | *_hw.so*) echo >"$2" && exit ;; esac
+case $words in *' -c '* | *_hw.so* | *' -static '*) echo >"$2" && exit ;; esac
 echo linked >>"$tree/notes"
 echo "$words" >"$tree/linked"
 cp "${2%/*}/libkeywrap.a" "$2"
 END_OF_LINKER
+cp bin/linker bin/musl-gcc
 for tools in '' aarch64-linux-gnu-; do
     printf '#!/bin/sh\n[ $# != 3 ] || cp "$2" "$3"\n' | install -m 755 /dev/stdin "bin/${tools}objcopy"
     printf '#!/bin/sh\nto=$3\nwhile [ $# != 1 ]; do shift; done\ncp "$1" "$to"\n' |
@@ -177,14 +184,14 @@ export PYTHON=bin/python CC=linker
 make='make -s LIBRARY=library DIST=packed DESTDIR=stage/ PREFIX=usr'
 linked=('keywrap_c: lib' 'ends keywrap_c' linked)
 rm -r crates/*/out
-rebuilds "$make wheel && cmp library/python/libkeywrap.a $archive" "${linked[@]}" <<<true
+rebuilds "$make wheel && cmp library/python/libkeywrap_hw.a $archive" "${linked[@]}" <<<true
 rebuilds "$make install && cmp stage/usr/bin/keywrap $program && cmp stage/usr/lib/libkeywrap.so $archive" \
     "${steps[@]}" "${linked[@]}" <<<'append crates/aes_block/src/lib.rt'
 same 'make install keeps to DESTDIR and PREFIX' $'bin\ninclude\nlib\nshare' "$(ls stage/usr)"
 verdict 'make uninstall leaves nothing' "$($make uninstall; find stage ! -type d)"
 rebuilds "$make dist-command dist-library wheel && cat packed/*.tar.gz | tar -xzif - &&
     cmp keywrap-1.2.3-dev-*/bin/keywrap $program && cmp keywrap-library-1.2.3-dev-*/lib/libkeywrap.so $archive &&
-    cmp library/python/libkeywrap.a $archive" "${steps[@]:2}" "${linked[@]}" <<<'append crates/aes_block/src/lib.rt'
+    cmp library/python/libkeywrap_hw.a $archive" "${steps[@]:2}" "${linked[@]}" <<<'append crates/aes_block/src/lib.rt'
 rebuilds "$make library" "${linked[@]}" <<END_OF_CHANGES
 append crates.txt
 append crates/keywrap_c/proofs/part/Answers.antt
@@ -208,8 +215,8 @@ $make library
 rm -r library && $make wheel >row.log 2>&1
 echo 'gone from the sources' >library/python/gone.py
 $make wheel >row.log 2>&1
-verdict 'the wheel has only the sources' "$(diff -r -x README.md library/python python |
-    grep -vE '^Only in library/python: (VERSION|keywrap(_steps)?.h|libkeywrap.a|setup.cfg)$')"
+verdict 'the wheel has only the sources' "$(diff -r -x README.md -x ROTATION.md library/python python |
+    grep -vE '^Only in library/python: (VERSION|command|keywrap(_steps)?.h|libkeywrap_hw.a|setup.cfg)$')"
 for prefix in '/opt/R&D' '/opt/a|b' '/opt/a\1b' '/opt/a/b'; do
     $make install-library PREFIX="$prefix"
     same "PREFIX='$prefix'" "prefix=$prefix" "$(head -n 1 "stage/$prefix/lib/pkgconfig/keywrap.pc")"
@@ -257,11 +264,13 @@ rm -r packed; fresh
 does 'make dist' 0 packed/SHA256SUMS $all dist -- "${steps[@]}" "${linked[@]}" "${linked_for_arm[@]}"
 row 'the files of make dist' of keywrap-1.2.3-dev{-x86_64-linux.tar.gz,.tgz,.cdx.json} \
     keywrap-portable-1.2.3-dev.tar.gz keywrap-1.2.3.dev0.tar.gz \
-    keywrap-library-1.2.3-dev-{x86_64,aarch64}-linux.tar.gz ${wheel}_{x86_64,aarch64}.whl
+    keywrap-library-1.2.3-dev-{x86_64,aarch64}-linux.tar.gz ${wheel}_{x86_64,aarch64}.whl \
+    keywrap-1.2.3-dev-{x86_64,aarch64}-linux-static.tar.gz
 does 'make dist, again' 0 packed/SHA256SUMS $all dist --
 rm -r packed
 does 'make dist for one machine' 0 packed/SHA256SUMS $all dist $arm --
-row 'its files' of keywrap-library-1.2.3-dev-aarch64-linux.tar.gz ${wheel}_aarch64.whl keywrap-1.2.3-dev.cdx.json
+row 'its files' of keywrap-library-1.2.3-dev-aarch64-linux.tar.gz ${wheel}_aarch64.whl keywrap-1.2.3-dev.cdx.json \
+    keywrap-1.2.3-dev-aarch64-linux-static.tar.gz
 # keeps_sums COMMAND..: fails, and the old checksums stay, whole.
 keeps_sums() {
     cp packed/SHA256SUMS old.sums
@@ -287,6 +296,8 @@ does 'make dist-sources, without wasm-opt' 2 '' $make dist-sources WASM_OPT=none
 row 'make dist-sources, without wasm-opt: what to install' grep -q 'no none: apt-get install binaryen' err
 does 'make js' 0 "$PWD/out/js" $make js --
 mkdir -p "${archive%/*}" && echo kept | tee kept.a >$archive
+# The module of the program needs the kit's LLVM: tests/test_command.py compares it with what is kept.
+echo ':' >scripts/command_module.sh
 does 'make dist-sources' 0 '' $make dist-sources -- "${wasm[@]}"
 verdict 'make dist-sources leaves the archive of the C library' "$(cmp $archive kept.a 2>&1)"
 rm $archive kept.a

@@ -12,14 +12,19 @@ from typing import NamedTuple, Union
 
 import pytest
 
-# Slow tests run only with KEYWRAP_ALL=1, which `make gate` sets.
+# Slow tests run only with KEYWRAP_ALL=1, which `make gate` sets, and those that are left to `make evidence` only with
+# KEYWRAP_EVIDENCE=1, too.
 ALL, SLOW = os.environ.get("KEYWRAP_ALL") == "1", "left to KEYWRAP_ALL=1"
 slow = pytest.mark.skipif(not ALL, reason=SLOW)
+evidence = pytest.mark.skipif(os.environ.get("KEYWRAP_EVIDENCE") != "1", reason=SLOW)
 
 
-def all_of(values, few):
-    """The values as parameters. All but these few of them are slow."""
-    return [value if value in few else pytest.param(value, marks=slow) for value in values]
+def all_of(values, few, in_gate=None):
+    """The values as parameters. All but these few of them are slow, and all but those in the gate, if these are given,
+    are left to `make evidence`."""
+    in_gate = values if in_gate is None else in_gate
+    return [value if value in few else pytest.param(value, marks=slow if value in in_gate else evidence)
+            for value in values]
 
 
 class Ended(NamedTuple):

@@ -1,27 +1,29 @@
 """Published cases: NIST's (CAVP, of python3-cryptography-vectors), and cases of others in foreign/.
 
-As a program it prints them for the other languages, one call in a line: its name, the KEK, what is given, and the
-answer or the refusal, `-length` or `-integrity`. `0` is no bytes.
+As a program it prints them for the other languages, in the format of rows.txt.
 
-usage: python3 published.py nist|foreign"""
+usage: python3 published.py rows|more|foreign|nist..      (see `table`)"""
 
 import bz2
 import functools
 import importlib.util
 import json
 import pathlib
+import re
 import sys
+
+import rows
 
 HERE = pathlib.Path(__file__).resolve().parent
 FOREIGN = HERE / "foreign"
 
 
 def _parser():
-    """The parser, which is in the Python package but needs nothing of it."""
+    """The parser, which is in the Python package but needs nothing of it. Python writes no cache beside the source."""
     path = HERE.parent / "python/src/keywrap/_vector_files.py"
     spec = importlib.util.spec_from_file_location("vector_files", path)
     module = sys.modules["vector_files"] = importlib.util.module_from_spec(spec)
-    spec.loader.exec_module(module)
+    exec(compile(path.read_bytes(), path, "exec"), vars(module))
     return module
 
 
@@ -42,6 +44,13 @@ def nist_or_skip():
 
     need("import cryptography_vectors")
     return nist()
+
+
+def rows_or_skip():
+    """Skips the test if rows cannot be made here."""
+    from tools import need
+
+    need("import cryptography")
 
 
 @functools.cache
@@ -74,21 +83,46 @@ LENGTHS = {"wrap": (16, 8), "unwrap": (24, 8), "wrap_padded": (1, 1), "unwrap_pa
 
 
 def refusal(case):
-    """Which refusal a case without an answer has."""
+    """The status of a case without an answer."""
     least, unit = LENGTHS[case.call.value]
-    return "-length" if len(case.given) < least or len(case.given) % unit else "-integrity"
+    return rows.BAD_LENGTH if len(case.given) < least or len(case.given) % unit else rows.INTEGRITY
+
+
+def due(case):
+    """What a call returns and writes."""
+    if case.answer is not None:
+        is_padded_key = case.call.value == "unwrap_padded"
+        return {"status": rows.OK, "out": case.answer, **({"len": len(case.answer)} if is_padded_key else {})}
+    status = refusal(case)
+    return {"status": status, **({"out": bytes(len(case.given) - 8)} if status == rows.INTEGRITY else {})}
 
 
 def lines(cases):
-    """The lines of cases, for programs in other languages."""
-    return [" ".join([case.call.value, case.kek.hex(), case.given.hex() or "0",
-                      refusal(case) if case.answer is None else case.answer.hex()]) + "\n" for case in cases]
+    """The cases as lines of rows.txt."""
+    return [rows.line_of(case.call.value, {"kek": case.kek, "given": case.given}, due(case)) + "\n" for case in cases]
 
 
-def all_right(cases):
-    """What published.c prints if all of these cases are right."""
-    return f"{len(cases)} right, {sum(case.answer is None for case in cases)} refused\n"
+@functools.cache
+def table(name):
+    """A text in the format of rows.txt: "rows", the kept ones; "more", "foreign" or "nist"; or skips the test."""
+    if name == "rows":
+        return rows.KEPT.read_text()
+    if name == "more":
+        rows_or_skip()
+        return "\n".join(rows.more()) + "\n"
+    return "".join(lines({"foreign": foreign, "nist": nist_or_skip}[name]()))
+
+
+def all_right(said, text):
+    """Checks that a runner says of each line that it is right, or why it is left out. Returns how often for which
+    reason."""
+    assert "wrong: " not in said, said
+    left = {reason: int(number) for number, reason in re.findall(r"left out: (\d+): (.*)", said)}
+    right, = re.findall(r"\b(\d+) right", said)
+    assert int(right) + sum(left.values()) == sum(line[:1] not in ("", "#") for line in text.splitlines()), said
+    assert int(right) > 100
+    return left
 
 
 if __name__ == "__main__":
-    print(end="".join(lines({"nist": nist, "foreign": foreign}[sys.argv[1]]())))
+    print(end="".join(map(table, sys.argv[1:])))

@@ -5,12 +5,12 @@
 # below the stack pointer that depend on a KEK or a key after each call.
 # A part whose tool is not there is skipped, with a line that says what to install.
 #
-# usage: tests/secrets.sh [LENGTH]        keys of up to LENGTH bytes, 136 by default, 1024 with KEYWRAP_ALL=1.
+# usage: tests/secrets.sh [LENGTH]        keys of up to LENGTH bytes, 136 by default, 1024 with KEYWRAP_EVIDENCE=1.
 # KEYWRAP_ARCHIVES='PATH ..' tries the last of these, which was built before; with TARGET it is one of that machine.
 
 set -u
 longest=136
-[ "${KEYWRAP_ALL:-}" != 1 ] || longest=1024
+[ "${KEYWRAP_EVIDENCE:-}" != 1 ] || longest=1024
 longest=${1:-$longest}
 # shellcheck source=tests/library/rows.sh
 . "${BASH_SOURCE[0]%/*}/library/rows.sh"

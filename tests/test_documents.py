@@ -9,6 +9,8 @@ from xml.etree import ElementTree
 
 import pytest
 
+from lib.page_lines import page_lines
+
 ROOT = pathlib.Path(__file__).resolve().parent.parent
 DOCUMENTS = [path.relative_to(ROOT) for path in [
     *sorted(ROOT.glob("*.md")), *sorted(ROOT.glob("docs/*.md")), ROOT / "python/README.md", ROOT / "js/README.md",
@@ -52,11 +54,22 @@ class TestEachDocument:
         assert re.findall(found, " ".join(text.split())) == []
 
 
+def test_lines_without_the_kit():
+    """The page of each language is in without_kit.txt, which tests/fresh.sh runs, and has at most four lines there."""
+    sections = [row.split(" | ") for row in text_of("tests/without_kit.txt").splitlines() if row and row[0] != "#"]
+    for page, heading in sections:
+        packages, *lines = page_lines(text_of(page), heading)
+        assert packages.startswith("apt-get install ") and 1 <= len(lines) <= 4, (page, lines)
+    languages, = re.findall("^## Use it from a language\n(.*?)^## ", text_of("README.md"), re.M | re.S)
+    linked = {*re.findall(r"\]\(([^)#]*)", languages)}
+    assert len(linked) == 8 and linked - {page for page, _ in sections} == {"docs/LIBRARY.md"}
+
+
 @pytest.mark.needs("git")
 def test_width():
     """No line outside crates/ and python/ has more than 120 columns, but for data and what a script writes."""
     data = [":!crates", ":!python", ":!command/completions", ":!*.csv", ":!*.svg", ":!tests/launcher.txt",
-            ":!dist/keywrap.c"]
+            ":!tests/rows.txt", ":!tests/all_inputs/bugs.txt", ":!dist/keywrap.c", ":!dist/command/program.c"]
     tracked = subprocess.run(["git", "-C", ROOT, "ls-files", "--", ".", *data], capture_output=True, text=True).stdout
     contents = {name: (ROOT / name).read_bytes() for name in tracked.splitlines() if (ROOT / name).exists()}
     assert [name for name, content in contents.items() if b"\0" not in content
@@ -64,11 +77,11 @@ def test_width():
 
 
 def test_width_of_rattle():
-    """Without imports and attributes, which `rt fmt` leaves on one line."""
+    """Without imports and attributes, which `rt fmt` leaves on one line, and the first line of whole_rewrap_law."""
     for pattern, most in ("src/**/*.rt", 110), ("specs/**/*.antt", 190):
         wide = [f"{path.relative_to(ROOT)}:{number}" for path in ROOT.glob(f"crates/*/{pattern}")
                 for number, line in enumerate(path.read_text().splitlines(), 1)
-                if len(line) > most and not re.match(r" *((ghost |pub )?use |#!?\[)", line)]
+                if len(line) > most and not re.match(r" *((ghost |pub )?use |#!?\[|ensures . .pass_new : Bool)", line)]
         assert wide == []
 
 
@@ -135,15 +148,9 @@ class TestRepeatedFacts:
                     assert fits[-1], (picture.name, text.text)
         assert len(fits) > 100
 
-    def test_plain_english(self):
-        """scripts/plain_english.py --list shows the phrases. Two are left: one in a fixed message of the program, in
-        the manual page, and a place, the start of the next line, in key_lines."""
-        counts = subprocess.run([ROOT / "scripts/plain_english.py", ROOT], capture_output=True, text=True).stdout
-        assert int(re.search(r"(\d+) in all", counts)[1]) <= 2, counts
-
     def test_version(self, keywrap):
-        """VERSION is repeated by the program, one place in its sources, the header, the Rust crate, Debian's changelog
-        and the newest changes, and by nothing else."""
+        """VERSION is repeated by the program, one place in its sources, the header, the Rust crate, Java's pom,
+        Debian's changelog and the newest changes, and by nothing else."""
         version = text_of("VERSION").strip()
         number, dev = re.fullmatch(r"(\d+\.\d+\.\d+)(?:-(dev))?", version).groups("")
         sources, header = "crates/keywrap_args/src/subcommands.rt", text_of("c/include/keywrap.h")
@@ -154,6 +161,7 @@ class TestRepeatedFacts:
         newest, date = re.search(r"^## (\S+)(?: \((\d{4}-\d\d-\d\d)\))?$", text_of("CHANGELOG.md"), re.M).groups()
         assert newest == version and bool(date) == (not dev)
         assert re.search('^version = "(.*)"$', text_of("dist/Cargo.toml"), re.M)[1] == version
+        assert re.search("<version>(.*)</version>", text_of("java/pom.xml"))[1] == version
         changes = f"keywrap ({version.replace('-', '~')}) unstable; urgency=medium\n"
         assert text_of("packaging/debian/changelog").startswith(changes)
         search = ["grep", "-rlIF", "--exclude-dir=out", "--exclude-dir=debian", "-e", version]
@@ -169,7 +177,7 @@ class TestRepeatedFacts:
         assert len(text_of("docs/UPGRADING.md").split()) <= 300
         first = " ".join(page.split("\n\n")[1].split())
         assert re.search("^`keywrap` encrypts .* licence .* A version is a commit .* the kit of Rattle ", first)
-        for answer in ("Whether one is published is the owner's decision", "not a validated FIPS 140 module",
+        for answer in ("none is published yet", "not a validated FIPS 140 module",
                        "aarch64, tested under qemu only", "we know no outside review", "does not wipe its memory",
                        "is [measured](SECURITY.md), not proved"):
             assert answer in " ".join(page.split())
@@ -177,9 +185,9 @@ class TestRepeatedFacts:
     def test_times(self):
         """The time of the first build is the launcher's, and `make test` takes the same in both documents and in the
         help of make, which has the time of each goal that takes some."""
-        readme, gate = text_of("README.md"), text_of("docs/ARCHITECTURE.md").rpartition("## What the gate takes")[2]
+        readme, gate = text_of("README.md"), text_of("CONTRIBUTING.md").rpartition("## What the gate takes")[2]
         build, = re.findall("# first proves and builds the program: (.* minutes)", readme)
-        tests, = re.findall(r"make test +# (\d+) minutes", readme)
+        tests, = re.findall(r"make test +# (\d+) minutes on four processors: at least [0-9,]+ rows$", readme, re.M)
         assert f"program, {build} the first time" in text_of("keywrap")
         goals = text_of("Makefile")
         assert re.search(rf"^make build  .* \({build}\)$", goals, re.M)
@@ -194,7 +202,8 @@ class TestRepeatedFacts:
         assert used == named, (f"this kit has logic {used}: with it all proofs are made again, and may fail. Run `make "
                                f"proofs`. If it passes, write {used} into README instead of {named}")
         search = ["git", "-C", ROOT, "grep", "-lE", f"rattle-kit-[0-9]|{named}"]
-        assert subprocess.run(search, capture_output=True, text=True).stdout == "README.md\ndist/keywrap.c\n"
+        assert subprocess.run(search, capture_output=True, text=True).stdout == (
+            "README.md\ndist/command/program.c\ndist/keywrap.c\n")
 
     def test_calls_since_1_1(self):
         """The header, its page and the changes have the calls of keywrap.map's second version."""

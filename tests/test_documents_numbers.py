@@ -65,9 +65,20 @@ class TestMeasured:
         for library in ["keywrap", "software"], ["hardware", "AES inst."]:                # docs/DECISIONS.md: a fifth
             call = [float(row[5]) for row in measured("wrap") if row[:4] == [*library, "32", "wrap"]]
             assert 0.15 < (call[0] - min(call)) / call[0] < 0.25
-        provider = [(row[1], int(row[4]) / int(row[3])) for row in measured("provider")[1:]]
-        assert all(0.4 < ratio < 0.6 for call, ratio in provider if call == "wrap")
-        assert all(ratio < 0.5 for call, ratio in provider if call == "unwrap")
+
+    def test_times_of_the_provider(self):
+        """docs/OPENSSL.md compares them. The rows of 256 and 4,096 bytes take nearly the same time for a block call."""
+        rows = [(call, *map(int, numbers)) for _, call, *numbers in measured("provider")[1:]]
+        short, = re.findall(r"\(([\d.]+) of it for a key of 16 bytes\)", words_of("docs/OPENSSL.md"))
+        for call, length, theirs, ours in rows:
+            if (call, length) == ("wrap", 16):
+                assert f"{ours / theirs:.2f}" == short
+            else:
+                assert 0.4 < ours / theirs < (0.6 if call == "wrap" else 0.5), (call, length)
+        for call in "wrap", "unwrap":
+            few, many = ([time / (6 * length / 8) for time in times] for length in (256, 4096)
+                         for name, at, *times in rows if (name, at) == (call, length))
+            assert all(1 <= one / other < 1.1 for one, other in zip(few, many)), call
 
     def test_times_of_many_keys(self):
         """docs/C_LIBRARY.md has the times of docs/pictures/many.csv for a rewrap from plain to plain."""
@@ -78,18 +89,12 @@ class TestMeasured:
         assert text.format(*map(times.get, ways)) in words_of("docs/C_LIBRARY.md")
 
     def test_times_of_a_rotation(self):
-        """docs/RECIPES.md has the numbers of docs/pictures/stores.csv, with two digits, and the memory."""
-        def two_digits(number):
-            rounded = float(f"{float(number):.2g}")
-            return f"{rounded:,.0f}" if rounded >= 100 else f"{rounded:g}"
-
-        page = text_of("docs/RECIPES.md")
-        table = re.search(r"^\| \| jobs \| keys/s .*\n\|-.*\n((?:\|.*\n)+)", page, re.M)
-        due = [["lines" if store == "files" else store, jobs, two_digits(rate),
-                *(f"{two_digits(time)} µs" for time in (us, again)), f"{memory} MB",
-                f"{two_digits(wait)} ms" if wait else ""]
-               for store, jobs, rate, us, again, memory, wait in measured("stores")[1:]]
-        assert [[cell.strip() for cell in line.split("|")[1:-1]] for line in table[1].splitlines()] == due
+        """docs/ROTATION.md has the keys per second of docs/pictures/stores.csv for one and four processes, with two
+        digits."""
+        rows = {(row[0], row[1]): f"{float(f'{float(row[2]):.2g}'):,.0f}" for row in measured("stores")[1:]}
+        names = {"lines": "files", "SQLite": "SQLite", "PostgreSQL": "PostgreSQL"}
+        text = "; ".join(f"{name} {rows[store, '1']} and {rows[store, '4']}" for name, store in names.items())
+        assert f"{text}; files of one key {rows['files of one key', '1']}" in words_of("docs/ROTATION.md")
 
     def test_times_in_python_and_java(self):
         """Of a wrap of 32 bytes, in docs/pictures/python.csv and java.csv."""
@@ -158,10 +163,11 @@ class TestSources:
         assert sorted(listed) == sorted(path.name for path in ROOT.glob("crates/*") if (path / "src").is_dir())
 
     def test_ranges_of_a_table(self):
-        """docs/RECIPES.md has the rows of a range, in PostgreSQL and in SQLite."""
-        rows, = re.findall(r"^ROWS\b.* = (\d+)\b", text_of("python/src/keywrap/rotation/rows.py"), re.M)
-        of_sqlite, = re.findall(r"^ROWS = (\d+)", text_of("python/src/keywrap/rotation/databases.py"), re.M)
-        assert f"in ranges of {int(rows):,}, in SQLite of {int(of_sqlite):,}, each" in words_of("docs/RECIPES.md")
+        """docs/ROTATION.md has the rows of a step in SQLite and the blocks of a range in PostgreSQL; DECISIONS too."""
+        rows, = re.findall(r"^ROWS\b.* = (\d+),", text_of("python/src/keywrap/rotation/rows.py"), re.M)
+        blocks, = re.findall(r"^BLOCKS\b.* = (\d+),", text_of("python/src/keywrap/rotation/postgresql.py"), re.M)
+        assert f"in steps of {int(rows):,} rows" in words_of("docs/ROTATION.md")
+        assert f"in ranges of {blocks} blocks" in words_of("docs/ROTATION.md")
 
     def test_lengths_under_qemu(self):
         """SECURITY.md has the longest key with which tests/arm64.sh looks for branches on secrets."""

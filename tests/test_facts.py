@@ -4,6 +4,7 @@ writable data, and a program without a C library."""
 import collections
 import os
 import re
+import shlex
 
 import pytest
 
@@ -63,8 +64,8 @@ def facts(once, request):
     """facts("aarch64") is the library of the machine, by the name of its column in the page."""
     def portable_object(directory):
         portable = request.getfixturevalue("portable")
-        run("arm-linux-gnueabihf-gcc", "-mthumb", "-Os", "-ffunction-sections", "-fdata-sections", *SMALL, "-c",
-            portable / "keywrap.c", "-o", directory / "thumb.o")
+        flags = shlex.split(re.search("is built for Thumb-2 with `(.*?)`", " ".join(PAGE.split()))[1])
+        run("arm-linux-gnueabihf-gcc", *flags, "-c", portable / "keywrap.c", "-o", directory / "thumb.o")
 
     def find(machine):
         if machine == "x86-64":

@@ -1,4 +1,4 @@
-"""The Go module in dist/: its own tests, published cases over the library's AES and over Go's, on other machines and
+"""The Go module in dist/: its own tests, the rows of rows.txt over the library's AES and Go's, on other machines and
 with sanitizers, the lines of dist/GO.md without a network, go-jose's tests over its key wrap, and planted bugs."""
 
 import os
@@ -12,7 +12,7 @@ import pytest
 
 import published
 from builds import NAMES, ROOT, alone, run
-from program import slow
+from program import all_of, evidence, slow
 from tools import need
 
 pytestmark = pytest.mark.needs("go", "cc")
@@ -69,7 +69,20 @@ def test_module(module, env):
     vetted = subprocess.run(["go", "vet", "./..."], cwd=module, env=env, capture_output=True, text=True)
     assert (vetted.returncode, vetted.stdout, vetted.stderr) == (0, "", "")
     said = run("go", "test", "-v", "./...", cwd=module, env=env)
-    assert len(re.findall("^--- PASS: Test", said, re.M)) == 13 and len(re.findall("^--- PASS: Ex", said, re.M)) == 4
+    sources = "".join(path.read_text() for path in module.glob("*_test.go"))
+    names = re.findall(r"^func ((?:Test|Example)\w*)\(", sources, re.M)
+    assert sorted(re.findall(r"^--- PASS: (\w+)", said, re.M)) == sorted(names) and len(names) > 10
+
+
+@pytest.mark.parametrize("variables", [{"CGO_ENABLED": "0"}, {"GOOS": "darwin"}], ids=["without cgo", "for macOS"])
+def test_without_cgo(program, env, variables):
+    """A build without cgo says what is missing, as GO.md has it."""
+    reason, = re.findall("`undefined: (.*?)`", " ".join((DIST / "GO.md").read_text().split()))
+    directory = program()
+    (directory / "main.go").write_text(f'package main\n\nimport _ "{MODULE}"\n\nfunc main() {{}}\n')
+    ended = subprocess.run(["go", "build", "main.go"], cwd=directory, env={**env, **variables},
+                           capture_output=True, text=True)
+    assert ended.returncode != 0 and f"undefined: {reason}\n" in ended.stderr, ended
 
 
 @slow
@@ -80,40 +93,40 @@ def test_sanitizers(module, env, option, tool):
     run("go", "test", "-short", option, "./...", cwd=module, env=env)
 
 
-@slow
-@pytest.mark.parametrize("cipher", [[], ["cipher"]], ids=["library", "cipher"])
-def test_published(program, env, cipher):
-    directory = program("published.go")
-    run("go", "build", "-o", "published", "published.go", cwd=directory, env=env)
-    for cases in published.foreign(), published.nist_or_skip():
-        said = run(directory / "published", *cipher, input="".join(published.lines(cases)))
-        assert said == published.all_right(cases)
+def rows_run(command, module, env, *names):
+    """Runs tests/go/rows_test.go over these tables."""
+    for name in names:
+        (module / "table.txt").write_text(published.table(name))
+        said = run(*command, cwd=module, env={**env, "KEYWRAP_ROWS": f"{module.absolute()}/table.txt"})
+        published.all_right(said, published.table(name))
 
 
-@slow
-@pytest.mark.parametrize("name", MACHINES)
-def test_other_machine(module, program, env, name):
-    """The module's tests and published cases, as static programs."""
+@pytest.mark.parametrize("names", [["rows"], pytest.param(["more", "foreign", "nist"], marks=slow)],
+                         ids=["kept", "all"])
+def test_rows(module, env, names):
+    shutil.copy(PROGRAMS / "rows_test.go", module)
+    assert run("gofmt", "-l", ".", cwd=module, env=env) == ""
+    rows_run(["go", "test", "-run", "TestRows", "-v", "./..."], module, env, *names)
+
+
+@pytest.mark.parametrize("name", all_of(MACHINES, [], ["s390x"]))
+def test_other_machine(module, env, name):
+    """The module's tests and the rows, as a static program."""
     variables, runner = MACHINES[name]
     need(variables["CC"], runner)
     there = {**env, **variables, "CGO_ENABLED": "1"}
     static = ["-ldflags", "-linkmode external -extldflags -static"]
+    shutil.copy(PROGRAMS / "rows_test.go", module)
     run("go", "test", *static, "-c", "-o", "tests", ".", cwd=module, env=there)
-    assert run(runner, module / "tests", "-test.short").endswith("PASS\n")
-    directory = program("published.go")
-    run("go", "build", *static, "-o", "published", "published.go", cwd=directory, env=there)
-    for cases in published.foreign(), published.nist_or_skip()[::6]:
-        for cipher in [], ["cipher"]:
-            said = run(runner, directory / "published", *cipher, input="".join(published.lines(cases)))
-            assert said == published.all_right(cases)
+    rows_run([runner, "./tests", "-test.short", "-test.v"], module, env, "rows", "foreign")
 
 
 class TestReadme:
-    DIRECTORY, PACKED = (re.findall("^    ((?:go|make|export) .*)", part, re.M)
-                         for part in (DIST / "GO.md").read_text().partition("`make go`")[::2])
+    DIRECTORY, PACKED = (re.findall("^    ((?:go|make|export) .*)", part, re.M) for part in (
+        DIST / "GO.md").read_text().partition("## Use it")[2].partition("`make go`")[::2])
 
     def test_lines_are_found(self):
-        assert [len(self.DIRECTORY), len(self.PACKED)] == [4, 5]
+        assert [len(self.DIRECTORY), len(self.PACKED)] == [4, 4]
 
     @pytest.mark.needs("no network")
     @slow
@@ -137,11 +150,12 @@ class TestReadme:
 
 
 def test_packed_files(thing):
-    """The files of the repository's dist/, under the name and the version."""
+    """The files of the repository's dist/ but those of the program, under the name and the version."""
     with zipfile.ZipFile(thing("go") / MODULE / f"@v/{VERSION}.zip") as packed:
         found = {member: packed.read(member) for member in packed.namelist()}
     tracked = run("git", "-C", ROOT, "ls-files", "--cached", "--others", "--exclude-standard", "dist").split()
-    assert found == {name.replace("dist", f"{MODULE}@{VERSION}", 1): (ROOT / name).read_bytes() for name in tracked}
+    assert found == {name.replace("dist", f"{MODULE}@{VERSION}", 1): (ROOT / name).read_bytes() for name in tracked
+                     if not name.startswith("dist/command/")}
 
 
 @pytest.mark.needs("go-jose")
@@ -195,6 +209,8 @@ BUGS = {
     "blocks-of-any-size": ("steps.go", "block.BlockSize() != aes.BlockSize", "false"),
     "status-of-the-neighbour": ("many.go", "return s.statuses[i] !=", "return s.statuses[(i+1)%len(s.statuses)] !="),
     "refused-is-plain": ("many.go", "\t\tif !s.isRefused(i) {\n\t\t\tforms[i]", "\t\tif true {\n\t\t\tforms[i]"),
+    "padded-many-as-plain": ("many.go", "return UnwrapMany(kek, wrapped, OldPadded)",
+                             "return UnwrapMany(kek, wrapped, 0)"),
     "slot-not-cut": ("many.go", "int(s.lengths[i]) })", "len(wrapped[i]) - firstLen })"),
     "slot-of-the-plain-form": ("many.go", "if flags == NewPadded {", "if false {"),
     "slots-side-by-side": ("many.go", "from+lengthOf(i) : from+lengthOf(i)]", "from+lengthOf(i)]"),
@@ -224,15 +240,16 @@ def archive(once):
     return once("go-archive", build) / "libkeywrap.a"
 
 
-@slow
+@evidence
 @pytest.mark.parametrize("bug", BUGS)
 def test_bug_is_caught(module, env, archive, bug):
-    """By the module's own tests, which name a result."""
+    """By the rows or the module's own tests, which name a result."""
     name, old, new = BUGS[bug]
     code = (module / name).read_text()
     assert code.count(old) == 1
     (module / name).write_text(code.replace(old, new))
     (module / "keywrap.c").unlink()
-    ended = subprocess.run(["go", "test", "-short", "./..."], cwd=module, env={**env, "CGO_LDFLAGS": str(archive)},
-                           capture_output=True, text=True)
+    shutil.copy(PROGRAMS / "rows_test.go", module)
+    variables = {**env, "CGO_LDFLAGS": str(archive), "KEYWRAP_ROWS": str(ROOT / "tests/rows.txt")}
+    ended = subprocess.run(["go", "test", "-short", "./..."], cwd=module, env=variables, capture_output=True, text=True)
     assert ended.returncode == 1 and re.search(r"^ +\w+_test\.go:\d+: |^panic: |^got:", ended.stdout, re.M), ended

@@ -14,6 +14,7 @@ import published
 from builds import NAMES, ROOT, alone, run
 from hardware.bugs import plant
 from program import slow
+from tools import need
 
 pytestmark = pytest.mark.needs("javac", "jna.jar")
 
@@ -32,7 +33,8 @@ def compiled(directory, path, *sources):
 @pytest.fixture(scope="session")
 def classes(once):
     """The provider, the example and the programs, compiled without a warning."""
-    programs = [ROOT / "java/Example.java", *(PROGRAMS / f"{name}.java" for name in ("Checks", "Cleared", "Published"))]
+    programs = [ROOT / "java/Example.java",
+                *(PROGRAMS / f"{name}.java" for name in ("Checks", "Cleared", "Heap", "Rows"))]
     return once("java-classes", lambda directory: compiled(directory, [JNA], *SOURCES, *programs))
 
 
@@ -57,10 +59,9 @@ def test_compared(java, check):
     java("Checks", check)
 
 
-@pytest.mark.parametrize("cases", [published.nist_or_skip, published.foreign], ids=["nist", "foreign"])
-def test_published(java, cases):
-    found = cases()
-    assert java("Published", input="".join(published.lines(found))) == published.all_right(found)
+@pytest.mark.parametrize("name", ["rows", pytest.param("more", marks=slow), "foreign", "nist"])
+def test_rows(java, name):
+    published.all_right(java("Rows", input=published.table(name)), published.table(name))
 
 
 def test_version(java):
@@ -81,14 +82,12 @@ def test_self_test(java, tmp_path):
 
 def test_other_library(java, thing):
     """By its path, in the property keywrap.library."""
-    found = published.foreign()
-
     def called(path):
         env = {**os.environ, "JAVA_TOOL_OPTIONS": f"-Dkeywrap.library={path}"}
-        return java("Published", input="".join(published.lines(found)), env=env)
+        return java("Rows", input=published.table("rows"), env=env)
 
-    assert called(thing("hardware") / "lib/libkeywrap_hw.so.1") == published.all_right(found)
-    with pytest.raises(AssertionError, match="Unable to load library '/none.so'"):
+    published.all_right(called(thing("hardware") / "lib/libkeywrap_hw.so.1"), published.table("rows"))
+    with pytest.raises(AssertionError, match="cannot load /none.so"):
         called("/none.so")
 
 
@@ -97,17 +96,22 @@ def test_native_memory_is_cleared(java):
     assert java("Cleared", env={**os.environ, "MALLOC_ARENA_MAX": "1"}) == "\n"
 
 
+def test_heap_is_cleared(java):
+    """Also arrays that the cipher has replaced, and those of results that it has copied."""
+    env = {**os.environ, "JAVA_TOOL_OPTIONS": "-Xmn256m -XX:+UseSerialGC"}
+    assert java("Heap", os.path.abspath("heap.hprof"), env=env) == "0\n"
+
+
 @pytest.mark.needs("bcpkix.jar")
 def test_cms(java, classes):
     compiled(pathlib.Path("cms"), [classes, *BOUNCY_CASTLE], PROGRAMS / "Cms.java")
     java("Cms", path=[pathlib.Path("cms").absolute(), *BOUNCY_CASTLE])
 
 
-@pytest.mark.needs("no network")
-@slow
 class TestReadme:
-    BUILD, EXAMPLE, UNCHANGED = (re.findall(r"^    (.*)", (ROOT / "java/README.md").read_text(), re.M)[lines]
-                                 for lines in (slice(2), slice(2, 3), slice(3, None)))
+    """The lines of the page, over a copy of the directories that they name, without the kit and without a network."""
+    LINES = re.findall(r"^    (.*)", (ROOT / "java/README.md").read_text(), re.M)
+    BUILD, EXAMPLE, UNCHANGED = LINES[:3], LINES[3:4], LINES[4:]
     # It knows nothing of the provider.
     PROGRAM = """
 public class Program {
@@ -120,27 +124,55 @@ public class Program {
 
     @pytest.fixture
     def tried(self):
-        """Runs lines after those that build the provider."""
+        """Runs lines after those that build the library and the provider."""
+        need("no network", "cc")
         pathlib.Path("Program.java").write_text(self.PROGRAM)
         run("javac", "Program.java")
         said = subprocess.run(["java", "-XshowSettings:properties", "-version"], capture_output=True, text=True).stderr
         home = re.search(r"java\.home = (.*)", said)[1]
+        for name in "dist", "java":
+            shutil.copytree(ROOT / name, name, ignore=shutil.ignore_patterns("*.o", "*.a", "*.so.1", "target"))
 
-        def call(lines, library):
-            return subprocess.run(alone(self.BUILD + lines, JAVA=ROOT / "java", LIB=library, JAVA_HOME=home),
-                                  capture_output=True, text=True)
+        def call(lines):
+            return subprocess.run(alone(self.BUILD + lines, JAVA_HOME=home), capture_output=True, text=True)
 
         return call
 
-    def test_lines(self, tried, library):
-        ended = tried(self.EXAMPLE + self.UNCHANGED, library)
-        assert ended.stdout.splitlines() == ["true", "Keywrap b595a1c0afbe7a89ce43807cb3b2ba5737ff5d71d0a35cd7",
-                                             "Keywrap", "Keywrap", "SunJCE"], ended
-        with zipfile.ZipFile("keywrap.jar") as jar:
+    def test_lines(self, tried):
+        ended = tried(self.EXAMPLE + self.UNCHANGED)
+        assert ended.stdout.splitlines()[-5:] == ["true", "Keywrap b595a1c0afbe7a89ce43807cb3b2ba5737ff5d71d0a35cd7",
+                                                  "Keywrap", "Keywrap", "SunJCE"], ended
+        with zipfile.ZipFile("out/keywrap.jar") as jar:
             assert b"Implementation-Title: keywrap" in jar.read("META-INF/MANIFEST.MF")
             assert jar.read("META-INF/services/java.security.Provider") == b"keywrap.KeywrapProvider\n"
 
+    @slow
     def test_without_the_library(self, tried):
-        """The example fails with the reason. The program takes the JDK's ciphers."""
-        assert "Unable to load library 'keywrap'" in tried(self.EXAMPLE, "/none").stderr
-        assert tried(self.UNCHANGED, "/none").stdout.splitlines() == ["SunJCE"] * 3
+        """The example fails with the file that was looked for. The program takes the JDK's ciphers."""
+        gone = ["rm dist/libkeywrap.so.1"]
+        reason = "cannot load libkeywrap.so.1 from -Djna.library.path=dist, nor from the system's directories"
+        assert reason in tried(gone + self.EXAMPLE).stderr
+        assert tried(gone + self.UNCHANGED).stdout.splitlines()[-3:] == ["SunJCE"] * 3
+
+
+@slow
+@pytest.mark.needs("mvn", "mvn, compiler", "mvn, jar", "no network")
+def test_maven():
+    """The pom builds the jar, with the same manifest and services, over Debian's packages in the place of Maven's
+    repository."""
+    shutil.copytree(ROOT / "java", "java")
+    mirror = "<id>debian</id><mirrorOf>*</mirrorOf><url>file:///usr/share/maven-repo</url>"
+    pathlib.Path("settings.xml").write_text(f"<settings><mirrors><mirror>{mirror}</mirror></mirrors></settings>")
+    run(*alone(["mvn -q -B -s settings.xml -f java/pom.xml package"], HOME=os.getcwd()))
+    with zipfile.ZipFile(f"out/maven/keywrap-{NAMES['VERSION']}.jar") as jar:
+        names = {name for name in jar.namelist() if not name.endswith("/") and "/maven/" not in name}
+        assert {name for name in names if "$" not in name} == {
+            "META-INF/MANIFEST.MF", "META-INF/services/java.security.Provider",
+            *(f"keywrap/{path.stem}.class" for path in SOURCES)}
+        assert f"Implementation-Version: {NAMES['VERSION']}" in jar.read("META-INF/MANIFEST.MF").decode()
+
+
+def test_pom():
+    """It has neither a licence nor an address."""
+    pom = (ROOT / "java/pom.xml").read_text()
+    assert not re.search("<(licenses|url|email|organization|scm|issueManagement)>", pom)

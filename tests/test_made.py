@@ -14,7 +14,8 @@ from builds import ROOT
 def tree(tmp_path):
     tree = shutil.copytree(ROOT, tmp_path / "tree", ignore=shutil.ignore_patterns(
         "out", ".git", "tests", "proofs", "must-fail"))
-    shutil.copytree(ROOT / "tests/library/1.0.0", tree / "tests/library/1.0.0")
+    for version in "1.0.0", "1.1.0":
+        shutil.copytree(ROOT / f"tests/library/{version}", tree / f"tests/library/{version}")
     return tree
 
 
@@ -82,7 +83,7 @@ def test_call(tree):
     header = tree / "c/include/keywrap.h"
     replace(header, "int32_t keywrap_kind(", "int32_t keywrap_new(void);\nint32_t keywrap_kind(")
     assert written(tree) == {"c/include/keywrap.map"}
-    assert "keywrap_new;" in (tree / "c/include/keywrap.map").read_text().partition("KEYWRAP_1.1 {")[2]
+    assert "keywrap_new;" in (tree / "c/include/keywrap.map").read_text().partition("KEYWRAP_1.2 {")[2]
     with open(tree / "c/hardware/keywrap.c", "a") as file:
         file.write("int32_t keywrap_new(void) { return 0; }\n")
     assert written(tree) == {"c/hardware/names"}
@@ -133,6 +134,15 @@ def test_option(tree):
     replace(tree / "command/man/keywrap.1", ".It Fl -keep-going\n", ".It Fl -go-on\n")
     completions = {f"command/completions/{name}" for name in ("keywrap.bash", "_keywrap", "keywrap.fish")}
     assert written(tree) == completions | {"command/man/keywrap.1"}
+
+
+@pytest.mark.parametrize("option", ["base64", "raw"])
+def test_an_option_without_its_item(tree, option):
+    """The item of an option with a longer name does not count."""
+    page = tree / "command/man/keywrap.1"
+    replace(page, f".It Fl -{option}\n", ".It Fl -none\n")
+    ended = subprocess.run([tree / "scripts/facts.py"], capture_output=True, text=True)
+    assert (ended.returncode, ended.stdout) == (1, f"command/man/keywrap.1: lacks the option --{option}\n")
 
 
 def test_an_option_that_is_not_found(tree):

@@ -1,7 +1,8 @@
-"""The C of dist/: what it is made of, the checks of tests/library and published cases by each compiler and machine,
+"""The C of dist/: what it is made of, rows.txt and published cases by each compiler and machine,
 random calls beside the library, what the object needs, and planted bugs."""
 
 import functools
+import json
 import os
 import pathlib
 import re
@@ -19,7 +20,7 @@ from tools import need
 
 ROOT = pathlib.Path(__file__).resolve().parent.parent
 DIST = ROOT / "dist"
-LIBRARY = [*sorted(map(str, (ROOT / "tests/library").glob("*.c"))), f"{ROOT}/c/reference/one_table.c"]
+ROWS = [ROOT / "tests/rows.c"]
 STRICT = ["-std=c99", "-Wall", "-Wextra", "-pedantic", "-Werror"]
 OWN = ROOT / "tests/portable"
 SANITIZED = ["-fsanitize=address,undefined", "-fno-sanitize-recover=all"]
@@ -38,6 +39,8 @@ MACHINES = {
     "s390x": (["s390x-linux-gnu-gcc", "-static"], ["qemu-s390x"]),
 }
 NATIVE = ["gcc", "clang"]
+# Of these the gate runs the native ones and one that is big-endian.
+IN_GATE = [*NATIVE, "gcc, tables", "s390x"]
 
 
 @pytest.fixture
@@ -81,7 +84,8 @@ def test_is_what_the_tree_makes(built):
     made_here()
     run(sys.executable, ROOT / "scripts/portable.py", built("keywrap.wasm"), "made")
     tracked = [name for name in run("git", "-C", ROOT, "ls-files", "dist").split()
-               if not re.fullmatch(r"dist/(RUST\.md|Cargo\.toml|.*\.rs|GO\.md|go\.mod|\w+\.go)", name)]
+               if not re.fullmatch(r"dist/((command|check/all_inputs)/.*|RUST\.md|Cargo\.toml|.*\.rs|GO\.md|go\.mod|"
+                                   r"\w+\.go)", name)]
     assert sorted(tracked) == sorted(f"dist/{path.relative_to('made')}"
                                      for path in pathlib.Path("made").rglob("*") if path.is_file())
     for name in tracked:
@@ -99,19 +103,18 @@ def test_compiles_without_a_warning(portable, compiler, only, options):
     run(compiler, *STRICT, *options.split(), *only.split(), "-c", portable / "keywrap.c", "-o", "keywrap.o")
 
 
-@pytest.mark.parametrize("name", all_of(MACHINES, ["gcc", "gcc, tables"]))
-def test_calls(portable_program, name):
-    """The checks of tests/library."""
-    few = ["few"] if name not in NATIVE or not ALL else []
-    last = run(*portable_program(name, LIBRARY, "-O2"), *few).splitlines()[-1]
-    assert re.fullmatch(r"\d{6,} passed, 0 failed", last)
+@pytest.mark.parametrize("name", all_of(MACHINES, ["gcc", "gcc, tables", "s390x"], IN_GATE))
+def test_rows(portable_program, name):
+    """All rows natively, and under an emulator those that are kept; with the published cases."""
+    program = portable_program(name, ROWS, "-O2")
+    for table in ("rows", "foreign", *(("more", "nist") if ALL or name == "gcc" else ())):
+        text = published.table(table)
+        assert published.all_right(run(*program, input=text), text) == {}
 
 
-@pytest.mark.parametrize("name", all_of(MACHINES, ["s390x"]))
-def test_published(portable_program, name):
-    program = portable_program(name, [ROOT / "tests/published.c"], "-O2")
-    for cases in published.foreign(), published.nist_or_skip()[::1 if ALL or name == "gcc" else 6]:
-        assert run(*program, input="".join(published.lines(cases))) == published.all_right(cases)
+@pytest.mark.parametrize("name", all_of(MACHINES, ["gcc"], IN_GATE))
+def test_own(portable_program, name):
+    assert run(*portable_program(name, [ROOT / "tests/library/own.c"], "-O2")).endswith(" passed, 0 failed\n")
 
 
 def random_calls(directory, library, name, *options):
@@ -141,18 +144,19 @@ def test_as_the_library(portable, library, name):
 @pytest.mark.parametrize("name", NATIVE)
 def test_sanitizers(portable_program, name):
     need(f"sanitizers of {name}")
-    assert run(*portable_program(name, LIBRARY, "-O2", "-g", *SANITIZED), "few").endswith(" 0 failed\n")
+    for table in "rows", "more":
+        text = published.table(table)
+        assert published.all_right(run(*portable_program(name, ROWS, "-O2", "-g", *SANITIZED), input=text), text) == {}
 
 
 @slow
 def test_valgrind(portable_program):
     need("valgrind")
-    program = portable_program("gcc", [ROOT / "tests/published.c"], "-O1", "-g")
-    some = "".join(published.lines(published.foreign()))
-    run("valgrind", "-q", "--error-exitcode=9", "--leak-check=full", *program, input=some)
+    program = portable_program("gcc", ROWS, "-O1", "-g")
+    run("valgrind", "-q", "--error-exitcode=9", "--leak-check=full", *program, input=published.table("rows"))
 
 
-@pytest.mark.parametrize("name", all_of(MACHINES, ["gcc"]))
+@pytest.mark.parametrize("name", all_of(MACHINES, ["gcc"], IN_GATE))
 def test_lengths(portable_program, name):
     assert run(*portable_program(name, [OWN / "lengths.c"], "-O2")) == "all are right\n"
 
@@ -184,7 +188,7 @@ def test_stack(portable, portable_program, name, level):
 
 
 @pytest.mark.parametrize("only", ["", "-DKEYWRAP_STEPS_ONLY"])
-@pytest.mark.parametrize("name", all_of(MACHINES, ["gcc"]))
+@pytest.mark.parametrize("name", all_of(MACHINES, ["gcc"], IN_GATE))
 def test_object(portable, name, only):
     """What the object needs, that it shows the calls of the headers only, and what of its data can be written."""
     compiler, _ = MACHINES[name]
@@ -229,18 +233,113 @@ def test_numbers_in_documents(portable):
     assert f"wasm2c, the C compiler, {int(lines):,} lines of C around the module" in trust
 
 
-def test_makefile(portable):
+RIGHT = "8 vectors and the self test: right"
+
+
+@pytest.fixture
+def copied(portable):
+    """A copy of dist/."""
+    ignored = shutil.ignore_patterns("*.o", "*.a", "*.so.1", "vectors", "keywrap", "keywrap.built_from")
+    return pathlib.Path(shutil.copytree(portable, "copy", ignore=ignored))
+
+
+def test_makefile(copied):
+    """The check says what it ran, the shared object has its name, and `make clean` leaves what was there."""
     need("cc")
-    directory = shutil.copytree(portable, "copy", ignore=shutil.ignore_patterns("*.o", "*.a", "vectors"))
-    before = sorted(directory_files(directory))
-    run("make", "-C", directory, "check")
-    assert "alloc" not in run("nm", "-u", f"{directory}/keywrap.o")
-    run("make", "-C", directory, "clean")
-    assert sorted(directory_files(directory)) == before
+    before = sorted(directory_files(copied))
+    assert run("make", "-C", copied, "check").splitlines()[-2] == RIGHT
+    assert "alloc" not in run("nm", "-u", f"{copied}/keywrap.o")
+    run("make", "-C", copied, "shared")
+    assert "[libkeywrap.so.1]" in run("readelf", "-d", f"{copied}/libkeywrap.so.1")
+    run("make", "-C", copied, "clean")
+    assert sorted(directory_files(copied)) == before
+
+
+def test_makefile_for_another_machine(copied):
+    """The line of README, after a build for this one."""
+    need("cc", "s390x-linux-gnu-gcc", "qemu-s390x")
+    line, = re.findall(r"^    \$ (make .*RUN=.*)", (copied / "README").read_text(), re.M)
+    run("make", "-C", copied)
+    assert RIGHT in run("bash", "-ec", line, cwd=copied)
+
+
+def test_check_names_what_is_wrong(copied):
+    need("cc")
+    plant(OWN / "bugs/rotation-to-the-other-side.edit", copied)
+    ended = subprocess.run(["make", "-C", copied, "check", "CPPFLAGS=" + TABLES], capture_output=True, text=True)
+    assert ended.returncode == 2 and "\nvector 1 of 8: wrong\n" in ended.stdout, ended
+
+
+@pytest.mark.parametrize("wrong, line", [(1, "vector 1 of 8"), (2, "vector 7 of 8"), (3, "vector 7 of 8"),
+                                         (4, "vector 1 of 8"), (5, "vector 7 of 8")])
+def test_check_of_a_wrong_unwrap(portable_program, wrong, line):
+    """A wrong key, a wrong length, and a damaged wrapped key that is accepted are found in both forms."""
+    program = portable_program("gcc", [OWN / "wrong_vectors.c"], f"-I{DIST}")
+    ended = subprocess.run(program, capture_output=True, text=True, env={**os.environ, "WRONG": str(wrong)})
+    assert (ended.returncode, ended.stdout) == (int(line.split()[1]), f"{line}: wrong\n"), ended
 
 
 def directory_files(directory):
     return [str(path.relative_to(directory)) for path in pathlib.Path(directory).rglob("*")]
+
+
+@pytest.fixture
+def example(portable):
+    """Puts the program of README, by the name that it has there, into a directory; the lines that build it by make; the
+    lines for CMake; its output."""
+    page = (portable / "README").read_text()
+    program, = re.findall(r"^    #include <keywrap.h>\n(?:    .*\n|\n)*?    }\n", page, re.M)
+    line, output = re.search(r"^    \$ (make && .*)\n    ([0-9a-f]+)$", page, re.M).groups()
+    cmake = re.search(r"^    add_subdirectory.*\n(?:    .*\n)*", page, re.M)[0]
+
+    def put(directory):
+        pathlib.Path(directory, "wrap.c").write_text(program)
+        return line, "cmake_minimum_required(VERSION 3.13)\nproject(program C)\n" + cmake, output + "\n"
+
+    return put
+
+
+def test_program_of_readme(copied, example):
+    """It prints what it shows, and compiles without a warning."""
+    need("cc")
+    line, _, output = example(copied)
+    assert run("bash", "-ec", line, cwd=copied).endswith(output)
+    run("cc", *STRICT, "-fsyntax-only", "-I.", "wrap.c", cwd=copied)
+
+
+@pytest.mark.parametrize("way", ["add_subdirectory", "find_package"])
+def test_cmake_of_a_program(copied, example, way):
+    """The lines of README, with the directory in the program's, and with what `cmake --install` put elsewhere. The
+    program's build has neither the vectors nor their test."""
+    need("cmake", "cc")
+    os.mkdir("program")
+    _, lines, output = example("program")
+    if way == "find_package":
+        run("cmake", "-S", copied, "-B", "built", "-DBUILD_TESTING=OFF", f"-DCMAKE_INSTALL_PREFIX={os.getcwd()}/there")
+        run("cmake", "--build", "built")
+        run("cmake", "--install", "built")
+        shutil.rmtree(copied)
+        lines = re.sub(r"add_subdirectory\(keywrap\) +#.*: (.*)", r"\1", lines).replace("(keywrap R", "(keywrap 1.1 R")
+    else:
+        shutil.move(copied, "program/keywrap")
+    assert re.match(rf" *{way}\(keywrap\b", lines.splitlines()[2])
+    pathlib.Path("program/CMakeLists.txt").write_text(lines)
+    run("cmake", "-S", "program", "-B", "out", f"-DCMAKE_PREFIX_PATH={os.getcwd()}/there")
+    run("cmake", "--build", "out")
+    assert run("out/wrap") == output
+    assert "vectors" not in " ".join(directory_files("out")) + run("ctest", "--test-dir", "out", "-N")
+
+
+@pytest.mark.parametrize("given, found", [
+    ([], ["-O2"]), (["-DCMAKE_BUILD_TYPE=Release"], ["-O3"]), (["-DCMAKE_BUILD_TYPE=Debug"], []),
+    (["-DCMAKE_C_FLAGS=-O1"], ["-O1"])])
+def test_cmake_optimizes(portable, given, found):
+    """Also if no build type is given, where CMake does not."""
+    need("cmake", "cc")
+    run("cmake", "-S", portable, "-B", "built", "-DCMAKE_EXPORT_COMPILE_COMMANDS=ON", *given)
+    command, = (row["command"] for row in json.loads(pathlib.Path("built/compile_commands.json").read_text())
+                if row["file"].endswith("keywrap.c"))
+    assert re.findall(r"-O\S*", command) == found
 
 
 def test_cmake(portable):
@@ -292,41 +391,10 @@ def test_sdist(compiler):
     assert re.search(r"^\d{3,} passed", said, re.M) and "skipped" not in said
 
 
-@slow
-def test_from_a_clone_without_the_kit():
-    """README's lines without the kit work from a clone, in an empty environment and without a network: the check of
-    dist/, CMake, and the packages for pip and npm, which are installed and used."""
-    need("cmake", "npm", "cc", *[f"import {module}" for module in ("cffi", "ensurepip", "setuptools", "wheel")])
-    line, = re.findall(r"\*\*Without the kit\*\*: (.*?)(?=^- )", (ROOT / "README.md").read_text(), re.M | re.S)
-    check, js, sdist = re.findall("`(make [^`]*)`", line)
-    run("git", "clone", "-q", ROOT, "clone")
-    path = ":".join([os.path.dirname(sys.executable), "/usr/bin", "/bin"])
-    assert not shutil.which("rt", path=path)
-    pathlib.Path("use.py").write_text(
-        "import keywrap\nkek, key = bytes(16), bytes(range(16))\n"
-        "print('Python', keywrap.unwrap(kek, keywrap.wrap(kek, key)).hex())\n")
-    pathlib.Path("use.mjs").write_text(
-        "import { load } from 'keywrap';\nconst k = await load(), kek = new Uint8Array(16);\n"
-        "const key = Uint8Array.from({ length: 16 }, (_, i) => i);\n"
-        "console.log('JavaScript', Buffer.from(k.unwrap(kek, k.wrap(kek, key))).toString('hex'));\n")
-    said = run("unshare", "-rn", "env", "-i", f"PATH={path}", f"HOME={os.getcwd()}", "bash", "-ec", f"""
-        cd clone
-        {check}
-        cmake -S dist -B ../cmake && cmake --build ../cmake
-        {sdist}
-        python3 -m venv --system-site-packages ../env
-        ../env/bin/python3 -m pip install -q --no-index --no-build-isolation out/keywrap-*.tar.gz
-        {js}
-        npm pack --silent --offline ./out/js
-        cd ..
-        env/bin/python3 use.py
-        npm install --silent --offline ./clone/keywrap-*.tgz
-        node use.mjs""")
-    key = "000102030405060708090a0b0c0d0e0f\n"
-    assert f"Python {key}" in said and f"JavaScript {key}" in said
+BUGS = [path.stem for path in sorted(OWN.glob("bugs/*.edit"))]
 
 
-@pytest.mark.parametrize("bug", all_of([path.stem for path in sorted(OWN.glob("bugs/*.edit"))], ["numbers-exchanged"]))
+@pytest.mark.parametrize("bug", all_of(BUGS, ["numbers-exchanged"], []))
 def test_bug_is_caught(portable, portable_program, library, tmp_path, bug):
     """By random calls, with AES instructions or without, by the longest lengths, or by what is left on the stack."""
     need("sanitizers of gcc")

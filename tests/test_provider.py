@@ -11,6 +11,7 @@ import pytest
 
 import published
 from builds import NAMES, ROOT, run
+from program import all_of
 from test_python import WITH_SSE41, WITHOUT_SSE41
 from tools import need
 from vectors import KEK32, KEY16, WRAPPED32, raw
@@ -79,6 +80,18 @@ def modules(thing):
     return thing("provider") / "modules"
 
 
+@pytest.fixture(scope="session")
+def over_portable_c(once):
+    """The directory with the module that the page's line builds, over a copy of the directories that it names."""
+    def build(directory):
+        for name in "dist", "c/provider":
+            shutil.copytree(ROOT / name, directory / name, ignore=shutil.ignore_patterns("target"))
+        line, = re.findall(r"^    (cc .*\\\n.*)", PAGE, re.M)
+        run("bash", "-ec", line, cwd=directory)
+
+    return once("provider-over-portable-c", build)
+
+
 @pytest.mark.parametrize("compiler", ["gcc", "clang"])
 def test_no_warning(compiler):
     need(compiler)
@@ -96,12 +109,18 @@ class TestCompared:
         else:
             run(compiled_programs / "direct", modules / "keywrap.so")
 
-    @pytest.mark.parametrize("cases", [published.foreign, published.nist_or_skip])
-    def test_published(self, compiled_programs, modules, cases):
-        """A call of EVP with no bytes does nothing."""
-        cases = [case for case in cases() if case.given]
-        said = run(compiled_programs / "compared", modules, "vectors", input="".join(published.lines(cases)))
-        assert f"{len(cases)} cases" in said and len(cases) > 600
+    @pytest.mark.parametrize("name", ["rows", "foreign", "nist"])
+    def test_table(self, compiled_programs, modules, name):
+        """The lines of calls that EVP has, with KEKs that it takes. A call of EVP with no bytes does nothing."""
+        form = r"^(?:un)?wrap(?:_padded)? \d kek=(?:[0-9a-f]{16}){2,4} given=[0-9a-f]+(?: out=[0-9a-f]+)?\n"
+        lines = re.findall(form, published.table(name), re.M)
+        said = run(compiled_programs / "compared", modules, "vectors", input="".join(lines))
+        assert f"{len(lines)} cases" in said and len(lines) > 100
+
+    @pytest.mark.parametrize("args", all_of(["", "lengths", "sequences 10000", "parameters", "refusals"], ["lengths"]))
+    def test_over_portable_c(self, compiled_programs, over_portable_c, args):
+        program = ["compared", over_portable_c, *args.split()] if args else ["direct", over_portable_c / "keywrap.so"]
+        run(compiled_programs / program[0], *program[1:])
 
     @pytest.mark.needs("sanitizers of cc")
     @pytest.mark.parametrize("args", ["", "sequences 2000", "parameters", "refusals"])
@@ -169,6 +188,12 @@ class TestOpenssl:
 
     def test_listed(self, ours):
         assert f"version: {NAMES['VERSION']}" in run("openssl", "list", "-providers", env=ours)
+
+    def test_listed_by_the_page(self, over_portable_c):
+        """The lines that build it without the kit end with it in the list."""
+        line, = re.findall(r"^    (openssl list .*)", PAGE, re.M)
+        said = run("bash", "-ec", line, cwd=over_portable_c)
+        assert "keywrap: AES Key Wrap, proved" in said and f"version: {NAMES['VERSION']}" in said
 
     def test_descriptions(self, modules):
         """OpenSSL lists six ciphers, with these descriptions."""

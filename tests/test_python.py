@@ -11,12 +11,14 @@ import textwrap
 import pytest
 
 import published
-from builds import NAMES, ROOT, run
+from builds import NAMES, ROOT, alone, run
 from program import SLOW, all_of, slow
 from tools import need
 from vectors import WRAPPED32
 
 TESTS = ROOT / "python/tests"
+# The lines of the page: an environment, the package over portable C, its use, and the wheel.
+LINES = re.findall(r"^    ((?:python3 -m venv|env/bin/).*)", (ROOT / "python/README.md").read_text(), re.M)
 # A processor that lacks what the library needs, and one that has only that.
 WITHOUT_SSE41 = ["qemu-x86_64", "-cpu", "qemu64,-ssse3,-sse4.1,-sse4.2,-popcnt"]
 WITH_SSE41 = ["qemu-x86_64", "-cpu", "qemu64,+ssse3,+sse4.1,-sse4.2,-popcnt"]
@@ -71,13 +73,27 @@ def installed(once, dist, python):
         shutil.copy(wheel, directory)
         (directory / "first").mkdir()
         (directory / "first/python3").symlink_to(python)
-        lines = re.findall(r"^    ((?:python3 -m venv|env/bin/).*)", (ROOT / "python/README.md").read_text(), re.M)
-        assert len(lines) == 3
-        said = run("bash", "-ec", "\n".join(lines), cwd=directory, env={
+        environment, _, example, of_wheel = LINES
+        said = run("bash", "-ec", "\n".join([environment, of_wheel, example]), cwd=directory, env={
             **os.environ, "PATH": f"{directory}/first:{os.environ['PATH']}", "PIP_NO_INDEX": "1"})
         assert said.splitlines()[-1] == "b595a1c0afbe7a89ce43807cb3b2ba5737ff5d71d0a35cd7"
 
     return once("python-installed", build) / "env/bin/python3"
+
+
+@slow
+@pytest.mark.needs("no network", "git", "cc", "import cffi", "import ensurepip", "import setuptools", "import wheel")
+@pytest.mark.parametrize("address", ["./python", "git+file://$PWD#subdirectory=python"])
+def test_from_a_clone(address):
+    """pip installs the package over portable C, without the kit and without a network, from the directory or by its
+    address; help() names the modules. What it leaves in the sources is ignored."""
+    run("git", "clone", "-q", ROOT, "clone")
+    lines = [line.replace("./python", f'"{address}"') for line in LINES[:3]]
+    more = "env/bin/python3 -c 'import keywrap; help(keywrap)'", "git status --short"
+    said = run(*alone([*lines, *more], HOME=os.getcwd()), cwd="clone")
+    assert "b595a1c0afbe7a89ce43807cb3b2ba5737ff5d71d0a35cd7\n" in said
+    assert all(f"keywrap.{name}" in said for name in ("steps", "pyca", "rotate", "vectors"))
+    assert said.endswith("?? env/\n") and said.count("??") == 1
 
 
 def test_version(installed):
@@ -106,19 +122,23 @@ def own_tests(installed, keywrap, record_property):
     """Runs tests in the environment. What they skip is counted as skipped here."""
     def call(*args, cwd=None, **env):
         path = f"{installed.parent}:{os.environ['PATH']}"
-        said = run(installed, "-B", "-m", "pytest", "-q", "-rs", "-p", "no:cacheprovider", *args, cwd=cwd,
-                   env={**os.environ, "PATH": path, "KEYWRAP": keywrap.path, **env})
-        for count, reason in re.findall(r"^SKIPPED \[(\d+)\] \S+ (.*)$", said, re.M):
+        ended = subprocess.run([installed, "-B", "-m", "pytest", "-q", "-rs", "-p", "no:cacheprovider", *args], cwd=cwd,
+                               env={**os.environ, "PATH": path, "KEYWRAP": str(keywrap.path), **env},
+                               capture_output=True, text=True)
+        skipped = re.findall(r"^SKIPPED \[(\d+)\] \S+ (.*)$", ended.stdout, re.M)
+        # pytest's status is 5 if all tests of a file were skipped while it was read.
+        assert ended.returncode == 0 or ended.returncode == 5 and skipped, ended.stdout + ended.stderr
+        for count, reason in skipped:
             for _ in range(int(count)):
                 record_property("skipped", SLOW if reason == SLOW else reason)
-        assert re.search(r"^\d+ (passed|skipped|deselected)", said, re.M), said
+        assert re.search(r"^\d+ (passed|skipped|deselected)", ended.stdout, re.M), ended.stdout
 
     return call
 
 
 FILES = sorted(str(path.relative_to(TESTS)) for path in TESTS.rglob("test_*.py"))
 # These start servers, make a run for each row, or kill runs.
-LONG = {f"rotation/test_rotation_{name}.py" for name in "command dask kills objects postgresql recipes".split()}
+LONG = {f"rotation/test_rotation_{name}.py" for name in "command dask faults kills objects postgresql recipes".split()}
 
 
 @pytest.mark.parametrize("file", all_of(FILES, {*FILES} - LONG))
@@ -168,31 +188,18 @@ def test_foreign_vectors(installed):
     assert counts == [(name, "0") for name in names if not name.endswith(".expected")]
 
 
-# Makes the calls of published.py's lines by keywrap.steps, with AES-ECB by pyca.
-BY_STEPS = """
-import sys
-from cryptography.hazmat.primitives.ciphers import Cipher, algorithms, modes
-from keywrap import BadLength, IntegrityFailed, steps
-right = refused = 0
-for call, kek, given, due in map(str.split, sys.stdin):
-    ecb = Cipher(algorithms.AES(bytes.fromhex(kek)), modes.ECB())
-    aes = (ecb.decryptor() if call.startswith("un") else ecb.encryptor()).update
-    try:
-        right += getattr(steps, call)(aes, bytes.fromhex(given if given != "0" else "")).hex() == due
-    except (BadLength, IntegrityFailed) as error:
-        refused += due == ("-length" if isinstance(error, BadLength) else "-integrity")
-print(right + refused, "right,", refused, "refused")
-"""
+@pytest.mark.parametrize("name", ["rows", pytest.param("more", marks=slow), "foreign", "nist"])
+def test_rows(installed, name):
+    text = published.table(name)
+    published.all_right(run(installed, ROOT / "tests/rows_python.py", input=text), text)
 
 
 @pytest.mark.needs("import cryptography")
 class TestSteps:
-    @pytest.mark.parametrize("cases", [published.foreign, pytest.param(published.nist_or_skip, marks=slow)],
-                             ids=["foreign", "nist"])
-    def test_published(self, installed, cases):
-        found = cases()
-        said = run(installed, "-c", BY_STEPS, input="".join(published.lines(found)))
-        assert said == published.all_right(found)
+    @pytest.mark.parametrize("name", ["rows", "foreign", pytest.param("nist", marks=slow)])
+    def test_rows(self, installed, name):
+        text = published.table(name)
+        published.all_right(run(installed, ROOT / "tests/rows_python.py", "steps", input=text), text)
 
     @pytest.mark.needs("import PyKCS11", "softhsm2-util")
     def test_token(self, installed):

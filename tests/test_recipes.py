@@ -61,8 +61,9 @@ def test_names_of_recipes():
     assert PARTS.keys() <= SECTIONS.keys()
 
 
-def test_readme(keywrap, files):
-    """README's lines before its first section, in one directory."""
+def test_readme(keywrap, files, in_c):
+    """README's lines before its first section, in one directory. The program in C is compiled already."""
     typed, shown = typed_and_shown((ROOT / "README.md").read_text().split("\n## ")[0])
     assert typed
-    assert follow(keywrap, files, typed.replace("./keywrap", "keywrap")) == shown
+    script = f"cp -a '{in_c.parent}' dist\n" + typed.replace("./keywrap", "keywrap")
+    assert follow(keywrap, files, script) == shown

@@ -1,6 +1,8 @@
-"""The RPM packages: they have what make install installs, each file once, and the program in them runs."""
+"""The RPM packages: they have what make install, the wheel and the provider have, each file once, and the program in
+them runs."""
 
 import os
+import pathlib
 import re
 
 import pytest
@@ -17,15 +19,22 @@ def test_packages(built, pytestconfig, tmp_path):
     run("rpmbuild", "-bb", "--build-in-place", *options, "packaging/keywrap.spec", cwd=tree,
         env={**os.environ, "PATH": path})
     packages = {re.match(r"(.*?)-\d", file.name)[1]: file for file in tmp_path.glob("rpm/RPMS/*/*.rpm")}
-    assert packages.keys() == {"keywrap", "libkeywrap", "libkeywrap-devel"}
-    files = [name for file in packages.values() for name in run("rpm", "-qlp", file).splitlines()]
-    directories = ["/usr/share/doc/keywrap", "/usr/lib64/cmake/keywrap"]
-    assert {*directories} < {*files} and len(files) == len({*files})
+    assert packages.keys() == {"keywrap", "libkeywrap", "libkeywrap-devel", "python3-keywrap",
+                               "keywrap-openssl-provider"}
+    listed = {name: run("rpm", "-qlp", file).splitlines() for name, file in packages.items()}
+    assert sum(map(len, listed.values())) == len({*sum(listed.values(), [])})
+    files = sum((listed[name] for name in ("keywrap", "libkeywrap", "libkeywrap-devel")), [])
+    assert {"/usr/share/doc/keywrap", "/usr/lib64/cmake/keywrap"} < {*files}
     installed = {name.removeprefix("/usr/").replace("lib64/", "lib/", 1) for name in files}
     wanted = {**expected("files of command"), **expected("files of library")}
     assert wanted.keys() <= installed
     # Beside them only the directories of documents.
     assert all(any(name.startswith(f"{extra}/") for name in wanted) for extra in installed - wanted.keys())
+    modules = {name.partition("-packages/")[2] for name in listed["python3-keywrap"]}
+    # The command is in a package of its own.
+    assert {name for name in expected("files of wheel") if ".data/" not in name} <= modules
+    assert {pathlib.Path(name).name for name in listed["keywrap-openssl-provider"]} == {
+        "keywrap.so", "keywrap-openssl-provider", "OPENSSL.md", "openssl.cnf"}
     assert "libkeywrap = " in run("rpm", "-qp", "--requires", packages["libkeywrap-devel"])
     run("rpm2archive", packages["keywrap"])
     run("tar", "-C", tmp_path, "-xzf", f"{packages['keywrap']}.tgz")

@@ -1,4 +1,4 @@
-"""The Rust crate in dist/: its package, its own tests by each cargo here, published cases, the lines of dist/RUST.md
+"""The Rust crate in dist/: its package, its own tests by each cargo here, rows.txt, the lines of dist/RUST.md
 without a network, clippy, a program without std, aarch64, and planted bugs."""
 
 import os
@@ -13,7 +13,7 @@ import pytest
 import published
 from builds import ROOT, alone, run
 from hardware.bugs import plant
-from program import ALL, all_of, slow
+from program import all_of, evidence, slow
 from tools import need
 
 pytestmark = pytest.mark.needs("cargo", "cc", "crates of Debian")
@@ -38,6 +38,8 @@ def cargos():
 
 
 CARGOS = cargos() if shutil.which("rustc") else {}
+# Without a cargo each test still has a name, by which it is skipped.
+NAMES = [*CARGOS] or ["no cargo"]
 
 
 class Cargo:
@@ -110,21 +112,29 @@ class TestPage:
         """Those without a network run all tests of the crate, without another configuration."""
         lines, = re.findall(r"^    (cargo --config .*\\\n.*)", PAGE, re.M)
         said = run(*alone([lines], **cargo.env, CARGO_HOME=f"{cargo.home}/empty"), cwd=crate)
-        # The test of common/ runs in two programs, and the test of zeroize.rs in none. The documentation has three.
-        assert counted(said) == len(names_of_tests()) + 3
+        # The test of zeroize.rs is not run. The documentation has three.
+        assert counted(said) == len(names_of_tests()) + 2
 
     @slow
-    def test_program(self, cargo, crate):
-        """A program with the example, to which the line adds the crate."""
+    @pytest.mark.needs("git")
+    @pytest.mark.parametrize("way", ["path", "git"])
+    def test_program(self, cargo, way):
+        """A program with the example, to which the line adds the crate by its path or from a clone, and whose own
+        configuration is the page's."""
         example = re.search(r"^    use keywrap(?:.*\n)*?(?=^\S)", PAGE, re.M)[0]
-        line, = re.findall("^    (cargo add .*)", PAGE, re.M)
+        line, = re.findall(f"^    (cargo add .*--{way} .*)", PAGE, re.M)
         pathlib.Path("program/src").mkdir(parents=True)
+        pathlib.Path("program/.cargo").mkdir()
+        pathlib.Path("program/.cargo/config.toml").write_text("".join(re.findall(r"^    (source\..*\n)", PAGE, re.M)))
         pathlib.Path("program/Cargo.toml").write_text(PACKAGE)
         pathlib.Path("program/src/main.rs").write_text(
             "fn main() -> Result<(), Box<dyn std::error::Error>> {\nlet (bytes, key) = ([7; 32], [5; 16]);\n"
             f'{example}\nprintln!("done");\nOk(())\n}}\n')
-        run(*alone([line], **cargo.env, KEYWRAP=crate), cwd="program")
-        assert cargo("run", "--offline", cwd="program") == "done\n"
+        run("git", "clone", "-q", ROOT, "clone")
+        given = {**cargo.env, "CARGO_HOME": os.path.abspath("empty"), "CARGO_TARGET_DIR": os.path.abspath("out"),
+                 "KEYWRAP": os.path.abspath("clone/dist"), "REPOSITORY": f"file://{os.path.abspath('clone')}"}
+        said = run(*alone([line, "cargo build", "cargo run --offline"], **given), cwd="program")
+        assert said == "done\n"
 
     def test_version(self):
         """RUST.md and Cargo.toml have the same oldest Rust."""
@@ -135,7 +145,7 @@ class TestPage:
 FEATURES = ["--no-default-features", "--no-default-features --features alloc", "--all-features"]
 
 
-@pytest.mark.parametrize("name", CARGOS)
+@pytest.mark.parametrize("name", NAMES)
 @pytest.mark.parametrize("features", all_of(FEATURES, []))
 def test_features(name, home, crate, features):
     cargo = Cargo(name, home)
@@ -143,7 +153,7 @@ def test_features(name, home, crate, features):
     assert counted(said) >= len(names_of_tests()) - 2 and "warning" not in said
 
 
-@pytest.mark.parametrize("name", all_of(CARGOS, []))
+@pytest.mark.parametrize("name", all_of(NAMES, []))
 def test_lints(name, home, crate):
     """No warning of the compiler, of clippy or of rustdoc."""
     cargo = Cargo(name, home)
@@ -172,22 +182,23 @@ def program(directory, source, crate, features, more):
 
 
 @pytest.fixture(scope="session")
-def calls(once, home, crate):
-    """The program published.rs."""
+def crate_with_rows(once, crate):
+    """A copy of the crate in which rows.rs is one of its tests."""
     def build(directory):
-        program(directory, "published.rs", crate, "", '[[bin]]\nname = "published"\npath = "published.rs"\n')
-        Cargo(next(iter(CARGOS)), home)("build", "--offline", cwd=directory, env={
-            "CARGO_TARGET_DIR": str(directory / "out"), "CARGO_PROFILE_DEV_OPT_LEVEL": "1"})
+        shutil.copytree(crate, directory / "copy")
+        shutil.copy(OWN / "rows.rs", directory / "copy/tests")
 
-    return once("rust-published", build) / "out/debug/published"
+    return once("rust-rows", build) / "copy"
 
 
-@slow
-@pytest.mark.parametrize("cases", [published.nist_or_skip, published.foreign], ids=["nist", "foreign"])
-def test_published(calls, cases):
-    """Into buffers, in place and as a Vec; the foreign ones also by steps."""
-    found, steps = cases(), ["steps"] if cases is published.foreign else []
-    assert run(calls, *steps, input="".join(published.lines(found))) == published.all_right(found)
+@pytest.mark.parametrize("name", ["rows", *(pytest.param(name, marks=slow) for name in ("more", "foreign", "nist"))])
+def test_rows(cargo, crate_with_rows, name):
+    """Into buffers, in place and as a Vec; the short tables also by steps."""
+    pathlib.Path("table.txt").write_text(published.table(name))
+    env = {"KEYWRAP_ROWS": os.path.abspath("table.txt"), "CARGO_PROFILE_TEST_OPT_LEVEL": "1"}
+    env.update({"KEYWRAP_STEPS": "1"} if name in ("rows", "foreign") else {})
+    said = cargo("test", "--offline", "--test", "rows", "--", "--nocapture", cwd=crate_with_rows, env=env)
+    published.all_right(said, published.table(name))
 
 
 @slow
@@ -202,7 +213,7 @@ def test_without_std(cargo, crate):
     run("./main")
 
 
-@slow
+@evidence
 def test_aarch64(home, crate):
     """The crate's tests by Debian's cargo under qemu."""
     need("aarch64-linux-gnu-gcc", "qemu-aarch64", "cargo of Debian")
@@ -214,7 +225,7 @@ def test_aarch64(home, crate):
     said = Cargo("debian", home)("test", "--offline", "--all-features", "--target", ARM, cwd=crate, env={
         f"{of_target}_RUSTFLAGS": f"--sysroot={root}", f"{of_target}_LINKER": "aarch64-linux-gnu-gcc",
         f"{of_target}_RUNNER": "qemu-aarch64 -L /usr/aarch64-linux-gnu"})
-    assert counted(said) == len(names_of_tests()) + 1
+    assert counted(said) == len(names_of_tests())
 
 
 @slow
@@ -228,12 +239,12 @@ def test_self_test(cargo, crate):
     assert re.search("left: `?Err\\(IntegrityCheckFailed\\)", ended.stdout), ended
 
 
-@slow
-def test_bugs_are_caught(cargo, crate):
-    """Each edit of bugs/, one after the other in one copy, without which its tests pass."""
-    copy = pathlib.Path(shutil.copytree(crate, "copy"))
+@evidence
+def test_bugs_are_caught(cargo, crate, crate_with_rows):
+    """Each edit of bugs/, one after the other in one copy, without which its tests and the rows pass."""
+    copy = pathlib.Path(shutil.copytree(crate_with_rows, "copy"))
     tests = ["cargo", "test", "--offline", "--all-features", "--lib", "--tests"]
-    env = {**cargo.env, "CARGO_TARGET_DIR": os.path.abspath("out")}
+    env = {**cargo.env, "CARGO_TARGET_DIR": os.path.abspath("out"), "KEYWRAP_ROWS": str(ROOT / "tests/rows.txt")}
 
     def passes():
         # An edit that does not compile catches nothing.

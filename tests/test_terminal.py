@@ -131,6 +131,9 @@ class TestProgress:
         assert [line for line in inner if line and not line.startswith("Script ")] == [WRAPPED16] * 6
         assert slow.ended() == Ended(0, f"{WRAPPED16}\n" * 6)
         assert terminal(f"cat few few | {LINES} --verbose").ended() == Ended(0, f"{WRAPPED16}\n" * 4)
+        # If standard error is elsewhere, it has the counts.
+        assert terminal(f"cat few few | {LINES} --verbose 2>counts").ended() == Ended(0, f"{WRAPPED16}\n" * 4)
+        assert pathlib.Path("counts").read_text() == COUNTS.format(4)
 
     def test_typed_lines(self, terminal):
         """Nothing is shown while lines are typed, or afterwards."""

@@ -20,6 +20,7 @@ import java.util.concurrent.Callable;
 import javax.crypto.Cipher;
 import javax.crypto.IllegalBlockSizeException;
 import javax.crypto.ShortBufferException;
+import javax.crypto.spec.GCMParameterSpec;
 import javax.crypto.spec.IvParameterSpec;
 import javax.crypto.spec.SecretKeySpec;
 
@@ -173,6 +174,13 @@ final class Checks {
                 String name = FORMS[form];
                 throwsOne(InvalidAlgorithmParameterException.class, () -> wrapped(name, OURS, kek, key, value));
             }
+            // Parameters of another class are not the default initial value, and the cipher has no KEK afterwards.
+            Cipher cipher = begun(FORMS[form], OURS, Cipher.ENCRYPT_MODE, kek);
+            throwsOne(InvalidAlgorithmParameterException.class, () -> {
+                cipher.init(Cipher.ENCRYPT_MODE, kek, new GCMParameterSpec(128, iv));
+                return null;
+            });
+            throwsOne(IllegalStateException.class, () -> cipher.doFinal(key));
         }
         for (String name : FORMS) {
             Cipher ours = begun(name, OURS, Cipher.ENCRYPT_MODE, kek);

@@ -6,6 +6,7 @@ import assert from 'node:assert/strict';
 import { readFile } from 'node:fs/promises';
 import { createServer } from 'node:http';
 import { after, test } from 'node:test';
+import { pathToFileURL } from 'node:url';
 import { Browser } from './browser.mjs';
 
 const [, , directory, program, kept] = process.argv;
@@ -55,9 +56,12 @@ async function done(kek, text, button) {
     return [await browser.read('told'), await browser.read('answer'), isRed];
 }
 
-test('the page opens', async () => {
-    await browser.open(url, '!document.getElementById("check").disabled');
-    assert.equal(await browser.read('told'), '');
+test('the page opens with the first vector of RFC 3394 and its steps', async () => {
+    await browser.open(url, '!document.getElementById("steps").hidden');
+    assert.deepEqual([await browser.read('told'), await browser.read('answer')],
+        ['Wrapped key, 24 bytes:', WRAPPED]);
+    const typed = "['kek', 'text'].map((id) => document.getElementById(id).value)";
+    assert.deepEqual(await browser.evaluate(typed), [KEK.toLowerCase(), KEY]);
 });
 
 test('a key is wrapped, unwrapped and checked', async () => {
@@ -139,6 +143,12 @@ test('where a file is missing the page says so', async () => {
     await browser.open(url, 'document.getElementById("told").innerText !== "Loading"');
     TYPES['keywrap.wasm'] = type;
     assert.match(await browser.read('told'), /^It does not run here: .*keywrap\.wasm: 404/);
+});
+
+test('where it is opened as a file the page says how to serve it', async () => {
+    await browser.open(pathToFileURL(`${directory}/example.html`).href,
+        'document.getElementById("told").innerText !== "Loading"');
+    assert.match(await browser.read('told'), /^A browser does not run this from a file\. .* -m http\.server /);
 });
 
 test('nothing was sent, and nothing went wrong in the page', () => {

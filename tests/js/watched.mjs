@@ -23,13 +23,17 @@ export async function watched(source, replaced = (exports) => exports) {
     }
 }
 
-const words = (buffer) => new BigUint64Array(buffer);
+const words = (buffer) => new Int32Array(buffer);
 const made = words((await watched()).exports.memory.buffer.slice(0));
 
 // Whether all of the memory is as in an instance that has done nothing yet.
 export function isAsMade({ memory }) {
     const now = words(memory.buffer);
-    return now.length === made.length && now.every((word, at) => word === made[at]);
+    let at = 0;
+    while (at < now.length && now[at] === made[at]) {
+        at++;
+    }
+    return at === made.length;
 }
 
 // Whether both have the same bytes.

@@ -25,8 +25,15 @@ row() {
 
 # slow COMMAND..: runs the rows of the command if KEYWRAP_ALL=1 is set, as `make gate` does. Otherwise only counts them.
 slow() {
-    local is_omitted=yes
-    [ "${KEYWRAP_ALL:-}" != 1 ] || is_omitted=
+    local is_omitted=${is_omitted:-}
+    [ "${KEYWRAP_ALL:-}" = 1 ] || is_omitted=yes
+    "$@"
+}
+
+# evidence COMMAND..: the same for KEYWRAP_EVIDENCE=1, which `make evidence` sets.
+evidence() {
+    local is_omitted=${is_omitted:-}
+    [ "${KEYWRAP_EVIDENCE:-}" = 1 ] || is_omitted=yes
     "$@"
 }
 

@@ -33,6 +33,12 @@ has_crates() {
     for name in "$@"; do compgen -G "/usr/share/cargo/registry/$name.*" || return; done
 }
 
+# maven_has PLUGIN..: Debian has these plugins of Maven.
+maven_has() {
+    local name
+    for name in "$@"; do [ -d "/usr/share/maven-repo/org/apache/maven/plugins/maven-$name-plugin" ] || return; done
+}
+
 # overlays: an overlay of the root directory can be mounted.
 overlays() {
     unshare -m sh -ec 'mount -t tmpfs none /tmp && cd /tmp && mkdir upper work merged

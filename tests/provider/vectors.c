@@ -1,12 +1,12 @@
-/* vectors.c: the lines of tests/published.py from standard input, in both sides, by each sequence of
- * calls. */
+/* vectors.c: lines in the format of tests/rows.txt from standard input, in both sides, by each sequence
+ * of calls. */
 
 #include <stdio.h>
 #include <string.h>
 
 #include "sides.h"
 
-enum { LONGEST = 1024, LINE = 4 * LONGEST };
+enum { LONGEST = 2048, LINE = 5 * LONGEST };
 
 static int bytes_of(const char *hex, uint8_t *bytes) {
     int len = 0;
@@ -52,10 +52,11 @@ void try_vectors(void) {
     static uint8_t kek[LONGEST], given[LONGEST], due[LONGEST];
     int cases = 0;
     while (fgets(line, sizeof line, stdin) != NULL) {
-        if (sscanf(line, "%s %s %s %s", name, kek_hex, given_hex, due_hex) != 4) break;
+        int status;
+        if (sscanf(line, "%s %d kek=%s given=%s out=%s", name, &status, kek_hex, given_hex, due_hex) < 4) break;
         int wraps = strncmp(name, "un", 2) != 0, given_len = bytes_of(given_hex, given);
         int which = (bytes_of(kek_hex, kek) - 16) / 8 + (strstr(name, "_padded") ? 3 : 0);
-        int due_len = due_hex[0] == '-' ? -1 : bytes_of(due_hex, due);
+        int due_len = status != 0 ? -1 : bytes_of(due_hex, due);
         cases++;
         for (struct side *side = sides; side < sides + 2; side++)
             for (enum way way = 0; way < WAYS; way++)

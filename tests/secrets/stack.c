@@ -134,6 +134,17 @@ static void rewrap_many(void) {
                                          &slot_status, 1));
 }
 
+/* With a text under the old KEK beside it: the steps of the two are made apart. */
+static void rewrap_two(void) {
+    static uint8_t two[128];
+    uint8_t statuses[2];
+    memcpy(two, out, text_len);
+    status = keywrap_wrap(kek, kek_len, key, KEY_LEN, two + text_len, text_len);
+    if (status != KEYWRAP_OK) return;
+    status = keywrap_rewrap_many(kek, kek_len, new_kek, kek_len, two, 2 * text_len, forms, statuses, 2);
+    if (statuses[0] != KEYWRAP_ALREADY_NEW || statuses[1] != KEYWRAP_OK) status = KEYWRAP_INTEGRITY;
+}
+
 /* A text that is new already. */
 static void wrap_new(void) {
     status = keywrap_wrap(new_kek, kek_len, key, KEY_LEN, out, text_len);
@@ -194,6 +205,7 @@ static const struct watched {
      REWRAPS | 1 << NOT_PLAIN},
     {"rewrap_many,keep_padded", rewrap_many, wrap_padded, KEYWRAP_KEEP_FORM, REWRAPS},
     {"rewrap_many,pass_new", rewrap_many, wrap_new, KEYWRAP_PASS_NEW, REWRAPS},
+    {"rewrap_many,apart", rewrap_two, wrap_new, KEYWRAP_PASS_NEW, 1 << DONE},
     {"self_test", self_test, NULL, 0, 1 << DONE},
 };
 

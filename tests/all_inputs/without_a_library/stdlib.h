@@ -1,0 +1,2 @@
+/* What keywrap.c needs of stdlib.h, for a machine that has none. */
+void abort(void);

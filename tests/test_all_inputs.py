@@ -1,0 +1,120 @@
+"""dist/check/all_inputs: its own tests, its lists over each object, planted bugs that it must refuse, and the second
+standard. The lists of one object are independent, and each is one process."""
+
+import pathlib
+import re
+import subprocess
+import sys
+
+import pytest
+
+from all_inputs import bugs
+from builds import run
+from program import all_of, evidence
+from tools import need
+
+ROOT = pathlib.Path(__file__).resolve().parent.parent
+CHECKER = ROOT / "dist/check/all_inputs"
+MODULE = ROOT / "dist/keywrap.wasm"
+NO_LIBRARY = ROOT / "tests/all_inputs/without_a_library"
+SHARED = ["gcc", "-std=c99", "-O2", "-fPIC", "-shared", "-Wl,-z,now"]
+
+
+def check(*words):
+    """The output of the checker, which must exit with 0."""
+    return run(sys.executable, "-B", CHECKER / "check.py", *words)
+
+
+@pytest.fixture
+def made(once, built):
+    """made(NAME) is an object that the checker reads."""
+    def build(directory, name):
+        if name == "keywrap.c by gcc":
+            need("gcc")
+            run(*SHARED, ROOT / "dist/keywrap.c", "-o", directory / "object")
+        elif name == "keywrap.c by clang for wasm32":
+            need("clang", "wasm-ld")
+            exports = [f"-Wl,--export={call}" for call in exported()] + [
+                f"-Wl,--export={name}" for name in ("__heap_base", "__stack_pointer")]
+            run("clang", "--target=wasm32", "-O2", "-mbulk-memory", "-mmutable-globals", "-ffreestanding", "-nostdlib",
+                "-w", f"-I{NO_LIBRARY}", "-DKEYWRAP_TRAP()=__builtin_trap()", "-Wl,--no-entry", *exports,
+                ROOT / "dist/keywrap.c", NO_LIBRARY / "memory.c", "-o", directory / "object")
+        else:
+            run("make", "-s", "-C", ROOT, "library", f"LIBRARY={directory}", f"ARCHIVE={built('llvm.a')}", "HARDWARE=1")
+            (directory / f"{name}.so.1").rename(directory / "object")
+
+    def find(name):
+        if name == "keywrap.wasm":
+            return MODULE
+        return once(f"all-inputs-{name}".replace(" ", "-"), lambda directory: build(directory, name)) / "object"
+
+    return find
+
+
+def exported():
+    """The calls of keywrap.c."""
+    return sorted(set(re.findall(r"^(?:int32_t|uint32_t|size_t) (keywrap_\w+)\(", (ROOT / "dist/keywrap.c").read_text(),
+                                 re.M)))
+
+
+OBJECTS = ["keywrap.wasm", "keywrap.c by gcc", "keywrap.c by clang for wasm32", "libkeywrap", "libkeywrap_hw"]
+
+
+def test_needs_only_python():
+    """What is handed out imports only the standard library and itself."""
+    own = {path.stem for path in CHECKER.glob("*.py")}
+    for path in CHECKER.glob("*.py"):
+        for name in re.findall(r"^(?:from|import) (\w+)", path.read_text(), re.M):
+            assert name in own | sys.stdlib_module_names, (path, name)
+
+
+def test_what_must_be_believed_is_counted():
+    """The table of README.md, with at most 2,700 lines that are not blank."""
+    rows = re.findall(r"^\| ([^|]*`[^|]*) \| (\d+) \|", (CHECKER / "README.md").read_text(), re.M)
+    total = 0
+    for files, count in rows:
+        lines = [line for name in re.findall("`([^`]*)`", files) for line in (CHECKER / name).read_text().splitlines()]
+        assert sum(map(bool, map(str.strip, lines))) == int(count), files
+        total += int(count)
+    assert 2000 < total <= 2700
+
+
+@pytest.mark.parametrize("name", all_of(OBJECTS, ["keywrap.wasm"], in_gate=[]))
+def test_checker(made, name):
+    """Operations, equations and decisions against numbers; the instructions of an object against the processor."""
+    assert "the checker passes its tests" in run(sys.executable, "-B", CHECKER / "test_checker.py", made(name))
+
+
+def test_short_list():
+    """As dist/README has it."""
+    said = run("make", "-s", "-C", ROOT / "dist", "-f", ROOT / "c/portable/Makefile", "check-all-inputs")
+    passed, listed = re.search(r"^(\d+) of (\d+) calls pass", said, re.M).groups()
+    assert passed == listed and int(passed) > 40
+
+
+@evidence
+@pytest.mark.parametrize("name", OBJECTS[1:])
+def test_short_list_of_each_object(made, name):
+    check(made(name))
+
+
+@evidence
+@pytest.mark.parametrize("name", ["keywrap.wasm", "libkeywrap_hw"])
+def test_long_list(made, name):
+    """20 minutes of a processor."""
+    check(made(name), "long")
+
+
+@pytest.mark.needs("wasm2wat")
+@pytest.mark.parametrize("name", all_of(list(bugs.BUGS), ["wrap: a length not a multiple of 8",
+                                                          "decision: the other way round"]))
+def test_bug_is_refused(tmp_path, name):
+    assert bugs.refused_by(bugs.planted(MODULE, name, tmp_path))
+
+
+def test_refuses_other_objects(tmp_path):
+    """A file that is not an object, and a call that is not one, are errors."""
+    (tmp_path / "text").write_text("no object")
+    for words in [[tmp_path / "text"], [MODULE, "encrypt", "16"], []]:
+        ended = subprocess.run([sys.executable, "-B", CHECKER / "check.py", *words], capture_output=True)
+        assert ended.returncode != 0, words

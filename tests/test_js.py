@@ -1,0 +1,177 @@
+"""The package for browsers, Node and Deno, in Node without a flag and in Chromium, Firefox and WebKit: rows.txt, the
+published cases, the module's memory after each call, bundles; its page in Chromium, as a person uses it. Deno is not in
+Debian, so it is not tested. KEYWRAP_JS=DIRECTORY: over another package."""
+
+import glob
+import json
+import os
+import pathlib
+import re
+import shutil
+import subprocess
+
+import pytest
+
+import published
+from builds import NAMES, ROOT, run
+from program import slow
+from tools import missing, need
+
+PAGE = (ROOT / "js/README.md").read_text()
+FILES = "README.md calls.js example.html inline.js keywrap.d.ts keywrap.js keywrap.wasm module.js package.json"
+# The syntax of these hosts is the oldest that the package supports.
+HOSTS = "chrome85,firefox79,safari15,node16"
+
+
+@pytest.fixture(scope="session")
+def programs(once):
+    """The directory of the programs, with the package where a user has it, and tables/ of rows."""
+    def build(directory):
+        shutil.copytree(ROOT / "tests/js", directory, dirs_exist_ok=True)
+        shutil.copy(ROOT / "scripts/engine.mjs", directory)
+        (directory / "node_modules").mkdir()
+        package = directory / "node_modules/keywrap"
+        if given := os.environ.get("KEYWRAP_JS"):
+            shutil.copytree(given, package)
+        else:
+            run("make", "-s", "-C", ROOT, "js", f"JS={package}")
+        (directory / "tables").mkdir()
+        for name in "rows", "foreign", *([] if missing("import cryptography_vectors") else ["nist"]):
+            (directory / f"tables/{name}.txt").write_text(published.table(name))
+
+    return once("js", build)
+
+
+@pytest.fixture
+def package(programs):
+    return programs / "node_modules/keywrap"
+
+
+@pytest.fixture(scope="session")
+def bundles(once, programs):
+    """As a packager makes them: the module beside the program, in it, and in a file alone."""
+    need("esbuild")
+
+    def build(directory):
+        def bundled(entry, output, *options):
+            return subprocess.run(
+                ["esbuild", f"bundle/{entry}", "--bundle", "--minify", f"--outfile={directory}/{output}",
+                 "--log-level=warning", *options], cwd=programs, check=True, capture_output=True, text=True).stderr
+
+        bundled("beside.mjs", "beside.mjs", "--format=esm")
+        shutil.copy(programs / "node_modules/keywrap/keywrap.wasm", directory)
+        bundled("inside.mjs", "inside.js", "--format=iife", "--loader:.wasm=binary")
+        assert bundled("alone.mjs", "alone/bundle.js", "--format=iife") == ""
+
+    return once("js-bundles", build)
+
+
+class TestPackage:
+    def test_files(self, package):
+        assert sorted(path.name for path in package.iterdir()) == FILES.split()
+
+    def test_size(self, package):
+        """The module has at most 40 KB, and README has its size."""
+        size = (package / "keywrap.wasm").stat().st_size
+        assert size <= 40960 and f"`keywrap.wasm` ({(size + 500) // 1000} KB)" in PAGE
+
+    def test_what_a_bundler_looks_for(self, package):
+        assert "new URL('./keywrap.wasm', import.meta.url)" in (package / "keywrap.js").read_text()
+
+    @pytest.mark.needs("esbuild")
+    @pytest.mark.parametrize("name", ["calls", "inline", "keywrap"])
+    def test_syntax(self, package, name):
+        """esbuild has nothing to replace for older hosts."""
+        esbuild = ["esbuild", "--format=esm"]
+        assert run(*esbuild, package / f"{name}.js") == run(*esbuild, f"--target={HOSTS}", package / f"{name}.js")
+
+
+@pytest.mark.needs("node")
+class TestNode:
+    def test_version(self, programs):
+        """The package has the version of the program, and the module in it the numbers."""
+        program = "import { load } from 'keywrap'; console.log((await load()).version)"
+        said = run("node", "--input-type=module", "-e", program, cwd=programs)
+        version = json.loads((programs / "node_modules/keywrap/package.json").read_text())["version"]
+        assert [version, said] == [NAMES["VERSION"], NAMES["VERSION"].removesuffix("-dev") + "\n"]
+
+    def test_readme(self, programs):
+        """Its program writes what its comments say."""
+        part = re.search(r"^<!-- tests/test_js\.py runs this.*?^- ", PAGE, re.M | re.S)[0]
+        program = "".join(re.findall("^    (.*\n)", part, re.M))
+        due = re.findall(r"^ *console\.log.*;  *// (.*)", program, re.M)
+        assert len(due) == 3
+        (programs / "readme.mjs").write_text(program)
+        assert run("node", "readme.mjs", cwd=programs).splitlines() == due
+
+    def test_common_js(self, programs):
+        """import() there has the package, and require of Node 18 fails with the error that README names."""
+        run("node", "-e", "import('keywrap').then(async ({ load }) => (await load()).selfTest())", cwd=programs)
+        if run("node", "--version").startswith("v18."):
+            ended = subprocess.run(["node", "-e", "require('keywrap')"], cwd=programs, capture_output=True, text=True)
+            assert ended.returncode and "ERR_REQUIRE_ESM" in ended.stderr
+
+    @pytest.mark.parametrize("name", ["calls.mjs", "objects.mjs", "--expose-gc growth.mjs"])
+    def test_program(self, programs, name):
+        run("node", *name.split(), cwd=programs)
+
+    def test_rows(self, programs):
+        said = run("node", "rows.mjs", "tables", cwd=programs)
+        said, _, _ = said.partition(" right")
+        published.all_right(f"{said} right", published.table("rows"))
+
+    def test_bundles(self, programs, bundles):
+        run("node", "bundles.mjs", bundles, cwd=programs)
+
+
+ENGINES = {
+    "chromium": (["chromium"], "chromium"), "firefox": (["firefox-esr"], "firefox-esr"),
+    "webkit": (["MiniBrowser", "xvfb-run", "dbus-run-session"], "/usr/lib/*/webkit2gtk-4.*/MiniBrowser"),
+}
+
+
+@pytest.mark.parametrize("engine", ["chromium", *(pytest.param(name, marks=slow) for name in ("firefox", "webkit"))])
+def test_engine(programs, request, engine):
+    """The same tests in a page there."""
+    tools, program = ENGINES[engine]
+    need("node", *tools)
+    bundled = "" if missing("esbuild") else request.getfixturevalue("bundles")
+    os.mkdir("files")
+    program = glob.glob(program)[0] if "*" in program else program
+    run("node", "engines.mjs", engine, program, os.path.abspath("files"), programs / "node_modules/keywrap", bundled,
+        programs / "tables", cwd=programs, timeout=1500)
+
+
+@pytest.mark.needs("node", "chromium")
+def test_page(programs):
+    """As a person uses it."""
+    run("node", "page.mjs", programs / "node_modules/keywrap", "chromium", os.path.abspath("chromium"), cwd=programs,
+        timeout=1200)
+
+
+HEAD = """import { load, BadLength, KeyNotPlain, type Kind, type Keywrap } from "keywrap";
+import { load as loadInline } from "keywrap/inline";
+const k = await load(), inline: Keywrap = await loadInline(); const b = new Uint8Array();
+"""
+RIGHT = HEAD + """const kind: Kind | null = k.check(k.wrap(b, b), k.rewrap(b, b, b, { newPadded: true }));
+k.rewrap(b, b, b, { oldPadded: true, keepForm: false }); k.wrap(b, b, { iv: b }); k.unwrap(b, b, { iv: b });
+k.unwrapPadded(b, k.wrapPadded(b, b)); const text: string = k.version; const error: BadLength = new KeyNotPlain();
+k.rewrap(b, b, b, { passNew: true }); const key: Uint8Array = k.unwrapAny(b, b).key;
+"""
+# A result is not a string, a padded form has no initial value, and what load returns cannot be changed.
+WRONG = HEAD + """const text: string = k.wrap(b, b, { iv: b });
+k.wrapPadded(b, b, { iv: b });
+k.version = '1.0.0';
+"""
+
+
+@pytest.mark.needs("tsc")
+def test_types(programs):
+    """tsc refuses the last three lines of the wrong program, each for its reason, and nothing else."""
+    for name, program in ("right.mts", RIGHT), ("wrong.mts", WRONG):
+        (programs / name).write_text(program)
+    options = ["--noEmit", "--strict", "--target", "es2022", "--module", "node16", "--moduleResolution", "node16"]
+    ended = subprocess.run(["tsc", *options, "right.mts", "wrong.mts"], cwd=programs, capture_output=True, text=True)
+    refused = re.findall(r"^wrong\.mts\((\d),.*(type 'string'|Expected 2 arguments|read-only)", ended.stdout, re.M)
+    assert refused == [("4", "type 'string'"), ("5", "Expected 2 arguments"), ("6", "read-only")], ended.stdout
+    assert len(re.findall(r"^\S", ended.stdout, re.M)) == 3
