@@ -1,12 +1,13 @@
 # Goals for developers. packaging/Makefile has the C library, what is installed and what is packed.
 
-# The program as it was built, which `make build` makes.
-PROGRAM ?= crates/keywrap/out/keywrap
+# The program as it was built, which `make build` makes: without the kit it is the C of dist/.
+PROGRAM ?= $(if $(shell command -v rt)$(wildcard crates/keywrap/out/keywrap),crates/keywrap/out,dist)/keywrap
 # The Python that builds the package for Python.
 PYTHON ?= python3
 
 .DEFAULT_GOAL = help
-.PHONY: help version build test packages proofs test-all gate dist-sources bench pictures clean
+.PHONY: help version build test packages proofs test-all gate evidence dist-sources dist-command-sources \
+    bench pictures clean
 # Goals run one at a time: the tools are checked before anything is built, and rt writes every archive to one path.
 .NOTPARALLEL:
 
@@ -22,12 +23,14 @@ make provider           builds the provider for OpenSSL 3, as $(PROVIDER)/keywra
 make examples           builds the example in C, as $(EXAMPLES)/wrap (the library's time)
 make wheel              builds the Python package, as $(wheel) (the library's time)
 make js                 puts the package for browsers, Node and Deno together, as $(JS) (1 second, no kit)
+make dist-js            packs it for npm, as $(DIST)/keywrap-$(version).tgz (1 second, no kit)
 make go                 packs the Go module of dist/, as $(GO), which GOPROXY can name: dist/GO.md (1 second)
 make sdist              packs the Python package with portable C, for pip to build elsewhere (5 seconds, no kit)
-make dist-sources       writes dist/, from which everyone builds without the kit: C and WebAssembly (5 minutes)
+make dist-sources       writes dist/, from which everyone builds without the kit: C and WebAssembly (10 minutes)
 make test               runs the tests of the built command and the libraries (5 minutes); with KEYWRAP_ALL=1 all (60)
 make packages           installs the packages that the tests use: tests/packages.txt (5 minutes)
 make gate               make proofs: rt ci proves all from nothing and tries each edit; then make test-all (2 hours)
+make evidence           runs what takes too long for the gate, and writes docs/evidence, before a release (hours)
 make install            installs the two below, under $$(DESTDIR)$$(prefix), with their documents (of what is built: 1
                         second each)
 make install-command    installs the program, its manual page, and completions for bash, zsh and fish
@@ -41,9 +44,11 @@ make dist               packs all of it in $(DIST), for machines without the kit
                         pack, the wheels and the package for npm, for x86-64 and aarch64 (of what is built: 1 minute)
 make dist-command       packs what make install-command installs, as
                         $(DIST)/$(of_command).tar.gz
+make dist-static        packs the command in C as a static program, there (half a minute, no kit)
+make dist-deb           packs the command in C as a source package for Debian, there (1 second, no kit)
 make dist-library       packs what make install-library installs, there
-                        With TARGET=aarch64-unknown-linux-gnu library, wheel, install-library and dist
-                        are only for aarch64, and without the program
+                        With TARGET=aarch64-unknown-linux-gnu library, wheel, install-library, dist-static and
+                        dist are only for aarch64, with the command in C only
 make version            writes the version
 make bench              how long a wrap takes, beside OpenSSL, nettle, C and pyca (10 minutes)
 make pictures           draws the plots of docs/pictures, and writes what follows from the sources (2 seconds)
@@ -79,10 +84,18 @@ test-all:
 
 gate: proofs test-all
 
+evidence:
+	scripts/evidence.sh
+
 dist-sources:
 	$(needs_kit)$(PYTHON) scripts/portable.py --needs
 	scripts/module.sh out/keywrap.wasm
 	$(PYTHON) scripts/portable.py out/keywrap.wasm dist
+	$(MAKE) --no-print-directory dist-command-sources
+
+dist-command-sources:
+	$(needs_kit)scripts/command_module.sh out/command.wasm
+	$(PYTHON) scripts/command.py out/command.wasm dist/command
 
 # With BENCH=DIRECTORY it also writes DIRECTORY/*.csv; `make bench BENCH=docs/pictures` renews the data of the plots.
 export BENCH := $(abspath $(BENCH))
@@ -90,6 +103,8 @@ bench: build library library-hardware provider wheel js
 	bench/wrap '$(LIBRARY)/libkeywrap.a' '$(PROVIDER)/keywrap.so'
 	bench/record java bench/java '$(LIBRARY)'
 	bench/record lines $(PYTHON) bench/lines '$(PROGRAM)'
+	$(MAKE) -C dist keywrap
+	bench/record command $(PYTHON) bench/command.py native='$(PROGRAM)' c=dist/keywrap
 	bench/record python $(PYTHON) bench/python '$(wheel)'
 	bench/record js bench/js.mjs '$(JS)'
 	bench/record stores $(PYTHON) bench/rotation '$(wheel)'

@@ -4,6 +4,7 @@
 usage: package.py documents DIRECTORY MACHINE README DOCUMENT..   copies documents, and README from its template
        package.py archive DIRECTORY FILE            packs a directory that make installed into
        package.py files NAME FILE SOURCE..          packs copies of files in a directory of this name
+       package.py debian NAME DIRECTORY             packs the command in C as a source package for Debian
        package.py npm DIRECTORY                     puts the package for browsers, Node and Deno together
        package.py go DIRECTORY FILE..               packs files of dist/ as a Go module, as a module proxy has it
        package.py needs PYTHON [Python.h]           fails if this Python lacks what builds the package for Python
@@ -58,7 +59,8 @@ def documents(directory, machine, readme, *paths):
     directory.mkdir(parents=True, exist_ok=True)
     text = pathlib.Path("packaging/templates", f"{readme}.in").read_text()
     shared = f"libkeywrap.so.{VERSION.replace('-', '~')}"
-    for name, value in ("VERSION", VERSION), ("SHARED", shared), ("PROCESSORS", PROCESSORS[machine]):
+    for name, value in ("VERSION", VERSION), ("SHARED", shared), ("PROCESSORS", PROCESSORS[machine]), (
+            "MACHINE", machine.replace("_", "-")):
         text = text.replace(f"@{name}@", value)
     (directory / readme).write_text(text)
     names = [pathlib.Path(path).stem for path in paths]
@@ -94,6 +96,26 @@ def files(name, file, *sources):
         workdir.mkdir()
         subprocess.run(["cp", "-R", *sources, workdir], check=True)
         pack(workdir, file)
+
+
+def debian(name, directory):
+    """The C, the manual page, the completions and debian/. dpkg-buildpackage builds it on any machine."""
+    directory = pathlib.Path(directory).absolute()
+    directory.mkdir(parents=True, exist_ok=True)
+    with tempfile.TemporaryDirectory() as workdir:
+        tree = pathlib.Path(workdir, name)
+        shutil.copytree("packaging/debian-portable", tree / "debian")
+        changes = pathlib.Path("packaging/debian/changelog").read_text()
+        (tree / "debian/changelog").write_text(re.sub(r"^keywrap \(", "keywrap-portable (", changes, flags=re.M))
+        shutil.copytree("dist/command", tree / "command")
+        shutil.copytree("command/completions", tree / "completions")
+        shutil.copy("dist/Makefile", tree)
+        shutil.copy("command/man/keywrap.1", tree)
+        (tree / "SECURITY.md").write_text(with_links(pathlib.Path("SECURITY.md").read_text()))
+        for path in [tree, *tree.rglob("*")]:
+            path.chmod(0o755 if path.is_dir() or path.name == "rules" else 0o644)
+        subprocess.run(["dpkg-source", "-b", tree], cwd=directory, check=True, stdout=subprocess.DEVNULL)
+    print(*directory.glob(f"{name}.dsc"))
 
 
 def npm(directory):
@@ -137,12 +159,14 @@ def needs(python, *headers):
 def python_package(python, kind, package, directory, sources, env=None):
     """Builds the Python package in a directory, from a copy of its sources with the files that it needs beside them."""
     shutil.rmtree(package, ignore_errors=True)
-    subprocess.run(["cp", "-R", "--no-preserve=mode", "python", package], check=True)
-    for cache in list(package.rglob("__pycache__")):
-        shutil.rmtree(cache)
+    # Without what Python, and `pip install ./python`, leave in the sources.
+    left = shutil.ignore_patterns("__pycache__", "build", "*.egg-info", "*.so")
+    shutil.copytree("python", package, ignore=left, copy_function=shutil.copyfile)
     for name, source in {"VERSION": "VERSION", **sources}.items():
         shutil.copyfile(source, package / name)
-    (package / "README.md").write_text(with_links(pathlib.Path("python/README.md").read_text()))
+    shutil.copytree("dist/command", package / "command")
+    for page, place in ("python/README.md", "README.md"), ("docs/ROTATION.md", "src/keywrap/rotation/ROTATION.md"):
+        (package / place).write_text(with_links(pathlib.Path(page).read_text()))
     directory.mkdir(parents=True, exist_ok=True)
     options = [f"--{kind}", "--no-isolation", "--outdir", directory, package]
     built = subprocess.run([python, "-m", "build", *options], env=env, stdout=subprocess.PIPE,
@@ -156,7 +180,8 @@ def wheel(python, library, file, sysroot=None):
     checks this."""
     file = pathlib.Path(file)
     platform = file.stem.rpartition("-")[2]
-    env = dict(os.environ)
+    # The command in C needs no library of the system.
+    env = {**os.environ, "COMMAND_LDFLAGS": "-static"}
     if sysroot:
         include = pathlib.Path(sysroot, "usr/include")
         env["CFLAGS"] = f"-I{next(include.glob('python3.*'))} -idirafter {include} {env.get('CFLAGS', '')}"
@@ -167,7 +192,7 @@ def wheel(python, library, file, sysroot=None):
         options.write_text(f"[bdist_wheel]\nplat_name = {platform}\n")
         python_package(python, "wheel", pathlib.Path(library, "python"), file.parent, {
             "keywrap.h": "c/include/keywrap.h", "keywrap_steps.h": "c/include/keywrap_steps.h",
-            "libkeywrap.a": f"{library}/libkeywrap_hw.a", "setup.cfg": options}, env)
+            "libkeywrap_hw.a": f"{library}/libkeywrap_hw.a", "setup.cfg": options}, env)
     print(file)
 
 
@@ -236,7 +261,7 @@ def lists(*paths):
 
 if __name__ == "__main__":
     os.umask(0o022)
-    goals = {goal.__name__: goal for goal in (documents, archive, files, npm, go, needs, wheel, sdist, lists)}
+    goals = {goal.__name__: goal for goal in (documents, archive, files, debian, npm, go, needs, wheel, sdist, lists)}
     if sys.argv[1:2] == [] or sys.argv[1] not in goals:
         sys.exit(__doc__)
     goals[sys.argv[1]](*sys.argv[2:])

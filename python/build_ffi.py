@@ -1,5 +1,6 @@
-"""The extension keywrap._ffi: the calls of keywrap.h and keywrap_steps.h, with libkeywrap.a linked in. In the source
-distribution, which has keywrap.c instead, they are the portable ones."""
+"""The extension keywrap._ffi: the calls of keywrap.h and keywrap_steps.h, with libkeywrap_hw.a linked in. In the source
+distribution, which has keywrap.c instead, and in a clone of the repository, which has it in dist/, they are the portable
+ones."""
 
 import os
 import re
@@ -21,13 +22,6 @@ int32_t step_wrap_each(uint8_t *texts, size_t text_len, size_t count, uint64_t *
 int32_t step_unwrap_each(uint8_t *texts, size_t text_len, size_t count, uint64_t *left, uint8_t *blocks);
 void wipe(uint8_t *bytes, size_t len);
 int cpu_supported(void);
-typedef struct { ...; } blake2bp;
-int blake2bp_is_fast(void);
-void blake2bp_begin(blake2bp *state);
-void blake2bp_update(blake2bp *state, const uint8_t *content, size_t len);
-void blake2bp_lanes(const blake2bp *state, uint8_t *digests);
-int hex_lines(const uint8_t *lines, size_t count, size_t digit_count, uint8_t *keys);
-void hex_text(const uint8_t *keys, size_t count, size_t len, uint8_t *lines);
 static const char *const VERSION;
 #define NO_MEMORY ...
 """
@@ -35,8 +29,6 @@ static const char *const VERSION;
 SOURCE = """
 #include <keywrap_steps.h>
 #include <string.h>
-#include "blake2bp.h"
-#include "hex_lines.h"
 
 /* The key's length, doubled, and 1 more if it is padded; or the status of the refusal, negated. */
 static int64_t found(int32_t status, uint32_t padded, size_t key_len) {
@@ -116,42 +108,51 @@ static const char *const VERSION = PACKAGE_VERSION;
 
 NUMBERS = [
     f"KEYWRAP_{name}"
-    for name in ("MAX_KEY", "MAX_TEXT", "OLD_PADDED", "NEW_PADDED", "KEEP_FORM", "PASS_NEW", "ALREADY_NEW")
+    for name in (
+        "MAX_KEY", "MAX_TEXT", "OLD_PADDED", "NEW_PADDED", "KEEP_FORM", "PASS_NEW", "ALREADY_NEW", "DECRYPT", "NEW")
 ]
 
 
 def declarations(header: str, steps: str) -> str:
     """The calls, the statuses and the numbers of the headers, as cffi reads them. The steps are those for one key."""
     calls = re.findall(r"^(?:u?int32_t|size_t) keywrap_\w+\([^;]*\);", header, re.M)
-    calls += re.findall(r"^int32_t keywrap_\w+(?<!_many)\([^;]*\);", steps, re.M)
+    calls += re.findall(r"^u?int\d+_t keywrap_\w+(?<!_many)\([^;]*\);", steps, re.M)
     statuses = re.findall(r"^enum keywrap_status \{.*?\};", header, re.M | re.S)
     numbers = [f"#define {name} ..." for name in NUMBERS]
     return "\n".join([*statuses, *numbers, *calls]).replace("KEYWRAP_RESTRICT ", "")
 
 
-VERSION = Path("VERSION").read_text(encoding="utf-8").strip().replace("-dev", ".dev0")
+def place_of(name: str, elsewhere: str) -> str:
+    """The directory of a file: this one, or in a clone of the repository another."""
+    return "." if Path(name).exists() else elsewhere
 
-header = Path("keywrap.h").read_text(encoding="utf-8")
+
+C = place_of("keywrap.h", "../dist")
+version = Path(place_of("VERSION", ".."), "VERSION").read_text(encoding="utf-8")
+VERSION = version.strip().replace("-dev", ".dev0")
+
+header = Path(C, "keywrap.h").read_text(encoding="utf-8")
 # Only the header of the portable library defines it for C.
 (no_memory,) = re.findall(r"^#define KEYWRAP_NO_MEMORY (\d+)$", header, re.M)
 ffi = FFI()
-ffi.cdef(declarations(header, Path("keywrap_steps.h").read_text(encoding="utf-8")) + HELPERS)
+ffi.cdef(declarations(header, Path(C, "keywrap_steps.h").read_text(encoding="utf-8")) + HELPERS)
 # Of the library: without debugging information, which names the directory, and stripped. The package calls the library
 # that is in it, whatever another one in the process shows.
 NATIVE = {
-    "extra_objects": ["libkeywrap.a"],
+    "extra_objects": ["libkeywrap_hw.a"],
     "extra_compile_args": ["-std=c99", "-g0"],
     "extra_link_args": ["-s", "-Wl,--exclude-libs,ALL", "-Wl,-z,relro,-z,now"],
 }
 PORTABLE = {
-    "sources": ["keywrap.c"],
+    "sources": [f"{C}/keywrap.c"],
     "extra_compile_args": ["-std=c99", "-O2", "-fvisibility=hidden"] if os.name == "posix" else [],
 }
-portable = Path("keywrap.c").exists()
+portable = Path(C, "keywrap.c").exists()
 ffi.set_source(
     "keywrap._ffi",
     SOURCE,
-    include_dirs=["."],
+    include_dirs=[".", C],
+    depends=[f"{C}/keywrap.h", f"{C}/keywrap_steps.h"],
     define_macros=[
         ("PACKAGE_VERSION", f'"{VERSION}"'),
         ("NO_MEMORY", no_memory),

@@ -61,22 +61,15 @@ def part(page, text):
 def calls(*headers):
     """The names of the calls that the headers declare, in their order."""
     return [call for header in headers
-            for call in re.findall(r"^(?:u?int32_t|size_t) (keywrap_\w+)\(", read(header), re.M)]
+            for call in re.findall(r"^(?:u?int\d+_t|size_t) (keywrap_\w+)\(", read(header), re.M)]
 
 
 def export_map():
-    """What libkeywrap.so shows: the calls of 1.0.0 in the node of their version, and the later ones in theirs."""
-    first = calls("tests/library/1.0.0/keywrap.h")
-    later = [call for call in calls(*HEADERS) if call not in first]
-    nodes = [f"KEYWRAP_{version} {{\n    global:\n" + "".join(f"        {call};\n" for call in names) + local + "}"
-             for version, names, local in (("1", first, "    local:\n        *;\n"), ("1.1", later, ""))]
-    return f"""/* The names that libkeywrap.so shows: the calls of keywrap.h and keywrap_steps.h. A call that comes
- * later is in a node of its own, of its version, that names the one before. scripts/facts.py writes
- * this file. */
-{nodes[0]};
-
-{nodes[1]} KEYWRAP_1;
-"""
+    """What libkeywrap.so shows: the nodes of 1.1.0, and the calls that came later in the node of their version."""
+    before = read("tests/library/1.1.0/keywrap.map")
+    later = [call for call in calls(*HEADERS) if f" {call};" not in before]
+    shown = "".join(f"        {call};\n" for call in later)
+    return f"{before}\nKEYWRAP_1.2 {{\n    global:\n{shown}}} KEYWRAP_1.1;\n"
 
 
 def renamed():

@@ -1,8 +1,8 @@
 #!/usr/bin/env bash
 # Runs the tests of tests/: test_*.py by pytest, in parallel if pytest-xdist is installed, and at the same time the
-# scripts *.sh. Shows their output. The last line counts what passed, failed and was skipped; the line before it lists
-# the packages to install so that nothing is skipped. Each script ends with such a line, too. Slow rows are left to
-# KEYWRAP_ALL=1, which `make gate` sets.
+# scripts *.sh. Shows their output. The last line counts what passed, failed and was skipped. Each script ends with such
+# a line, too. out/skipped has what was skipped, and why. Slow rows are left to KEYWRAP_ALL=1, which `make gate` sets,
+# and some of them to KEYWRAP_EVIDENCE=1 beside it, which `make evidence` sets.
 #
 # usage: scripts/tests.sh [NAME..]        tests/test_NAME.py or tests/NAME.sh; all of them, if none is named
 #        (KEYWRAP=PATH tries another program; KEYWRAP_BUILT=DIRECTORY takes the archives there, and builds missing ones)
@@ -40,12 +40,11 @@ run_scripts() {
     wait
 }
 
-# run_files: runs pytest. Its tests are many and short, so they take the time that the scripts leave. Without pytest no
-# test names its tools, so all missing tools are named here.
+# run_files: runs pytest. Its tests are many and short, so they take the time that the scripts leave.
 run_files() {
     local parallel=()
     if [ "$python" = none ]; then
-        echo "SKIPPED: the tests of the program: $(bash tests/lib/tools.sh)"
+        echo "SKIPPED: the tests of the program: $(bash tests/lib/tools.sh 'import pytest' 'import xdist')"
         echo '0 passed, 0 failed, 1 skipped'
         return
     fi
@@ -86,7 +85,7 @@ counts='^([0-9]+) passed, ([0-9]+) failed, ([0-9]+) skipped'$'\n''.* status ([0-
 [ ${#files[@]} = 0 ] || scripts=(pytest "${scripts[@]}")
 for script in "${scripts[@]}"; do
     echo
-    cat "$logs/$script"
+    grep -v '^SKIPPED: ' "$logs/$script"
     # The last two lines are the script's counts and its status, which must agree.
     if [[ $(tail -n 2 "$logs/$script") =~ $counts ]]; then
         passed=$((passed + BASH_REMATCH[1])) failed=$((failed + BASH_REMATCH[2])) skipped=$((skipped + BASH_REMATCH[3]))
@@ -97,8 +96,14 @@ for script in "${scripts[@]}"; do
     fi
 done
 echo
-packages=$(sed -n 's/^SKIPPED: .*(apt-get install \(.*\))$/\1/p' "$logs"/* | tr ' ' '\n' | sort -u | paste -sd ' ')
-[ -z "$packages" ] || echo "what was skipped needs: make packages, or apt-get install $packages"
+mkdir -p out && sed -n 's/^SKIPPED: //p' "$logs"/* | sort -u >out/skipped
+# numbers TEXT: with a comma after each thousand.
+numbers() { sed -E ':more; s/([0-9])([0-9]{3})\>/\1,\2/; t more' <<<"$1"; }
+ran=$((passed + failed))
+[ "$skipped" = 0 ] || numbers "$ran of $((ran + skipped)) rows ran; make packages installs what the others need, \
+out/skipped names it"
 slow=$(sed -n 's/^SLOW: \([0-9]*\) .*/\1/p' "$logs"/* | paste -sd +)
-echo "$passed passed, $failed failed, $skipped skipped${slow:+, $((slow)) slow left to KEYWRAP_ALL=1 make test}"
+left_to='KEYWRAP_ALL=1 make test'
+[ "${KEYWRAP_ALL:-}" != 1 ] || left_to='make evidence'
+echo "$passed passed, $failed failed, $skipped skipped${slow:+, $((slow)) slow left to $left_to}"
 [ "$failed" = 0 ]

@@ -4,6 +4,7 @@ package keywrap;
 import com.sun.jna.IntegerType;
 import com.sun.jna.Memory;
 import com.sun.jna.Native;
+import com.sun.jna.NativeLibrary;
 import com.sun.jna.Pointer;
 import java.security.ProviderException;
 import javax.crypto.IllegalBlockSizeException;
@@ -14,10 +15,23 @@ final class Library {
     private static final int INTEGRITY = 5;
 
     static {
-        Native.register(Library.class, System.getProperty("keywrap.library", "keywrap"));
+        Native.register(Library.class, loaded(System.getProperty("keywrap.library", "keywrap")));
     }
 
     private Library() {}
+
+    /** Loads the library of this name or path. JNA's own error names a file that is not looked for. */
+    private static NativeLibrary loaded(String name) {
+        try {
+            return NativeLibrary.getInstance(name, Library.class.getClassLoader());
+        } catch (UnsatisfiedLinkError error) {
+            String path = System.getProperty("jna.library.path");
+            String places = path == null ? "the system's directories; -Djna.library.path names others"
+                : "-Djna.library.path=" + path + ", nor from the system's directories";
+            String text = "cannot load " + (name.contains("/") ? name : "lib" + name + ".so.1 from " + places);
+            throw (Error) new UnsatisfiedLinkError(text).initCause(error);
+        }
+    }
 
     /** A number of type size_t. */
     public static final class Size extends IntegerType {

@@ -1,6 +1,7 @@
 """keywrap.steps: wraps and unwraps by a callable for AES, here of pyca or of a token, as the published cases say."""
 
 import functools
+import re
 
 import pytest
 
@@ -288,3 +289,55 @@ def test_a_step_that_is_refused(monkeypatch):
         with pytest.raises(RuntimeError, match="a step was refused"):
             call(text)
         assert token.counted() == [1]
+
+
+@each_form
+@pytest.mark.parametrize("length", [8, 16, 24, 40, 4096])
+def test_unwrap_any(padded, length):
+    """The form, and a key of each length that it has; a wrapped key in neither form is refused."""
+    token, key = Token(), bytes(at % 249 for at in range(length - 3 * padded))
+    if not padded and length == 8:
+        return
+    wrapped = WRAPS[padded](KEK, key)
+    assert steps.unwrap_any(token.decrypt, bytearray(wrapped)) == (key, list(keywrap.Kind)[padded])
+    with pytest.raises(keywrap.IntegrityFailed):
+        steps.unwrap_any(token.decrypt, bytes([wrapped[0] ^ 1]) + wrapped[1:])
+    with pytest.raises(keywrap.BadLength):
+        steps.unwrap_any(token.decrypt, wrapped[:-1])
+
+
+NEW_KEK = bytes(range(100, 124))
+FLAGS = [dict(zip(("old_padded", "new_padded", "keep_form"), flags)) for flags in (
+    (False, False, False), (False, True, False), (True, False, False), (True, True, False), (False, False, True))]
+
+
+@pytest.mark.parametrize("flags", FLAGS, ids=str)
+@pytest.mark.parametrize("pass_new", [False, True])
+def test_rewrap(flags, pass_new):
+    """The result or the refusal of the call with both KEKs, of texts under each KEK in each form, and of none."""
+    old, new = Token(), Token(NEW_KEK)
+    texts = [WRAPS[padded](kek, bytes(length)) for padded in (False, True) for kek in (KEK, NEW_KEK)
+             for length in (5, 8, 16, 24, 27, 40) if padded or length >= 16 and length % 8 == 0]
+    for text in [*texts, bytes(24), bytes(16), bytes(20), b"", bytes([texts[0][0] ^ 1]) + texts[0][1:]]:
+        def by_steps(text=text):
+            return steps.rewrap(old.decrypt, new.encrypt, text, **flags, pass_new=new.decrypt if pass_new else None)
+
+        try:
+            due = keywrap.rewrap(KEK, NEW_KEK, text, **flags, pass_new=pass_new)
+        except keywrap.KeywrapError as error:
+            with pytest.raises(type(error), match=re.escape(str(error))):
+                by_steps()
+        else:
+            assert by_steps() == by_steps(bytearray(text)) == due
+
+
+def test_rewrap_with_a_callable_that_fails():
+    """It passes through, after the buffers are wiped, and the caller's text is as it was."""
+    def fails(blocks):
+        raise OSError("no token")
+
+    text = bytearray(pyca.aes_key_wrap(KEK, bytes(16)))
+    for ciphers_of in (fails, Token(NEW_KEK).encrypt), (Token().decrypt, fails):
+        with pytest.raises(OSError, match="no token"):
+            steps.rewrap(*ciphers_of, text)
+    assert text == pyca.aes_key_wrap(KEK, bytes(16))

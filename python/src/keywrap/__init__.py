@@ -4,6 +4,10 @@ A key-encryption key (KEK) of 16, 24 or 32 bytes wraps a key: plain, of a multip
 on, or padded, of any length from 1 on; both up to 1,048,576 bytes. Arguments are bytes-like objects.
 An argument that is not `bytes` is copied first, and the copy is wiped. Other threads run during a
 call.
+
+`keywrap.steps` has the calls for a KEK in a token or a KMS, and `keywrap.pyca` the functions of
+`cryptography.hazmat.primitives.keywrap`. `python3 -m keywrap.rotate --help` is about the keys of files,
+tables and objects under a new KEK, `python3 -m keywrap.vectors --help` about published test vectors.
 """
 
 from __future__ import annotations

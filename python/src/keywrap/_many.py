@@ -7,7 +7,7 @@ from __future__ import annotations
 
 from typing import TYPE_CHECKING, Iterable, List, NamedTuple, Optional, Tuple, Union
 
-from . import KeywrapError, Kind, _ffi, _flags, _on_copies, _refusals
+from . import KeywrapError, Kind, _ffi, _flags, _on_copies, _refusals, check
 from ._refusals import BadLength
 
 if TYPE_CHECKING:
@@ -62,7 +62,7 @@ def _slots(items: Items, length: Optional[int], what: str, gap: int = 0, padded:
         buffer = bytearray(zeros + gap).join([b"", *parts, b""] if zeros + gap else parts)
     except BadLength:
         raise
-    except (TypeError, ValueError, BufferError):
+    except (TypeError, ValueError, BufferError, NotImplementedError):  # the last one of a view of two dimensions
         raise TypeError("a list of contiguous bytes-like objects is required, or one and a length") from None
     slots = _Slots(buffer, zeros, len(parts), each)
     if len(buffer) != len(parts) * (gap + each + zeros) + gap + zeros:
@@ -159,13 +159,16 @@ def rewrap_many(
         given = {"old_padded": old_padded, "new_padded": new_padded, "keep_form": keep_form, "pass_new": pass_new}
         return _on_copies(rewrap_many, old_kek, new_kek, wrapped=wrapped, length=length, **given)
     slots = _slots(wrapped, length, "the wrapped key")
+    if not slots.number:
+        return []
     statuses = rewrap_slots(old_kek, new_kek, slots.buffer, slots.length, flags)
     return _results(slots.each(slots.length), statuses, "")
 
 
 def rewrap_slots(old_kek: bytes, new_kek: bytes, texts: bytearray, length: int, flags: int) -> bytearray:
     """Rewraps the wrapped keys in the slots of `texts`, and returns their statuses. A refused one stays as it is."""
-    statuses = bytearray(len(texts) // length if length else 0)
+    # Keys of no bytes are refused as one is.
+    statuses = bytearray(len(texts) // length if length else 1)
     if statuses:
         keks = old_kek, len(old_kek), new_kek, len(new_kek)
         status = _lib.keywrap_rewrap_many(*keks, _from(texts), len(texts), flags, _from(statuses), len(statuses))
@@ -174,30 +177,14 @@ def rewrap_slots(old_kek: bytes, new_kek: bytes, texts: bytearray, length: int, 
     return statuses
 
 
-def hex_slots(lines: Union[bytes, bytearray], number: int, length: int) -> Optional[bytearray]:
-    """Returns the keys in lines that are hex digits for `length` bytes and LF, or `None` if any line is something else.
-
-    A wrapped key's length is a multiple of 8. Any other length is left to the caller.
-    """
-    keys = bytearray(number * length)
-    if len(lines) != number * (2 * length + 1) or not _lib.hex_lines(_from(lines), number, 2 * length, _from(keys)):
-        return None
-    return keys
-
-
-def hex_text(keys: Union[bytes, bytearray], length: int) -> bytearray:
-    """Returns keys of `length` bytes, a multiple of 8, as lines of hex digits."""
-    number = len(keys) // length
-    lines = bytearray(number * (2 * length + 1))
-    _lib.hex_text(_from(keys), number, length, _from(lines))
-    return lines
-
-
 def check_many(kek: ReadableBuffer, wrapped: Items, length: Optional[int] = None) -> List[Optional[Kind]]:
     """Checks wrapped keys of one length, and returns for each what `check` does. For the arguments see `wrap_many`."""
     if type(kek) is not bytes:
         return _on_copies(check_many, kek, wrapped=wrapped, length=length)
     slots = _slots(wrapped, length, "the wrapped key")
+    if not slots.length:
+        # Keys of no bytes are refused as one is.
+        return [check(kek, b"") for _ in range(slots.number)]
     statuses, forms = check_slots(kek, slots.buffer, slots.length)
     return [None if status else _KINDS[form] for status, form in zip(statuses, forms)]
 

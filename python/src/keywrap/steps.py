@@ -13,10 +13,10 @@ blocks are key material.
 from __future__ import annotations
 
 import functools
-from typing import TYPE_CHECKING, Any, Callable, List, NamedTuple, Optional, Union
+from typing import TYPE_CHECKING, Any, Callable, List, NamedTuple, Optional, Tuple, Union
 
-from . import KeywrapError, _copied, _ffi, _on_copies, _refusals
-from ._many import _results, _Slots, _slots
+from . import KeywrapError, Kind, _copied, _ffi, _flags, _on_copies, _refusals
+from ._many import _KINDS, ALREADY, _results, _Slots, _slots
 
 if TYPE_CHECKING:
     from _typeshed import ReadableBuffer
@@ -25,7 +25,7 @@ if TYPE_CHECKING:
 
     Cipher = Callable[[bytes], ReadableBuffer]
 
-__all__ = ["unwrap", "unwrap_many", "unwrap_padded", "wrap", "wrap_many", "wrap_padded"]
+__all__ = ["rewrap", "unwrap", "unwrap_any", "unwrap_many", "unwrap_padded", "wrap", "wrap_many", "wrap_padded"]
 
 _lib = _ffi.lib
 _from = _ffi.ffi.from_buffer
@@ -60,6 +60,61 @@ def unwrap_padded(decrypt: Cipher, wrapped: ReadableBuffer) -> bytes:
     if type(wrapped) is not bytes:
         return _on_copies(functools.partial(unwrap_padded, decrypt), wrapped)
     return _only(_unwrap(decrypt, [wrapped], None, _DEFAULT_IV, True))
+
+
+def unwrap_any(decrypt: Cipher, wrapped: ReadableBuffer) -> Tuple[bytes, Kind]:
+    """Returns what `keywrap.unwrap_any` returns, with AES by `decrypt`."""
+    if type(wrapped) is not bytes:
+        return _on_copies(functools.partial(unwrap_any, decrypt), wrapped)
+    padded = _new("uint32_t *")
+    key = _only(_unwrap(decrypt, [wrapped], None, _DEFAULT_IV, True, padded))
+    return key, _KINDS[padded[0]]
+
+
+def rewrap(
+    decrypt: Cipher,
+    encrypt: Cipher,
+    wrapped: ReadableBuffer,
+    old_padded: bool = False,
+    new_padded: bool = False,
+    *,
+    keep_form: bool = False,
+    pass_new: Optional[Cipher] = None,
+) -> bytes:
+    """Returns what `keywrap.rewrap` returns: `decrypt` has the old KEK, and `encrypt` the new one.
+
+    With `pass_new`, which decrypts under the new KEK, a wrapped key that is already under it, in the form of a
+    result, is returned unchanged.
+    """
+    if type(wrapped) is not bytes:
+        given = {"old_padded": old_padded, "new_padded": new_padded, "keep_form": keep_form, "pass_new": pass_new}
+        return _on_copies(functools.partial(rewrap, decrypt, encrypt), wrapped, **given)
+    flags = _flags(old_padded, new_padded, keep_form, pass_new is not None)
+    text, blocks = bytearray(wrapped), bytearray(_BLOCK)
+    ours, block = _from("uint8_t[]", text), _from("uint8_t[]", blocks)
+    steps, phase = _new("uint64_t *"), _new("uint32_t *")
+    old, new = _lib.KEYWRAP_DECRYPT, _lib.KEYWRAP_NEW
+    ciphers = {old: decrypt, new: encrypt}
+    if pass_new is not None:
+        ciphers[old | new] = pass_new
+    try:
+        status = _lib.keywrap_begin_rewrap(flags, ours, len(text), phase, steps, block)
+        while phase[0]:
+            step = _lib.step_unwrap_each if phase[0] & _lib.KEYWRAP_DECRYPT else _lib.step_wrap_each
+            for _ in range(_lib.keywrap_step_count(len(text) - 8)):
+                _replace(blocks, ciphers[phase[0] & (old | new)])
+                if step(ours, len(text), 1, steps, block):
+                    raise RuntimeError("internal error: a step was refused")
+            status = _lib.keywrap_next_rewrap_from(
+                flags, wrapped, len(wrapped), ours, len(text), phase, steps, block
+            )
+        if status not in (_lib.KEYWRAP_OK, ALREADY):
+            legal = _refusals.WRAPPED_PADDED if old_padded or keep_form else _refusals.WRAPPED_PLAIN
+            raise _refusals.refusal(status, "the wrapped key", len(wrapped), legal)
+        return bytes(text)
+    finally:
+        _lib.wipe(ours, len(text))
+        _lib.wipe(block, len(blocks))
 
 
 def wrap_many(encrypt: Cipher, keys: Items, length: Optional[int] = None, *, padded: bool = False) -> List[bytes]:
@@ -120,8 +175,9 @@ def _wrap(encrypt: Cipher, keys: Items, length: Optional[int], iv: bytes, padded
 
 
 def _unwrap(
-    decrypt: Cipher, wrapped: Items, length: Optional[int], iv: bytes, padded: bool
+    decrypt: Cipher, wrapped: Items, length: Optional[int], iv: bytes, padded: bool, form: Any = None
 ) -> List[Union[bytes, KeywrapError]]:
+    """Unwraps in the given form, or of one text in the form that it has, which is written to `form`."""
     slots = _slots(wrapped, length, "the wrapped key")
     # A text that is too short has its first 8 bytes, too.
     slots.buffer.extend(bytes(8))
@@ -134,6 +190,8 @@ def _unwrap(
         return call(text, text + 8, size, left, block)
 
     def end(at: int, text: Any, left: int, block: Any) -> Any:
+        if form:
+            return _lib.keywrap_end_unwrap_any(text + 8, size, left, block, form, sizes + at)
         if padded:
             return _lib.keywrap_end_unwrap_padded(text + 8, size, left, block, sizes + at)
         return _lib.keywrap_end_unwrap(iv, len(iv), text + 8, size, left, block)

@@ -1,0 +1,35 @@
+#!/usr/bin/env bash
+# Runs what takes too long for the gate, before a release. For each line of tests/evidence.txt it writes
+# docs/evidence/NAME: what was tried, with its SHA-256, and the end of the output. The first failure ends it.
+#
+# usage: scripts/evidence.sh [NAME..]        only these lines, if one is named
+#        scripts/evidence.sh --stale         runs nothing, and prints the names of which something was changed since
+
+set -euo pipefail
+cd "$(dirname "${BASH_SOURCE[0]}")/.."
+
+# tried PATH..: the SHA-256 of each file, and of the list of checksums of a directory's files that git knows.
+tried() {
+    local path
+    for path in "$@"; do
+        if [ -f "$path" ]; then sha256sum "$path"; else
+            git ls-files -z -- "$path" | xargs -0 sha256sum | sha256sum | sed "s|-$|$path|"
+        fi
+    done
+}
+
+stale=
+[ "${1:-}" != --stale ] || { stale=yes && shift; }
+while IFS='|' read -r name paths command <&3; do
+    [ $# = 0 ] || [[ " $* " = *" $name "* ]] || continue
+    # shellcheck disable=SC2086
+    sums=$(tried $paths)
+    if [ -n "$stale" ]; then
+        [ "$sums" = "$(sed '/^$/,$d' "docs/evidence/$name" 2>/dev/null)" ] || echo "$name"
+        continue
+    fi
+    echo "$name: $command"
+    said=$(bash -c "$command" 2>&1) || { echo "$said" && echo "evidence: $name failed" && exit 1; }
+    mkdir -p docs/evidence
+    printf '%s\n\n%s\n\n%s\n' "$sums" "$command" "$(tail -n 5 <<<"$said")" >"docs/evidence/$name"
+done 3< <(sed -n 's/ *| */|/g; /^[^#]/p' tests/evidence.txt)
