@@ -1,7 +1,7 @@
 #!/usr/bin/env python3
 """Writes what follows from the sources: the completions of the three shells and the synopsis of the manual page; the
-map of the crates in docs/ARCHITECTURE.md; the names of the calls for linkers; the calls in Rust; the numbers and texts
-of statuses, the flags and the lengths in each language; and README's table of exit statuses.
+map of the crates in docs/ARCHITECTURE.md; the names of the calls for linkers; the calls in Rust; and the numbers and
+texts of statuses, the flags and the lengths in each language.
 
 The sources are the options and the help in crates/keywrap_args, the statuses and their texts in
 crates/keywrap_calls/src, crates.txt, and the prototypes and flags of keywrap.h and keywrap_steps.h.
@@ -25,7 +25,6 @@ HEADERS = "c/include/keywrap.h", "c/include/keywrap_steps.h"
 # The files with the number of each status, and how one is written there. Java only has some of them.
 STATUSES = {
     "c/include/keywrap.h": r"KEYWRAP_{}\b = (\d+)",
-    "docs/C_LIBRARY.md": r"`KEYWRAP_{}`, (\d+)",
     "js/calls.js": r"const {} = (\d+)",
     JAVA: r"int {} = (\d+)",
 }
@@ -143,17 +142,6 @@ def lacking():
                     if not re.search(rf"Fl -{option.name}(?![\w-])", items)]
 
 
-def readme():
-    """README with the exit statuses of the program, from the end of its help. What to try, which the help also has,
-    would make the rows too long."""
-    notes = re.search(r"Exit status:\n((?:  .*\n)+)", read("crates/keywrap_args/src/help.rt"))[1]
-    rows = "".join(f"| {number} | {means} |\n" for number, means in re.findall(r"^  (\d+)  (.*)$", notes, re.M))
-    text, count = re.subn(r"(?<=\| Status \| Means \|\n\|---\|---\|\n)(?:\| \d \|.*\n)*", lambda _: rows,
-                          read("README.md"))
-    assert count == 1, "README.md lacks the table of exit statuses"
-    return text
-
-
 def crate_map():
     """The crates and the crates below them, from crates.txt, as a Mermaid graph."""
     below = {}
@@ -184,7 +172,6 @@ def results():
     yield "docs/ARCHITECTURE.md", part("docs/ARCHITECTURE.md", crate_map())
     yield "c/include/keywrap.map", export_map()
     yield "c/hardware/names", renamed()
-    yield "README.md", readme()
     for name in sorted({*STATUSES, *NUMBERS, *TEXTS}):
         text = rust() if name == RUST else read(name)
         for patterns, values in (STATUSES, statuses), (NUMBERS, header_numbers), (TEXTS, texts):

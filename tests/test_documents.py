@@ -60,9 +60,9 @@ def test_lines_without_the_kit():
     for page, heading in sections:
         packages, *lines = page_lines(text_of(page), heading)
         assert packages.startswith("apt-get install ") and 1 <= len(lines) <= 4, (page, lines)
-    languages, = re.findall("^## Use it from a language\n(.*?)^## ", text_of("README.md"), re.M | re.S)
+    languages, = re.findall(r"^## Use it from a language\n\n((?:\|.*\n)+)", text_of("README.md"), re.M)
     linked = {*re.findall(r"\]\(([^)#]*)", languages)}
-    assert len(linked) == 8 and linked - {page for page, _ in sections} == {"docs/LIBRARY.md"}
+    assert len(linked) == 9 and linked - {page for page, _ in sections} == {"docs/CONTRACTS.md", "docs/INSTALLING.md"}
 
 
 @pytest.mark.needs("git")
@@ -100,7 +100,8 @@ def test_map():
 class TestRepeatedFacts:
     def test_no_licence(self):
         """README says that there is no licence, and no file gives one."""
-        assert "No licence has been given yet: the owner decides." in " ".join(text_of("README.md").split())
+        words = "There is no licence and no published release yet: the owner decides about both."
+        assert words in " ".join(text_of("README.md").split())
         tracked = subprocess.run(["git", "-C", ROOT, "ls-files"], capture_output=True, text=True).stdout.splitlines()
         assert [name for name in tracked if re.match(r"(?i)licen[cs]e|copying|copyright$", name.split("/")[-1])] == []
         for name in "python/pyproject.toml", "python/setup.py", "js/package.json.in", "dist/Cargo.toml":
@@ -171,15 +172,11 @@ class TestRepeatedFacts:
         assert subprocess.run(search, cwd=ROOT, stdout=subprocess.PIPE, text=True).stdout == f"{sources}\n"
 
     def test_first_screen(self):
-        """README is short, and its first paragraph has what decides for a visitor."""
+        """README is short, and has what decides for a visitor."""
         page = text_of("README.md")
-        assert len(re.sub('<img src=.* alt="(.*)">', r"\1", page).split()) <= 1200
-        assert len(text_of("docs/UPGRADING.md").split()) <= 300
-        first = " ".join(page.split("\n\n")[1].split())
-        assert re.search("^`keywrap` encrypts .* licence .* A version is a commit .* the kit of Rattle ", first)
-        for answer in ("none is published yet", "not a validated FIPS 140 module",
-                       "aarch64, tested under qemu only", "we know no outside review", "does not wipe its memory",
-                       "is [measured](SECURITY.md), not proved"):
+        assert len(page.split()) <= 750
+        for answer in ("is not public", "not a validated FIPS 140 module", "we know no outside review",
+                       "does not wipe its memory", "**Tested, not proved**", "[timing](SECURITY.md)"):
             assert answer in " ".join(page.split())
 
     def test_times(self):
@@ -206,15 +203,13 @@ class TestRepeatedFacts:
             "README.md\ndist/command/program.c\ndist/keywrap.c\n")
 
     def test_calls_since_1_1(self):
-        """The header, its page and the changes have the calls of keywrap.map's second version."""
+        """The header and the changes have the calls of keywrap.map's second version."""
         header, changes = text_of("c/include/keywrap.h"), text_of("CHANGELOG.md").partition("### New\n")[2]
         second = re.search(r"KEYWRAP_1.1 \{(.*?)\}", text_of("c/include/keywrap.map"), re.S)[1]
         new = {call for call in re.findall(r"(keywrap_\w+);", second) if re.search(rf"\b{call}\(", header)}
         assert len(new) >= 4
         blocks = [block for block in header.split("\n/* ") if re.search("version 1\\.1[.:]", block.replace("\n *", ""))]
         assert {call for block in blocks for call in re.findall(r"^\w+ (keywrap_\w+)\(", block, re.M)} == new
-        page = " ".join(text_of("docs/C_LIBRARY.md").split())
-        assert set(re.findall(r"`(keywrap_\w+)[^`]*` \(since 1\.1\)", page)) == new
         listed = re.search(r"^C, .*?:\n\n(.*?)\n\n", changes, re.M | re.S)[1]
         assert set(re.findall(r"`(keywrap_[a-z_]+)`", listed)) == new
 
@@ -230,8 +225,8 @@ class TestRepeatedFacts:
         assert any(words in path.read_text() for path in ROOT.glob("crates/keywrap_cli/src/**/*.rt"))
 
     def test_example_in_rattle(self):
-        """The blocks of docs/LIBRARY.md are lines of the crate that it shows, and crates.txt has the same crates."""
-        page = text_of("docs/LIBRARY.md")
+        """The blocks of docs/CONTRACTS.md are lines of the crate that it shows, and crates.txt has the same crates."""
+        page = text_of("docs/CONTRACTS.md")
         sources = [f"\n{path.read_text()}" for place in ("src", "specs")
                    for path in ROOT.glob(f"crates/example_caller/{place}/*") if path.is_file()]
         blocks = re.findall(r"^```.*\n((?:.*\n)*?)```", page, re.M)

@@ -27,19 +27,20 @@ def numbers_of(text):
 
 class TestMeasured:
     def test_keys_of_the_pictures(self):
-        """README has the length of the keys in the recorded rotation, and of those in docs/pictures/lines.csv. Their
-        rates differ as the block calls do."""
-        readme = words_of("README.md")
+        """The pages have the length of the keys in the recorded rotation, and of those in docs/pictures/lines.csv.
+        Their rates differ as the block calls do."""
         recorded = int(text_of("docs/pictures/rotation.txt").split()[1])
         length, = {row[2] for row in measured("lines")[1:]}
-        assert f'rotation.svg" width="480" alt="A terminal that rotates a million keys of {recorded} bytes"' in readme
-        assert f"keys of {length} bytes per second with `--lines`](docs/pictures/lines.svg)" in readme
+        words = f'rotation.svg" width="480" alt="A terminal that rotates a million keys of {recorded} bytes"'
+        assert words in words_of("docs/RECIPES.md")
+        words = f"keys of {length} bytes per second with `--lines`](pictures/lines.svg)"
+        assert words in words_of("docs/C_LIBRARY.md")
         rate = int(re.search(r"during: .* (\d+) a second", text_of("docs/pictures/rotation.txt"))[1])
         lines, = [int(row[3]) for row in measured("lines") if row[:2] == ["keywrap --lines", "rewrap"]]
         assert 0.75 < rate * recorded / (lines * int(length)) < 1.33
 
     def test_times_of_the_libraries(self):
-        """docs/C_LIBRARY.md has the times of docs/pictures/wrap.csv. README and docs/OPENSSL.md compare them."""
+        """docs/C_LIBRARY.md has the times of docs/pictures/wrap.csv, and compares them as docs/OPENSSL.md does."""
         times = {tuple(row[:5]): float(row[5]) for row in measured("wrap")[1:] if row[2] == "32"}
         by_name = {"keywrap": "keywrap,software", "portable C": "portable,software", "OpenSSL 3.0": "openssl,software",
                    "one table": "C,software", "libgcrypt 1.10": "gcrypt,AES inst.",
@@ -61,7 +62,7 @@ class TestMeasured:
         numbers = [float(f"{short[name]:.2g}") for name in ("OpenSSL 3.0", "libgcrypt 1.10", "nettle 3.8")]
         text = ("takes {:g} times as long as OpenSSL 3.0's, and {:g} to {:g} times as long as libgcrypt 1.10's and "
                 "nettle 3.8's with AES instructions")
-        assert text.format(*numbers) in words_of("README.md")
+        assert text.format(*numbers) in words_of("docs/C_LIBRARY.md")
         for library in ["keywrap", "software"], ["hardware", "AES inst."]:                # docs/DECISIONS.md: a fifth
             call = [float(row[5]) for row in measured("wrap") if row[:4] == [*library, "32", "wrap"]]
             assert 0.15 < (call[0] - min(call)) / call[0] < 0.25
@@ -116,13 +117,13 @@ class TestMeasured:
     @slow
     @pytest.mark.needs("rt")
     def test_time_of_a_try(self):
-        """README has it in minutes. This is time of processors, which a busy machine makes longer."""
+        """CONTRIBUTING has it in minutes. This is time of processors, which a busy machine makes longer."""
         before = os.times()
         run("rt", "try", "--", "wrap", "--help", cwd=ROOT / "crates/keywrap")
         after = os.times()
         took = after.children_user + after.children_system - before.children_user - before.children_system
         assert took < 150
-        assert "rt try -- wrap --help` runs it in one or two minutes" in words_of("README.md")
+        assert "before proof, the program in one or two minutes" in words_of("CONTRIBUTING.md")
 
 
 class TestSources:
@@ -136,7 +137,7 @@ class TestSources:
                  "docs/OPENSSL.md": {longest}, "python/README.md": {longest}, "java/README.md": {longest}}
         for page, limits in pages.items():
             assert {number for number in numbers_of(text_of(page)) if 10 ** 6 <= number < 10 ** 7} == limits, page
-        assert longest == 1 << 20 and "both up to 1 MiB" in words_of("README.md")
+        assert longest == 1 << 20 and "All refuse keys over 1 MiB." in words_of("CHANGELOG.md")
 
     def test_memory_of_a_module(self):
         """js/README.md has the memory that the module is linked with."""
@@ -149,12 +150,11 @@ class TestSources:
         assert f"{round(lines, -2):,} lines of C in `c/hardware/`" in words_of("docs/C_LIBRARY.md")
 
     def test_glibc(self):
-        """README and the archive's README name what the Debian package depends on, and what the wheel's name says."""
+        """The pages name what the Debian package depends on, and what the wheel's name says."""
         needed, = re.findall(r"deb keywrap .* Depends .* libc6 \(>= (.*)\)", text_of("tests/handed_out.txt"))
-        assert f"glibc {needed} or newer" in words_of("README.md")
+        assert f"Linux, x86-64-v2, glibc {needed} |" in words_of("docs/INSTALLING.md")
         assert f"glibc {needed} or newer" in words_of("packaging/templates/README.in")
         wheel, = set(re.findall(r"manylinux_(\d+_\d+)_", text_of("docs/INSTALLING.md")))
-        assert f"SSE4.1 and glibc {wheel.replace('_', '.')}" in words_of("README.md")
         assert f"glibc {wheel.replace('_', '.')} or newer" in words_of("python/README.md")
 
     def test_crates(self):
@@ -177,5 +177,4 @@ class TestSources:
     def test_vectors(self, keywrap):
         lines = keywrap("vectors").stdout.splitlines()
         assert len(lines) == 12 and all(line.endswith(" ok") for line in lines)
-        assert "on twelve published vectors" in words_of("README.md")
         assert "Runs the twelve published test vectors" in words_of("command/man/keywrap.1")

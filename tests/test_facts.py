@@ -23,7 +23,8 @@ def sheet(machine):
     rows = [[field.strip(" `") for field in line.split("|")[1:-1]]
             for line in PAGE.partition("## Fact sheet")[2].partition("\n## ")[0].splitlines() if line.startswith("|")]
     column = rows[0].index(machine)
-    return {row[0]: tuple(int(part.replace(",", "")) for part in row[column].split(" / ")) for row in rows[2:]}
+    return {row[0].split("`")[0]: tuple(int(part.replace(",", "")) for part in row[column].split(" / "))
+            for row in rows[2:]}
 
 
 class Library:
@@ -85,12 +86,13 @@ def facts(once, request):
 @pytest.mark.parametrize("machine", all_of(["x86-64", "aarch64", "portable C on 32-bit Arm"], ["x86-64"]))
 class TestEachMachine:
     def test_code_and_stack(self, facts, machine):
-        """No call takes more than the sheet has, and none takes less than four fifths."""
+        """The smallest call, the largest and two others take at most what the sheet has, and at least four fifths."""
         library, documented = facts(machine), sheet(machine)
-        assert sorted(documented) == sorted(CALLS)
+        sizes = {call: library.code(call) for call in CALLS}
+        assert [*documented] == [min(sizes, key=sizes.get), "keywrap_wrap", "keywrap_rewrap", max(sizes, key=sizes.get)]
         stacks = library.stacks()
         for call, (code, stack) in documented.items():
-            assert 0.8 * code <= library.code(call) <= code, call
+            assert 0.8 * code <= sizes[call] <= code, call
             assert 0.8 * stack <= stacks[call] <= stack, call
 
     def test_no_data(self, facts, machine):

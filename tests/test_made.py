@@ -39,8 +39,7 @@ def test_nothing_changed(tree):
 
 def test_number_of_a_status(tree):
     replace(tree / "crates/keywrap_calls/src/status.rt", "BAD_LENGTH: i32 = 4;", "BAD_LENGTH: i32 = 44;")
-    changed = {"c/include/keywrap.h", "docs/C_LIBRARY.md", "dist/src/sys.rs", "js/calls.js",
-               "java/keywrap/Library.java"}
+    changed = {"c/include/keywrap.h", "dist/src/sys.rs", "js/calls.js", "java/keywrap/Library.java"}
     assert written(tree) == changed
     for name in changed:
         assert re.search(r"BAD_LENGTH\W.{0,10}\b44\b", (tree / name).read_text()), name
@@ -52,7 +51,7 @@ def test_new_status(tree):
     status.write_text(f"{status.read_text()}pub const TOO_MANY: i32 = 9;\n")
     ended = subprocess.run([tree / "scripts/facts.py"], capture_output=True, text=True)
     assert ended.returncode == 1 and ended.stdout.splitlines() == [f"{name}: lacks the status TOO_MANY" for name in (
-        "c/include/keywrap.h", "docs/C_LIBRARY.md", "js/calls.js", "dist/keywrap.go", "dist/src/error.rs")]
+        "c/include/keywrap.h", "js/calls.js", "dist/keywrap.go", "dist/src/error.rs")]
     assert "\n    KEYWRAP_TOO_MANY: i32 = 9;\n" in (tree / "dist/src/sys.rs").read_text()
 
 
@@ -105,14 +104,8 @@ int32_t keywrap_kind(""")
 """ in (tree / "dist/src/sys.rs").read_text()
 
 
-def test_exit_status(tree):
-    replace(tree / "crates/keywrap_args/src/help.rt", "  7  out of memory\n", "  7  no memory\n")
-    assert written(tree) == {"README.md"}
-    assert "| 7 | no memory |" in (tree / "README.md").read_text()
-
-
 def test_new_exit_status(tree):
-    """It is missed in the help and in the manual page. The table of README has the lines of the help."""
+    """It is missed in the help and in the manual page."""
     statuses = tree / "crates/keywrap_cli/src/statuses.rt"
     statuses.write_text(f"{statuses.read_text()}pub const LOCKED: u8 = 8;\n")
     text, page = tree / "crates/keywrap_args/src/help.rt", tree / "command/man/keywrap.1"
@@ -120,7 +113,6 @@ def test_new_exit_status(tree):
     assert subprocess.run([tree / "scripts/facts.py"], capture_output=True, text=True).stdout == "".join(lacks)
     replace(text, "  7  out of memory\n", "  7  out of memory\n  8  a lock\n     Wait.\n")
     assert subprocess.run([tree / "scripts/facts.py"], capture_output=True, text=True).stdout == lacks[1]
-    assert "\n| 7 | out of memory |\n| 8 | a lock |\n| 70 |" in (tree / "README.md").read_text()
     replace(page, ".It 7\n", ".It 8\nA lock.\n.It 7\n")
     assert written(tree) == set()
 

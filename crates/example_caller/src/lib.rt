@@ -1,5 +1,5 @@
 //! An example of a caller: code that a repository that takes the crates may write over them. No
-//! crate depends on it. `docs/LIBRARY.md` shows parts of it unchanged.
+//! crate depends on it. `docs/CONTRACTS.md` shows parts of it unchanged.
 #![tactic(auto)]
 
 pub mod in_place;
