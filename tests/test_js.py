@@ -149,7 +149,7 @@ def test_page(programs):
         timeout=1200)
 
 
-HEAD = """import { load, BadLength, KeyNotPlain, type Kind, type Keywrap } from "keywrap";
+HEAD = """import { load, BadLength, KeyNotPlain, KeywrapError, type Kind, type Keywrap } from "keywrap";
 import { load as loadInline } from "keywrap/inline";
 const k = await load(), inline: Keywrap = await loadInline(); const b = new Uint8Array();
 """
@@ -157,21 +157,30 @@ RIGHT = HEAD + """const kind: Kind | null = k.check(k.wrap(b, b), k.rewrap(b, b,
 k.rewrap(b, b, b, { oldPadded: true, keepForm: false }); k.wrap(b, b, { iv: b }); k.unwrap(b, b, { iv: b });
 k.unwrapPadded(b, k.wrapPadded(b, b)); const text: string = k.version; const error: BadLength = new KeyNotPlain();
 k.rewrap(b, b, b, { passNew: true }); const key: Uint8Array = k.unwrapAny(b, b).key;
+const wrapped: Uint8Array[] = k.wrapMany(b, [b]); const kinds: (Kind | null)[] = k.checkMany(b, [b]);
+const results: (Uint8Array | KeywrapError)[][] = [k.unwrapMany(b, [b]), k.rewrapMany(b, b, [b])];
 """
-# A result is not a string, a padded form has no initial value, and what load returns cannot be changed.
+# A result is not a string, a padded form has no initial value, and what load returns cannot be changed. A refusal among
+# many results is not a key, and nothing found is not a kind.
 WRONG = HEAD + """const text: string = k.wrap(b, b, { iv: b });
 k.wrapPadded(b, b, { iv: b });
 k.version = '1.0.0';
+const unwrapped: Uint8Array[] = k.unwrapMany(b, [b]);
+const rewrapped: Uint8Array[] = k.rewrapMany(b, b, [b]);
+const kinds: Kind[] = k.checkMany(b, [b]);
 """
 
 
 @pytest.mark.needs("tsc")
 def test_types(programs):
-    """tsc refuses the last three lines of the wrong program, each for its reason, and nothing else."""
+    """tsc refuses the last lines of the wrong program, each for its reason, and nothing else."""
     for name, program in ("right.mts", RIGHT), ("wrong.mts", WRONG):
         (programs / name).write_text(program)
     options = ["--noEmit", "--strict", "--target", "es2022", "--module", "node16", "--moduleResolution", "node16"]
     ended = subprocess.run(["tsc", *options, "right.mts", "wrong.mts"], cwd=programs, capture_output=True, text=True)
-    refused = re.findall(r"^wrong\.mts\((\d),.*(type 'string'|Expected 2 arguments|read-only)", ended.stdout, re.M)
-    assert refused == [("4", "type 'string'"), ("5", "Expected 2 arguments"), ("6", "read-only")], ended.stdout
-    assert len(re.findall(r"^\S", ended.stdout, re.M)) == 3
+    refused = dict(re.findall(r"^wrong\.mts\((\d),(.*)", ended.stdout, re.M))
+    reasons = ["type 'string'", "Expected 2 arguments", "read-only", "to type 'Uint8Array[]'", "to type 'Uint8Array[]'",
+               "to type 'Kind[]'"]
+    assert [*refused] == [str(4 + at) for at in range(len(reasons))], ended.stdout
+    assert all(reason in said for reason, said in zip(reasons, refused.values())), ended.stdout
+    assert len(re.findall(r"^\S", ended.stdout, re.M)) == len(reasons)
