@@ -210,7 +210,7 @@ class TestRepeatedFacts:
         assert len(new) >= 4
         blocks = [block for block in header.split("\n/* ") if re.search("version 1\\.1[.:]", block.replace("\n *", ""))]
         assert {call for block in blocks for call in re.findall(r"^\w+ (keywrap_\w+)\(", block, re.M)} == new
-        listed = re.search(r"^C, .*?:\n\n(.*?)\n\n", changes, re.M | re.S)[1]
+        listed = re.search(r"^- \*\*C\*\*, whose .*?;", changes, re.M | re.S)[0]
         assert set(re.findall(r"`(keywrap_[a-z_]+)`", listed)) == new
 
     @pytest.mark.parametrize("words, elsewhere", [
