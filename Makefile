@@ -63,9 +63,9 @@ version:
 build:
 	@./keywrap --version >/dev/null
 
-# The scripts prove and build what is not built yet, and nothing else.
+# The scripts prove and build what is not built yet, and nothing else. Options of this make are not for those of tests.
 test:
-	@scripts/tests.sh
+	@unset MAKEFLAGS MAKELEVEL && scripts/tests.sh
 
 packages:
 	scripts/packages.sh

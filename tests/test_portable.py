@@ -247,7 +247,7 @@ def test_makefile(copied):
     """The check says what it ran, the shared object has its name, and `make clean` leaves what was there."""
     need("cc")
     before = sorted(directory_files(copied))
-    assert run("make", "-C", copied, "check").splitlines()[-2] == RIGHT
+    assert RIGHT in run("make", "-C", copied, "check").splitlines()
     assert "alloc" not in run("nm", "-u", f"{copied}/keywrap.o")
     run("make", "-C", copied, "shared")
     assert "[libkeywrap.so.1]" in run("readelf", "-d", f"{copied}/libkeywrap.so.1")
