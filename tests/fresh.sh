@@ -76,8 +76,11 @@ readme() {
         cp -a "$fresh/built/." machine/home/user/keywrap/crates && ln -s "$kit/bin/rt" machine/usr/local/bin' || return
     as_root "$workdir/machine" "$(head -n 1 commands)" >said 2>&1
     verdict 'README: the packages' "$(problem $?)" || return
-    as_user "$workdir/machine" "set -ex; cd keywrap; $(tail -n +2 commands)" >said 2>&1
+    as_user "$workdir/machine" "TIMEFORMAT='%0R s, and %0U + %0S s of processor'
+        set -ex; cd keywrap; $(tail -n +2 commands | sed 's/^/time /')" >said 2>&1
     verdict 'README: the commands' "$(problem $?)"
+    grep ' of processor$' said
+    sed -i '/ of processor$/d' said
     tail -n 30 said
     last=$(tail -n 1 said)
     verdict 'README: no row fails' "$([[ $last =~ ^[0-9]+\ passed,\ 0\ failed, ]] || echo "the last line is: $last")"
@@ -102,10 +105,10 @@ page() {
             unshare -n su -l user -c \"set -ex; cd keywrap; . <(tail -n +2 /home/commands)\""' "$root" >said 2>&1
     verdict "$1: $2" "$(problem $?)"
 }
-while IFS='|' read -r name heading; do
+while IFS='|' read -r name heading <&3; do
     [ $# = 0 ] || [[ " $* " = *" $name "* ]] || continue
     began=$SECONDS
     page "$name" "$heading"
     echo "$name: $((SECONDS - began)) s"
-done < <(sed -n 's/ *| */|/; /^[^#]/p' "$root/tests/without_kit.txt")
+done 3< <(sed -n 's/ *| */|/; /^[^#]/p' "$root/tests/without_kit.txt")
 finish

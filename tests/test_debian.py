@@ -105,6 +105,12 @@ def test_recipe_of_a_package(debs, thing, package, name):
     assert in_root(debs, script, recipe=typed)[0] == shown.splitlines()
 
 
+def test_maintainers():
+    """No address claims to be of Debian."""
+    for control in ROOT.glob("packaging/debian*/control"):
+        assert re.search("^Maintainer: keywrap developers <.*[.]invalid>$", control.read_text(), re.M), control
+
+
 def test_symbols(debs):
     """A package that uses libkeywrap1 depends on the version that has its calls."""
     symbols = run("dpkg-deb", "-I", package_of(debs, "libkeywrap1"), "symbols").splitlines()
