@@ -3,6 +3,7 @@
 KEYWRAP=PATH tries another program. --reversed runs the tests in the opposite order: none depends on another."""
 
 import bisect
+import collections
 import functools
 import os
 import pathlib
@@ -23,6 +24,8 @@ from program import SLOW, Ended, Program, shared, wait_for
 from tools import need
 
 ROOT = pathlib.Path(__file__).resolve().parent.parent
+# When a test began, in seconds of processor of this process and of those that have ended.
+BEFORE = pytest.StashKey()
 # The files of long tests.
 LONG = ("test_portable", "test_python", "test_dist", "test_debian", "test_handed_out",
         "test_provider", "test_facts", "test_go", "test_java", "test_js")
@@ -60,8 +63,15 @@ def pytest_collection_modifyitems(config, items):
 
 
 def pytest_runtest_setup(item):
+    item.stash[BEFORE] = os.times()
     for mark in item.iter_markers("needs"):
         need(*mark.args)
+
+
+@pytest.hookimpl(trylast=True)
+def pytest_runtest_teardown(item):
+    spent = sum(os.times()[:4]) - sum(item.stash[BEFORE][:4])
+    item.user_properties.append(("processor", spent))
 
 
 def pytest_unconfigure(config):
@@ -76,6 +86,12 @@ def pytest_unconfigure(config):
         left = reasons.count(SLOW)
         for reason in sorted({*reasons} - {SLOW}):
             print("SKIPPED:", reason)
+        seconds = collections.Counter()
+        for report in reporter.stats.get("", []):
+            seconds[report.nodeid.partition("::")[0]] += dict(report.user_properties).get("processor", 0)
+        for file, spent in seconds.most_common():
+            if spent > 60:
+                print(f"{file}: {spent:.0f} s of processor")
         if left:
             print("SLOW:", left, SLOW)
         print(f"{len(passed)} passed, {len(failed + errors)} failed, {len(reasons) - left} skipped")
