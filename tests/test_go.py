@@ -109,7 +109,7 @@ def test_rows(module, env, names):
     rows_run(["go", "test", "-run", "TestRows", "-v", "./..."], module, env, *names)
 
 
-@pytest.mark.parametrize("name", all_of(MACHINES, [], ["s390x"]))
+@pytest.mark.parametrize("name", all_of(MACHINES, [], []))
 def test_other_machine(module, env, name):
     """The module's tests and the rows, as a static program."""
     variables, runner = MACHINES[name]
@@ -160,7 +160,7 @@ def test_packed_files(thing):
 
 @pytest.mark.needs("go-jose")
 @slow
-@pytest.mark.parametrize("package", ["./cipher", "."])
+@pytest.mark.parametrize("package", ["./cipher", pytest.param(".", marks=evidence)])
 def test_go_jose(env, package):
     """go-jose's own tests, of its key wrap and of all, with keywrap.Cipher over Go's AES for its key wrap."""
     need(*["go-cmp"] * (package == "."))

@@ -12,7 +12,7 @@ import pytest
 
 import published
 from builds import NAMES, ROOT, alone, run
-from program import SLOW, all_of, slow
+from program import SLOW, all_of, evidence, slow
 from tools import need
 from vectors import WRAPPED32
 
@@ -83,7 +83,7 @@ def installed(once, dist, python):
 
 @slow
 @pytest.mark.needs("no network", "git", "cc", "import cffi", "import ensurepip", "import setuptools", "import wheel")
-@pytest.mark.parametrize("address", ["./python", "git+file://$PWD#subdirectory=python"])
+@pytest.mark.parametrize("address", ["./python", pytest.param("git+file://$PWD#subdirectory=python", marks=evidence)])
 def test_from_a_clone(address):
     """pip installs the package over portable C, without the kit and without a network, from the directory or by its
     address; help() names the modules, and the rotation's page is there. What it leaves in the sources is ignored."""
