@@ -4,7 +4,7 @@
  *     cc -O2 -c keywrap.c
  *
  * Version 1.2.0-dev. `make dist-sources` of the repository writes this file; do not edit it.
- * By Rattle rattle-kit-13f logic dac8208d650f15bf, binaryen 108, wabt 1.0.32.
+ * By Rattle rattle-kit-13b logic dac8208d650f15bf, binaryen 108, wabt 1.0.32.
  * docs/TRUST.md of the repository says what is proved, what is translated and what is trusted.
  *
  * It has four parts: the runtime; the module, which wasm2c translated from the WebAssembly that the
@@ -20842,13 +20842,13 @@ static int32_t keywrap_step_unwrap_many(uint8_t *texts, size_t texts_len, size_t
     return status;
 }
 
-/* many.c: the calls of keywrap.h for many keys, with the steps of 24 of them side by side. What the
+/* many.c: the calls of keywrap.h for many keys, with the steps of 48 of them side by side. What the
  * steps of many do not take is done key by key. */
 
 
 
-/* Three groups of 8 blocks; and the longest text of which a turn makes copies. */
-enum { LANES = 24, COPIED = 264 };
+/* Six groups of 8 blocks: a step of half as many costs a key more. The longest text that a turn copies. */
+enum { LANES = 48, COPIED = 264 };
 
 /* Slots that are worked on together, at most LANES, and their blocks. */
 struct turn {

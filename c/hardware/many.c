@@ -1,4 +1,4 @@
-/* many.c: the calls of keywrap.h for many keys, with the steps of 24 of them side by side. What the
+/* many.c: the calls of keywrap.h for many keys, with the steps of 48 of them side by side. What the
  * steps of many do not take is done key by key. */
 
 #include <keywrap.h>
@@ -9,8 +9,8 @@
 #include "aes.h"
 #include "run.h"
 
-/* Three groups of 8 blocks; and the longest text of which a turn makes copies. */
-enum { LANES = 24, COPIED = 264 };
+/* Six groups of 8 blocks: a step of half as many costs a key more. The longest text that a turn copies. */
+enum { LANES = 48, COPIED = 264 };
 
 /* Slots that are worked on together, at most LANES, and their blocks. */
 struct turn {

@@ -3,7 +3,7 @@
 #include <stddef.h>
 #include <stdint.h>
 
-enum { SLOTS = 40, LONGEST = 136 };
+enum { SLOTS = 60, LONGEST = 136 };
 
 /* The buffers, and the numbers that a call returns or changes. */
 struct world {
