@@ -1,189 +1,156 @@
-"""The standards a second time, in the other form that the documents have where they have two. The words are those of
-FIPS 197 (2023), RFC 3394 and RFC 5649. test_checker.py compares it with standard.py for bytes of any value."""
+"""The standards a second time, from FIPS 197, RFC 3394 (its version with shifts) and RFC 5649, by someone who had read
+neither standard.py nor the definitions of the crates. test_checker.py compares both for bytes of any value."""
 
 from terms import looked_up, xor
 
 
-# FIPS 197
+def multiply(a, b):
+    """FIPS 197, 4.2: the product of two numbers modulo x^8 + x^4 + x^3 + x + 1."""
+    product = 0
+    for bit in range(8):
+        if b >> bit & 1:
+            product ^= a << bit
+    for bit in range(14, 7, -1):
+        if product >> bit & 1:
+            product ^= 0x11B << (bit - 8)
+    return product
 
-def xtimes(b):
-    """4.2: b times {02}."""
-    return (b << 1) ^ 0x11B if b & 0x80 else b << 1
 
-
-def in_field(a, b):
-    """4.2: a times b, from the highest bit of b down."""
+def s_box(a):
+    """FIPS 197, 5.1.1: the inverse, and then the affine transformation."""
+    b = next((c for c in range(256) if multiply(a, c) == 1), 0)
     result = 0
-    for i in range(7, -1, -1):
-        result = xtimes(result) ^ (a if b >> i & 1 else 0)
+    for i in range(8):
+        bit = (b >> i) ^ (b >> (i + 4) % 8) ^ (b >> (i + 5) % 8) ^ (b >> (i + 6) % 8) ^ (b >> (i + 7) % 8) ^ (0x63 >> i)
+        result |= (bit & 1) << i
     return result
 
 
-def sbox_entry(b):
-    """5.1.1: the inverse, and bit i of the result from bits i, i + 4, i + 5, i + 6, i + 7 and c."""
-    inverse = next((x for x in range(256) if in_field(b, x) == 1), 0)
-    bit, c = ([v >> i & 1 for i in range(8)] for v in (inverse, 0x63))
-    return sum((bit[i] ^ bit[(i + 4) % 8] ^ bit[(i + 5) % 8] ^ bit[(i + 6) % 8] ^ bit[(i + 7) % 8] ^ c[i]) << i
-               for i in range(8))
+S_BOX = tuple(s_box(a) for a in range(256))
+INVERSE_S_BOX = tuple(S_BOX.index(a) for a in range(256))
+MULTIPLES = {c: tuple(multiply(c, a) for a in range(256)) for c in (1, 2, 3, 9, 11, 13, 14)}
 
 
-SBOX = tuple(sbox_entry(b) for b in range(256))
-INVSBOX = tuple(SBOX.index(b) for b in range(256))
-XTIMES = tuple(xtimes(b) for b in range(256))
-RCON = [1]
-while len(RCON) < 10:
-    RCON.append(xtimes(RCON[-1]))
+def xor_all(first, second):
+    assert len(first) == len(second)
+    return [xor(a, b) for a, b in zip(first, second)]
 
 
-def plus(*values):
-    total = 0
-    for v in values:
-        total = xor(total, v)
-    return total
+def number(value, size):
+    return list(value.to_bytes(size, 'big'))
 
 
-def sub_word(word):
-    return [looked_up(SBOX, v) for v in word]
+# FIPS 197
 
-
-def rot_word(word):
-    a0, a1, a2, a3 = word
-    return [a1, a2, a3, a0]
-
-
-def expanded(key):
-    """5.2, algorithm 2."""
-    nk = {16: 4, 24: 6, 32: 8}[len(key)]
-    nr = nk + 6
-    w = []
-    i = 0
-    while i <= nk - 1:
-        w.append([key[4 * i], key[4 * i + 1], key[4 * i + 2], key[4 * i + 3]])
-        i += 1
-    while i <= 4 * nr + 3:
-        temp = w[i - 1]
+def key_expansion(key):
+    """5.2, algorithm 2: the words w[0] to w[4 Nr + 3]."""
+    nk = len(key) // 4
+    rounds = {4: 10, 6: 12, 8: 14}[nk]
+    words = [list(key[4 * i:4 * i + 4]) for i in range(nk)]
+    round_constant = 1
+    for i in range(nk, 4 * rounds + 4):
+        temp = words[i - 1]
         if i % nk == 0:
-            temp = sub_word(rot_word(temp))
-            temp = [plus(temp[0], RCON[i // nk - 1]), *temp[1:]]
+            temp = [looked_up(S_BOX, a) for a in temp[1:] + temp[:1]]
+            temp = xor_all(temp, [round_constant, 0, 0, 0])
+            round_constant = multiply(round_constant, 2)
         elif nk > 6 and i % nk == 4:
-            temp = sub_word(temp)
-        w.append([plus(w[i - nk][j], temp[j]) for j in range(4)])
-        i += 1
-    return w, nr
+            temp = [looked_up(S_BOX, a) for a in temp]
+        words.append(xor_all(words[i - nk], temp))
+    return words
 
 
-def state_of(block):
-    """3.4: s[r][c] is byte r + 4c."""
-    return [[block[r + 4 * c] for c in range(4)] for r in range(4)]
+# 3.4: the state is s[r][c] = in[r + 4c].
+
+def add_round_key(state, words):
+    return [[xor(state[r][c], words[c][r]) for c in range(4)] for r in range(4)]
 
 
-def block_of(s):
-    return [s[i % 4][i // 4] for i in range(16)]
+def mix(state, coefficients):
+    """5.1.3 and 5.3.3: the columns times the matrix whose first row this is."""
+    mixed = [[0] * 4 for _ in range(4)]
+    for r in range(4):
+        for c in range(4):
+            for k in range(4):
+                mixed[r][c] = xor(mixed[r][c], looked_up(MULTIPLES[coefficients[(k - r) % 4]], state[k][c]))
+    return mixed
 
 
-def round_key_added(s, w, number):
-    return [[plus(s[r][c], w[4 * number + c][r]) for c in range(4)] for r in range(4)]
-
-
-def substituted_by(table, s):
-    return [[looked_up(table, v) for v in row] for row in s]
-
-
-def mixed(s, matrix):
-    """5.1.3, 5.3.3: each column times a matrix. Its rows are the first row, turned."""
-    columns = []
-    for c in range(4):
-        powers = [[s[r][c]] for r in range(4)]           # times 1, 2, 4, 8
-        for power in powers:
-            for _ in range(3):
-                power.append(looked_up(XTIMES, power[-1]))
-        columns.append([plus(*(powers[j][bit] for j in range(4) for bit in range(4) if matrix[(j - r) % 4] >> bit & 1))
-                        for r in range(4)])
-    return [[columns[c][r] for c in range(4)] for r in range(4)]
-
-
-def encrypted(schedule, block):
+def cipher(key, block):
     """5.1, algorithm 1."""
-    w, nr = schedule
-    s = round_key_added(state_of(block), w, 0)
-    for number in range(1, nr + 1):
-        s = substituted_by(SBOX, s)
-        s = [row[r:] + row[:r] for r, row in enumerate(s)]
-        if number != nr:
-            s = mixed(s, (2, 3, 1, 1))
-        s = round_key_added(s, w, number)
-    return block_of(s)
+    words = key_expansion(key)
+    rounds = len(words) // 4 - 1
+    state = [[block[r + 4 * c] for c in range(4)] for r in range(4)]
+    state = add_round_key(state, words[:4])
+    for turn in range(1, rounds + 1):
+        state = [[looked_up(S_BOX, a) for a in row] for row in state]
+        state = [[state[r][(c + r) % 4] for c in range(4)] for r in range(4)]
+        if turn < rounds:
+            state = mix(state, (2, 3, 1, 1))
+        state = add_round_key(state, words[4 * turn:4 * turn + 4])
+    return [state[i % 4][i // 4] for i in range(16)]
 
 
-def decrypted(schedule, block):
+def inverse_cipher(key, block):
     """5.3, algorithm 3."""
-    w, nr = schedule
-    s = round_key_added(state_of(block), w, nr)
-    for number in range(nr - 1, -1, -1):
-        s = [row[4 - r:] + row[:4 - r] for r, row in enumerate(s)]
-        s = substituted_by(INVSBOX, s)
-        s = round_key_added(s, w, number)
-        if number != 0:
-            s = mixed(s, (14, 11, 13, 9))
-    return block_of(s)
+    words = key_expansion(key)
+    rounds = len(words) // 4 - 1
+    state = [[block[r + 4 * c] for c in range(4)] for r in range(4)]
+    state = add_round_key(state, words[4 * rounds:])
+    for turn in range(rounds - 1, -1, -1):
+        state = [[state[r][(c - r) % 4] for c in range(4)] for r in range(4)]
+        state = [[looked_up(INVERSE_S_BOX, a) for a in row] for row in state]
+        state = add_round_key(state, words[4 * turn:4 * turn + 4])
+        if turn:
+            state = mix(state, (14, 11, 13, 9))
+    return [state[i % 4][i // 4] for i in range(16)]
 
 
-# RFC 3394: the registers are shifted (the first of the two descriptions).
+# RFC 3394: the first of the two descriptions, where the registers are shifted
 
-def xored_with(a, t):
-    return [xor(v, t >> 8 * (7 - i) & 255) for i, v in enumerate(a)]
-
-
-def wrap(kek, iv, plaintext):
-    """2.2.1."""
-    schedule = expanded(kek)
-    r = [plaintext[i:i + 8] for i in range(0, len(plaintext), 8)]
-    a, n = list(iv), len(r)
-    for t in range(1, 6 * n + 1):
-        b = encrypted(schedule, a + r[0])
-        a = xored_with(b[:8], t)
-        r = r[1:] + [b[8:]]
-    return a + [v for register in r for v in register]
+def wrap(kek, initial_value, key):
+    """2.2.1: A[s] | R[s][1] | ... | R[s][n]."""
+    a, registers = list(initial_value), [list(key[i:i + 8]) for i in range(0, len(key), 8)]
+    for t in range(1, 6 * len(registers) + 1):
+        block = cipher(kek, a + registers[0])
+        a = xor_all(block[:8], number(t, 8))
+        registers = registers[1:] + [block[8:]]
+    return sum(registers, a)
 
 
-def unwrap(kek, ciphertext):
-    """2.2.2, without the check: A0 and P."""
-    schedule = expanded(kek)
-    r = [ciphertext[i:i + 8] for i in range(8, len(ciphertext), 8)]
-    a, n = ciphertext[:8], len(r)
-    for t in range(6 * n, 0, -1):
-        b = decrypted(schedule, xored_with(a, t) + r[-1])
-        a = b[:8]
-        r = [b[8:]] + r[:-1]
-    return a, [v for register in r for v in register]
+def unwrap(kek, text):
+    """2.2.2: A[0], and R[0][1] | ... | R[0][n]."""
+    a, registers = list(text[:8]), [list(text[i:i + 8]) for i in range(8, len(text), 8)]
+    for t in range(6 * len(registers), 0, -1):
+        block = inverse_cipher(kek, xor_all(a, number(t, 8)) + registers[-1])
+        a, registers = block[:8], [block[8:]] + registers[:-1]
+    return a, sum(registers, [])
 
 
 # RFC 5649
 
-def alternative_iv(mli):
-    """3: the constant, and the message length indicator in network order."""
-    return [0xA6, 0x59, 0x59, 0xA6, mli >> 24 & 255, mli >> 16 & 255, mli >> 8 & 255, mli & 255]
+def alternative_iv(length):
+    """3."""
+    return number(0xA65959A6, 4) + number(length, 4)
 
 
-def wrap_padded(kek, plaintext):
-    """4.1."""
-    padded = list(plaintext)
-    while len(padded) % 8 != 0:
-        padded.append(0)
-    iv = alternative_iv(len(plaintext))
-    return encrypted(expanded(kek), iv + padded) if len(padded) == 8 else wrap(kek, iv, padded)
+def wrap_padded(kek, key):
+    """4.1"""
+    padded = list(key) + number(0, -len(key) % 8)
+    if len(padded) == 8:
+        return cipher(kek, alternative_iv(len(key)) + padded)
+    return wrap(kek, alternative_iv(len(key)), padded)
 
 
-def unwrap_padded(kek, ciphertext):
-    """4.2, without the checks: A and the padded key."""
-    if len(ciphertext) == 16:
-        b = decrypted(expanded(kek), ciphertext)
-        return b[:8], b[8:]
-    return unwrap(kek, ciphertext)
+def unwrap_padded(kek, text):
+    """4.2: A and the padded key, before they are checked."""
+    if len(text) == 16:
+        block = inverse_cipher(kek, list(text))
+        return block[:8], block[8:]
+    return unwrap(kek, text)
 
 
 def accepted(a, padded):
-    """3: for each length of the key that is possible, the bytes that must be 0 if the key has this length."""
-    n = len(padded) // 8
-    return {mli: [xor(v, w) for v, w in zip(a, alternative_iv(mli))] + padded[len(padded) - (8 * n - mli):]
-            for mli in range(8 * (n - 1) + 1, 8 * n + 1)}
+    """3: for each length that the key may have, what must be zero if it has this length."""
+    return {length: xor_all(a, alternative_iv(length)) + padded[length:]
+            for length in range(len(padded) - 7, len(padded) + 1)}

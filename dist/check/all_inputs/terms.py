@@ -258,6 +258,8 @@ def and_(a, b):
             return and_(a.args[0], a.args[1] & b)
         if a.op == 'or' and 0 in (parts := [and_(part, b) for part in a.args]):
             return or_(*parts)
+    elif bits(a) == 1 < bits(b) or bits(b) == 1 < bits(a):      # the other bits of a register may be anything
+        return and_(and_(a, 1), and_(b, 1))
     return a if a == b else N('and', a, b, top=min(bits(a), bits(b)))
 
 
@@ -404,7 +406,7 @@ class Known:
         self.pivots = {}
         for atom, i in self.rows:
             self.pivots.setdefault(atom, []).append(i)
-        self.memo, self.arguments = {}, None
+        self.memo, self.arguments, self.images = {}, None, {}
 
     def closed(self):
         """Returns the equations with those that follow for existing atoms: if T(x) = v, then S(v) = x."""
@@ -450,6 +452,28 @@ class Known:
                         t[other] = t.get(other, 0) ^ column << 64 * j
         return form(c, {atom: x for atom, x in t.items() if x})
 
+    def rewritten(self, v):
+        """Returns the value with arguments of S and T that are reduced, too. An atom that is older than an equation has
+        its argument as it was before. This is what is known now, and `self` is Known.now."""
+        waiting, met = list(v.t) if isinstance(v, V) else [], {}
+        while waiting:
+            atom = waiting.pop()
+            if atom not in self.images and atom not in met:
+                kind, x = met[atom] = ATOMS.get(atom, (None, 0))
+                waiting += x.t if kind in TABLES else ()
+        for atom in sorted(met):                # the argument of an atom is older
+            kind, x = met[atom]
+            image = substituted(kind, self.replaced(x)) if kind in TABLES else None
+            self.images[atom] = None if image == V(0, {atom: IDENTITY}) else image
+        return self.reduced(self.replaced(v))
+
+    def replaced(self, v):
+        """Returns the value with the images of its atoms."""
+        changed = [atom for atom in v.t if self.images[atom] is not None] if isinstance(v, V) else ()
+        for atom in changed:
+            v = xor(v, xor(V(0, {atom: v.t[atom]}), product(v.t[atom], self.images[atom])))
+        return v
+
     def with_zero(self, v):
         """Returns the equations with v == 0, or None if that is a contradiction."""
         v = self.reduced(v)
@@ -489,6 +513,19 @@ class Known:
 
 
 Known.now = Known()     # what is known on the path that is followed now
+
+
+def product(matrix, v):
+    """Returns a matrix times a byte."""
+    def times(byte):
+        total = 0
+        for i in range(8):
+            total ^= matrix >> 64 * i & M64 if byte >> i & 1 else 0
+        return total
+    if isinstance(v, int):
+        return times(v)
+    columns = {atom: sum(times(x >> 64 * i & 255) << 64 * i for i in range(8)) for atom, x in v.t.items()}
+    return form(times(v.c), {atom: y for atom, y in columns.items() if y})
 
 
 def _columns(ones):

@@ -103,8 +103,10 @@ def systems(count):
                 assert not holds
                 break
             known = more
+            Known.now, some = known, holds[::25]
             for v in pool:
-                assert all(value(known.reduced(v), p) == value(v, p) for p in holds)
+                assert all(value(w, p) == value(v, p) for w in (known.reduced(v), known.rewritten(v)) for p in some)
+            Known.now = Known()
 
 
 def vectors():
@@ -175,6 +177,21 @@ def two_standards():
             standard.is_plain(a, asked.append, iv)
             assert asked == [[terms.xor(v, b) for v, b in zip(a, iv)]]
     terms.forget()
+
+
+def older_atoms():
+    """A value that was made before an equation was known is rewritten to the one that is made afterwards."""
+    terms.forget()
+    x, y, z = (fresh(name) for name in 'xyz')
+    before = terms.substituted('T', terms.xor(terms.substituted('S', terms.xor(terms.substituted('S', x), y)), z))
+    Known.now = Known().with_zero(terms.xor(x, terms.xor(z, 7)))
+    after = terms.substituted('T', terms.xor(terms.substituted('S', terms.xor(
+        terms.substituted('S', terms.xor(z, 7)), y)), z))
+    assert Known.now.reduced(before) != after == Known.now.rewritten(before) == Known.now.rewritten(after)
+    p = at({('x', 0): 1 ^ 7, ('y', 0): 2, ('z', 0): 1})
+    assert value(before, p) == value(after, p)
+    assert Known.now.rewritten(terms.xor(before, x)) == terms.xor(after, Known.now.reduced(x))
+    Known.now = Known()
 
 
 GENERAL = ['rax', 'rcx', 'rdx', 'rbx', 'rbp', 'rsi', 'rdi', *(f'r{n}' for n in range(8, 16))]
@@ -315,6 +332,7 @@ def main(file):
     operations(300)
     systems(100)
     decisions(150)
+    older_atoms()
     vectors()
     two_standards()
     with open(file, 'rb') as opened:
