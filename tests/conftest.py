@@ -70,7 +70,9 @@ def pytest_runtest_setup(item):
 
 @pytest.hookimpl(trylast=True)
 def pytest_runtest_teardown(item):
-    spent = sum(os.times()[:4]) - sum(item.stash[BEFORE][:4])
+    now = os.times()
+    # A test that a mark skips has no beginning.
+    spent = sum(now[:4]) - sum(item.stash.get(BEFORE, now)[:4])
     item.user_properties.append(("processor", spent))
 
 
