@@ -96,7 +96,7 @@ def test_is_what_the_tree_makes(built):
 @pytest.mark.parametrize("only", all_of(
     ["", TABLES, "-DKEYWRAP_STEPS_ONLY", "-DKEYWRAP_TRAP()=__builtin_trap()"], [""]))
 @pytest.mark.parametrize("options", all_of(["-O0 -std=c99", "-O2 -std=c17", "-O3 -std=c99", "-Os -std=c99"], [
-    "-O2 -std=c17"]))
+    "-O2 -std=c17"], []))
 def test_compiles_without_a_warning(portable, compiler, only, options):
     """The other tests compile it with -O2 as C99, most by gcc."""
     need(compiler)
@@ -140,13 +140,12 @@ def test_as_the_library(portable, library, name):
     assert run(*random_calls(portable, library, name), str(cases), "1") == f"{cases} cases agree\n"
 
 
-@slow
 @pytest.mark.parametrize("name", NATIVE)
-def test_sanitizers(portable_program, name):
+@pytest.mark.parametrize("table", all_of(["rows", "more"], [], ["rows"]))
+def test_sanitizers(portable_program, name, table):
     need(f"sanitizers of {name}")
-    for table in "rows", "more":
-        text = published.table(table)
-        assert published.all_right(run(*portable_program(name, ROWS, "-O2", "-g", *SANITIZED), input=text), text) == {}
+    text = published.table(table)
+    assert published.all_right(run(*portable_program(name, ROWS, "-O2", "-g", *SANITIZED), input=text), text) == {}
 
 
 @slow

@@ -11,6 +11,8 @@ import time
 
 HERE = pathlib.Path(__file__).resolve().parent
 sys.path.insert(0, str(HERE.parent.parent / "dist/check/all_inputs"))
+# Python writes no cache beside what is handed out.
+sys.dont_write_bytecode = True
 
 import calls  # noqa: E402
 import check  # noqa: E402
