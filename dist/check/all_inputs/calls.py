@@ -8,7 +8,7 @@ from paths import byte_of, cell_of
 from terms import Known, Refused, input_byte, shl, xor
 from turns import Turns
 
-STACK = 24576
+STACK = 40960
 OK, ALREADY_NEW, BAD_IV, BAD_KEK, BAD_LENGTH, INTEGRITY, KEY_NOT_PLAIN = 0, 1, 2, 3, 4, 5, 8
 OLD_PADDED, NEW_PADDED, KEEP_FORM, PASS_NEW = 1, 2, 4, 8
 LONGEST = 1048576

@@ -57,14 +57,14 @@ def many_list(keks, places):
         yield 'kind_many', kek, 24, count
         yield 'rewrap_many', kek, 24, 24, 0, count
         yield 'rewrap_many', kek, 24, 24, 9, count
-    for count in 24, 25:
+    for count in 48, 49:
         yield 'wrap_many', 16, 16, 0, count
     for only in places:
-        yield 'unwrap_many', 16, 24, 0, 25, only
-        yield 'unwrap_many', 32, 24, 1, 25, only
-        yield 'kind_many', 16, 24, 25, only
+        yield 'unwrap_many', 16, 24, 0, 49, only
+        yield 'unwrap_many', 32, 24, 1, 49, only
+        yield 'kind_many', 16, 24, 49, only
         for flags in 8, 9, 12:
-            yield 'rewrap_many', 16, 32, 24, flags, 25, only
+            yield 'rewrap_many', 16, 32, 24, flags, 49, only
 
 
 def steps_list(most):
@@ -120,7 +120,7 @@ def refusals_list():
 def long_list():
     yield from lengths_list(KEKS, 32)
     yield from rewraps_list(((16, 16), (32, 24)), (16, 24, 32))
-    yield from many_list((16,), (0, 23, 24))
+    yield from many_list((16,), (0, 47, 48))
     yield from steps_list(24)
     yield from refusals_list()
     yield 'self_test',
