@@ -41,7 +41,7 @@ pub fn whole_unwrap_law()
 /// permutations. It does nothing.
 pub fn whole_rewrap_law()
     ensures { (pass_new : Bool) (forms : RewrapForms) (E D F G : List ℕ → List ℕ) (text after : List ℕ)
-        (calls : ℕ) (at : ℕ → RewrapAt) (outcome : Result Rewrapped RewrapFault) → AreInverse E D → AreInverse F G
-        → RewrapRun pass_new forms E F text calls at outcome after
+        (calls : ℕ) (at : ℕ → RewrapAt) (outcome : Result Rewrapped RewrapFault)
+        → AreInverse E D → AreInverse F G → RewrapRun pass_new forms E F text calls at outcome after
         → IsRewrapping pass_new forms E F text outcome after }
 {}
