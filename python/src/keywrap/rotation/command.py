@@ -3,13 +3,13 @@
 from __future__ import annotations
 
 import argparse
-import contextlib
+import multiprocessing
 import os
 import signal
 import sys
-from typing import Any, Dict, Iterator, List, Optional, Sequence, Type
+from typing import Any, Optional, Sequence, Tuple, Type
 
-from . import pool as pools, signs
+from . import pool as pools
 from .found import EqualKeks, Refused, Unanswered, WrongKeks
 from .keks import protect_process
 from .options import keks_of, parse, store_of
@@ -26,37 +26,6 @@ def _check_outputs(options: argparse.Namespace) -> None:
             raise Unusable(f"--{option}: {name}: it is one of the files, or below them")
     if options.record is not None and os.path.lexists(options.record):
         raise Unusable(f"--record: {options.record}: it is there already")
-
-
-class _Bar:
-    """A bar on a terminal, drawn by tqdm."""
-
-    def __init__(self) -> None:
-        self.bar: Any = None
-
-    @contextlib.contextmanager
-    def __call__(self, total: int, measure: str) -> Iterator[None]:
-        self.begin = signs.shared[0]
-        with contextlib.suppress(ImportError):
-            if sys.stderr.isatty():
-                from tqdm import tqdm  # type: ignore[import]
-
-                tqdm.monitor_interval = 0  # No thread of it is there when processes are forked.
-                self.bar = tqdm(total=total, leave=False, unit=measure, unit_scale=True)
-        try:
-            yield
-        finally:
-            self.clear()
-            self.bar = None
-
-    def tick(self) -> None:
-        if self.bar is not None:
-            self.bar.n = min(signs.shared[0] - self.begin, self.bar.total)
-            self.bar.refresh()
-
-    def clear(self) -> None:
-        if self.bar is not None:
-            self.bar.clear()
 
 
 def _say_end(passes: Passes, status: int, options: argparse.Namespace) -> None:
@@ -80,20 +49,18 @@ def _say_end(passes: Passes, status: int, options: argparse.Namespace) -> None:
         say("interrupted: run it again")
 
 
-def _run(options: argparse.Namespace, made: List[pools.Pool]) -> int:
+def _run(options: argparse.Namespace) -> int:
     _check_outputs(options)
     keks = keks_of(options)
     if options.make_challenges:
         print("\n".join(keks.make_challenges()))
         return DONE
     keks, store = keks.challenged(options.new_challenge), store_of(options)
-    record, bar = Record(), _Bar()
+    record = Record()
     if options.verify_record is not None:
         record.read(options.verify_record)
     report = Report(options.report)
-    report.clear = bar.clear
-    pool = pools.Pool(options.jobs, options.dask, options.timeout, bar.tick, options.rate)
-    made.append(pool)
+    pool = pools.Pool(options.jobs, options.dask, options.timeout, report.tick, options.rate)
 
     def stop(number: int, frame: Any) -> None:
         if pool.stopped:
@@ -103,7 +70,6 @@ def _run(options: argparse.Namespace, made: List[pools.Pool]) -> int:
     for number in (signal.SIGINT, signal.SIGTERM):
         signal.signal(number, stop)
     passes = Passes(store, keks, pool, report, not (options.verify or options.dry_run), record)
-    passes.progress = bar
     passes.run()
     status = passes.status()
     if options.verify_record is not None:
@@ -118,28 +84,34 @@ def _run(options: argparse.Namespace, made: List[pools.Pool]) -> int:
     return status
 
 
+#: The statuses of errors. Dask and defects raise any other one.
+_STATUSES: Sequence[Tuple[Type[BaseException], int]] = (
+    (EqualKeks, ARGUMENTS), (Unusable, ARGUMENTS), (ValueError, ARGUMENTS), (ImportError, ARGUMENTS), (WrongKeks, KEKS),
+    (Refused, REFUSED), (ReportFailed, REPORT), (KeyboardInterrupt, INTERRUPTED), (Unanswered, UNFINISHED),
+    (OSError, UNFINISHED))  # fmt: skip
+
+
 def main(words: Optional[Sequence[str]] = None) -> int:
     """Does what the arguments say, and returns the exit status."""
     options = parse(words)
     os.umask(0o077)
     protect_process()
-    made: List[pools.Pool] = []
-    statuses: Dict[Type[BaseException], int] = {
-        EqualKeks: ARGUMENTS, Unusable: ARGUMENTS, ValueError: ARGUMENTS, ImportError: ARGUMENTS, WrongKeks: KEKS,
-                Refused: REFUSED, ReportFailed: REPORT, KeyboardInterrupt: INTERRUPTED, Unanswered: UNFINISHED,
-                OSError: UNFINISHED}  # fmt: skip
     try:
-        status = _run(options, made)
-    except tuple(statuses) as error:
-        status = next(number for kind, number in statuses.items() if isinstance(error, kind))
-        why = str(error) or type(error).__name__
+        status = _run(options)
+    except (Exception, KeyboardInterrupt) as error:
+        known = next((number for kind, number in _STATUSES if isinstance(error, kind)), None)
+        status, why = UNFINISHED if known is None else known, str(error)
+        if known is None or not why:
+            why = f"unexpected {type(error).__name__}"
         if isinstance(error, OSError):
             why = error.strerror or why
         if isinstance(error, ImportError):
             why = f"{error.name} is missing (apt-get install python3-{error.name})"
-        print(f"keywrap.rotate: {'interrupted: run it again' if status == INTERRUPTED else shown(why)}", file=sys.stderr)
-    if any(pool.is_abandoned for pool in made):
-        # Python would wait for an executor that may never end.
+        if status == INTERRUPTED:
+            why = "interrupted: run it again"
+        print(f"keywrap.rotate: {shown(why)}", file=sys.stderr)
+    if any(isinstance(child, pools.Process) for child in multiprocessing.active_children()):
+        # Python would wait for a process that a disk holds. It dies with us.
         sys.stdout.flush()
         sys.stderr.flush()
         os._exit(status)

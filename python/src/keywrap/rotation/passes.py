@@ -3,10 +3,9 @@
 from __future__ import annotations
 
 import collections
-import contextlib
 import functools
 import time
-from typing import Any, Callable, Counter, Iterable, List
+from typing import Counter, Iterable, List
 
 from .files import Listed, Store
 from .found import Found, found_by
@@ -37,7 +36,6 @@ class Passes:
         self.number = self.rewrapped = self.units = self.unsynced = 0
         self.last, self.is_settled, self.is_empty_shard = Found(), False, False
         self.old: Counter[str] = collections.Counter()
-        self.progress: Callable[[int, str], Any] = lambda total, measure: contextlib.nullcontext()
 
     def run(self) -> None:
         idle, was_still = 0, False
@@ -58,7 +56,7 @@ class Passes:
         """One pass. Returns whether nothing moved: every key that there was at some moment of it was read."""
         self.record.begin()
         self.last, self.units = Found(), 0
-        with self.store.listed(self.may_write) as listed, self.progress(listed.weight, self.store.measure):
+        with self.store.listed(self.may_write) as listed, self.report.progress(listed.weight, self.store.measure):
             self._take("", listed.found)
             units: Iterable[Unit] = listed.units
             number = listed.number

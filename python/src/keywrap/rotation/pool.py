@@ -1,48 +1,126 @@
-"""Units go to an executor of `concurrent.futures`: processes of this machine, or the workers of Dask."""
+"""Units go to processes of this machine, or to the workers of Dask. No wait is without an end.
+
+Processes share nothing but signs of life: each has a socket, whose end is its end. The queues of an executor of
+`concurrent.futures` have locks: a process that is killed while it holds one keeps the others, and so the executor, for ever.
+"""
 
 from __future__ import annotations
 
 import collections
-import concurrent.futures as futures
+import contextlib
 import functools
 import importlib
+import itertools
 import multiprocessing
 import os
+import pickle
 import signal
+import socket
 import time
-from typing import Any, Callable, Counter, Deque, Dict, Iterable, Iterator, List, Optional, Tuple
+from multiprocessing.connection import wait
+from multiprocessing.context import ForkProcess
+from typing import Any, Callable, Counter, Deque, Dict, Iterable, Iterator, List, Optional, Tuple, Union
 
 from . import signs
-from .found import Found, WrongKeks
+from .found import Found, Unanswered, WrongKeks
 from .keks import protect_process
 from .listing import Unit
 
-#: How often a unit is tried whose process died, and how many batches of units an executor gets for each process.
-TRIES, WINDOW = 3, 3
-#: How many units a batch has at most, and how many bytes all batches in the executor's pipe have, about: a pipe that
-#: were full when a process dies would keep its writer waiting for ever.
-LARGEST, PIPE = 16, 24 << 10
+#: How often a unit is tried whose process died; how many units a batch has, and batches a thread of Dask, at most.
+TRIES, LARGEST, WINDOW = 3, 16, 3
 _SIGNALS = (signal.SIGINT, signal.SIGTERM)
 
-
-_work: Any = None
-
-
-def _begin(parent: int, work: "Work") -> None:
-    """A process dies with its parent, and leaves interrupts to it: the end of a unit is soon."""
-    global _work
-    _work = work
-    protect_process(signal.SIGKILL)
-    if os.getppid() != parent:
-        os._exit(1)
-    signal.signal(signal.SIGINT, signal.SIG_IGN)
-    signal.signal(signal.SIGTERM, signal.SIG_DFL)
-    signal.pthread_sigmask(signal.SIG_UNBLOCK, _SIGNALS)
+Work = Callable[[List[Unit]], List[Found]]
+#: What was found in the units of a batch, or why nothing more may be done; `None` if the process died.
+Answer = Union[List[Found], WrongKeks, None]
 
 
-def _run(units: List[Unit]) -> List[Found]:
-    found: List[Found] = _work(units)
-    return found
+def _answer(work: Work, units: List[Unit]) -> Answer:
+    try:
+        return work(units)
+    except WrongKeks as error:
+        return error
+    except Exception as error:  # A driver, Dask and a pickle fail in many ways.
+        return [Found(f"its process failed: {type(error).__name__}") for _ in units]
+
+
+class Process(ForkProcess):
+    """A process that is forked here, and inherits the work, which may be long. It does one batch at a time: so it reads
+    when its parent writes."""
+
+    def __init__(self, work: Work, timeout: float) -> None:
+        super().__init__(daemon=True)
+        self.work, (self.socket, self.theirs) = work, socket.socketpair()
+        self.socket.settimeout(timeout)
+        # Until `run` it has the parent's handlers.
+        before = signal.pthread_sigmask(signal.SIG_BLOCK, _SIGNALS)
+        try:
+            self.start()
+        finally:
+            signal.pthread_sigmask(signal.SIG_SETMASK, before)
+            self.theirs.close()
+
+    def run(self) -> None:
+        """It dies with its parent, and leaves interrupts to it: the end of a unit is soon."""
+        protect_process(signal.SIGKILL)
+        parent = multiprocessing.parent_process()
+        if parent is None or os.getppid() != parent.pid:
+            os._exit(1)
+        signal.signal(signal.SIGINT, signal.SIG_IGN)
+        signal.signal(signal.SIGTERM, signal.SIG_DFL)
+        signal.pthread_sigmask(signal.SIG_UNBLOCK, _SIGNALS)
+        batches = self.theirs.makefile("rb")
+        while True:
+            self.theirs.sendall(pickle.dumps(_answer(self.work, pickle.load(batches))))
+
+    def fileno(self) -> int:
+        return self.socket.fileno()
+
+    def answer(self) -> Answer:
+        try:
+            with self.socket.makefile("rb") as answers:
+                answer: Answer = pickle.load(answers)
+                return answer
+        except (EOFError, OSError, pickle.UnpicklingError):
+            return None
+
+    def end(self) -> None:
+        """Ends it whatever it does. A disk may hold it for some time."""
+        self.kill()
+        self.join(1)
+        self.socket.close()
+
+
+class Processes:
+    def __init__(self, work: Work, size: int, timeout: float) -> None:
+        self.work, self.size, self.timeout = work, size, timeout
+        self.running: Dict[Any, List[Unit]] = {}
+        self._idle: List[Process] = []
+
+    def begin(self, units: List[Unit]) -> None:
+        process = self._idle.pop() if self._idle else Process(self.work, self.timeout)
+        self.running[process] = units
+        with contextlib.suppress(OSError):  # It died, and will not answer.
+            process.socket.sendall(pickle.dumps(units))
+
+    def ended(self, seconds: float) -> Iterator[Tuple[List[Unit], Answer]]:
+        """Yields the batches that end within this time, with their answers."""
+        ready: Any = wait(list(self.running), seconds)
+        for process in ready:
+            units, answer = self.running.pop(process), process.answer()
+            if answer is None:
+                process.end()
+            else:
+                self._idle.append(process)
+            yield units, answer
+
+    def end(self) -> List[List[Unit]]:
+        """Ends the processes, and returns the batches that were at work."""
+        for process in (*self.running, *self._idle):
+            process.end()
+        left = list(self.running.values())
+        self.running, self._idle = {}, []
+        return left
 
 
 @functools.lru_cache(None)
@@ -50,148 +128,107 @@ def _client(address: str) -> Any:
     return importlib.import_module("distributed").Client(address, timeout=10)
 
 
-def _kill_children() -> bool:
-    children = multiprocessing.active_children()
-    for child in children:
-        child.kill()
-    return bool(children)
+class Workers:
+    """The workers of Dask. It tries a batch again whose worker died. Here we only ask what became of it."""
+
+    def __init__(self, work: Work, address: str, timeout: float) -> None:
+        self.work, self.timeout, self.client = work, timeout, _client(address)
+        self.running: Dict[Any, List[Unit]] = {}
+        threads = self.client.sync(self.client.scheduler.ncores, callback_timeout=timeout)
+        self.size = WINDOW * max(1, sum(threads.values()))
+
+    def begin(self, units: List[Unit]) -> None:
+        # Not pure: no pass is answered from a cache.
+        self.running[self.client.submit(_answer, self.work, units, pure=False)] = units
+
+    def ended(self, seconds: float) -> Iterator[Tuple[List[Unit], Answer]]:
+        until = time.monotonic() + seconds
+        while not (done := [future for future in self.running if future.done()]) and time.monotonic() < until:
+            time.sleep(0.01)
+        for future in done:
+            units = self.running.pop(future)
+            yield units, _answer(lambda units, future=future: future.result(self.timeout), units)  # type: ignore[misc]
+
+    def end(self) -> List[List[Unit]]:
+        if self.running:
+            self.running = {}
+            raise Unanswered(f"no worker of Dask answered in {self.timeout:g} seconds")
+        return []
 
 
-Work = Callable[[List[Unit]], List[Found]]
-Running = Dict[Any, List[Unit]]
-
-
-class Silent(Exception):
-    """The executor has no process left, and does not say so."""
+Crew = Union[Processes, Workers]
 
 
 class Pool:
     def __init__(self, jobs: int, dask: Optional[str], timeout: float, tick: Callable[[], None],
                  rate: Optional[int] = None) -> None:  # fmt: skip
         self.jobs, self.dask, self.timeout, self.tick, self.rate = jobs, dask, timeout, tick, rate
-        #: Whether somebody asked for the end, and whether an executor is left that may never end.
-        self.stopped = self.is_abandoned = False
+        #: Whether somebody asked for the end.
+        self.stopped = False
         self._may_begin = 0.0
 
     def __call__(self, work: Work, units: Iterable[Unit], count: int) -> Iterator[Tuple[Unit, Found]]:
-        """Yields what was found in each unit, in any order. A unit whose process died is tried again."""
-        executor, call = self._executor(work, count)
-        waiting, again, running = self._batches(units, count), Again(), {}  # type: ignore[var-annotated]
+        """Yields what was found in each unit, in any order. A unit whose process died is tried again, alone: so the unit
+        that ends its process is known."""
+        crew: Crew = (Workers(work, self.dask, self.timeout) if self.dask is not None
+                      else Processes(work, min(self.jobs, max(count, 1)), self.timeout))  # fmt: skip
+        waiting, tries = self._batches(units, count, crew.size), collections.Counter()  # type: ignore[var-annotated]
+        again: Deque[List[Unit]] = collections.deque()
         try:
-            while self._hand_out(executor, call, waiting, again, running):
-                try:
-                    for future in self._done(running):
-                        found = future.result()
-                        for each in zip(running.pop(future), found):
-                            self._pace(each[1])
-                            yield each
-                except (futures.BrokenExecutor, Silent) as error:
-                    _kill_children()
-                    self.is_abandoned = self.is_abandoned or type(error) is Silent
-                    # No thread of it is there when the next one forks.
-                    executor.shutdown(wait=type(error) is not Silent)
-                    yield from again.add(running)
-                    executor, _ = self._executor(work, count)
-                except WrongKeks:
-                    raise
-                except Exception as error:  # A driver, Dask and a pickle fail in many ways.
-                    why = f"its process failed: {type(error).__name__}"
-                    yield from ((unit, Found(why)) for unit in running.pop(future))
+            while self._hand_out(crew, again, waiting):
+                for batch, answer in self._ended(crew):
+                    if isinstance(answer, WrongKeks):
+                        raise answer
+                    if answer is not None:
+                        self._pace(answer)
+                        yield from zip(batch, answer)
+                        continue
+                    tries.update(unit.name for unit in batch)
+                    again.extend([unit] for unit in batch if tries[unit.name] < TRIES)
+                    yield from ((unit, Found("its process died")) for unit in batch if tries[unit.name] >= TRIES)
         except KeyboardInterrupt:
-            _kill_children()
-            self.is_abandoned = True
+            crew.running = {}  # Nobody waits for them: they end with this process.
             raise
         finally:
-            for future in () if self.is_abandoned else running:
-                future.cancel()
-            if futures.wait(running, 0 if self.is_abandoned else self.timeout).not_done:
-                _kill_children()
-            executor.shutdown(wait=not self.is_abandoned)
+            while crew.running:
+                self._ended(crew)
+            crew.end()
 
-    def _executor(self, work: Work, count: int) -> Tuple[futures.Executor, Work]:
-        """Returns it and the call that it makes. Processes inherit the work, which may be long."""
-        if self.dask is None:
-            context, words = multiprocessing.get_context("fork"), (os.getpid(), work)
-            return futures.ProcessPoolExecutor(min(self.jobs, max(count, 1)), context, _begin, words), _run
-        client = _client(self.dask)
-        self.jobs = max(1, sum(client.nthreads().values()))
-        # Not pure: no pass is answered from a cache.
-        return client.get_executor(pure=False), work
-
-    def _batches(self, units: Iterable[Unit], count: int) -> Iterator[List[Unit]]:
-        largest = 1 if self.rate else max(1, min(LARGEST, count // (8 * self.jobs)))
-        batch: List[Unit] = []
-        size = 0
-        for unit in units:
-            length = len(unit.name) + 64
-            if batch and (len(batch) == largest or size + length > PIPE // (self.jobs + 1)):
-                yield batch
-                batch, size = [], 0
-            batch.append(unit)
-            size += length
-        if batch:
+    def _batches(self, units: Iterable[Unit], count: int, size: int) -> Iterator[List[Unit]]:
+        largest = 1 if self.rate else max(1, min(LARGEST, count // (8 * size)))
+        left = iter(units)
+        while batch := list(itertools.islice(left, largest)):
             yield batch
 
-    def _hand_out(self, executor: futures.Executor, call: Work, waiting: Iterator[List[Unit]], again: "Again",
-                  running: Running) -> bool:  # fmt: skip
-        """Hands out as much as the executor gets at once. Returns whether there is or will be something to wait for."""
-        while not self.stopped:
-            if len(running) >= (1 if again.units else self.jobs * (1 if self.rate else WINDOW)):
-                return True
-            if time.monotonic() < self._may_begin:
-                time.sleep(0 if running else 0.02)
-                self.tick()
-                if running:
-                    return True
-                continue
-            some = [again.units.popleft()] if again.units else next(waiting, [])
-            if not some:
+    def _hand_out(self, crew: Crew, again: Deque[List[Unit]], waiting: Iterator[List[Unit]]) -> bool:
+        """Hands out as much as may be done at once. Returns whether anything is at work."""
+        while len(crew.running) < crew.size and not self.stopped:
+            if time.monotonic() >= self._may_begin:
+                batch = again.popleft() if again else next(waiting, [])
+                if not batch:
+                    break
+                crew.begin(batch)
+            elif crew.running:
                 break
-            # A process that is forked here has the parent's handlers until `_begin`.
-            before = signal.pthread_sigmask(signal.SIG_BLOCK, _SIGNALS)
-            try:
-                running[executor.submit(call, some)] = some
-            except futures.BrokenExecutor as error:
-                broken: Any = futures.Future()
-                broken.set_exception(error)
-                running[broken] = some
-            finally:
-                signal.pthread_sigmask(signal.SIG_SETMASK, before)
-        return bool(running)
+            else:
+                time.sleep(0.02)
+                self.tick()
+        return bool(crew.running)
 
-    def _pace(self, found: Found) -> None:
-        """Hands no unit out before the time that its keys may take."""
-        if self.rate is not None:
-            self._may_begin = max(self._may_begin, time.monotonic()) + sum(found.old.values()) / self.rate
-
-    def _done(self, running: Running) -> List[Any]:
-        """Waits for some. Processes that show no sign of life are killed, which breaks the executor."""
+    def _ended(self, crew: Crew) -> List[Tuple[List[Unit], Answer]]:
+        """Waits for some batches. What shows no sign of life is given up."""
         seen, until = signs.shared[1], time.monotonic() + self.timeout
-        while True:
-            done = futures.wait(running, 0.2, futures.FIRST_COMPLETED).done
+        while not (ended := list(crew.ended(0.2))):
             self.tick()
-            if done:
-                return list(done)
             if signs.shared[1] != seen:
                 seen, until = signs.shared[1], time.monotonic() + self.timeout
-            if time.monotonic() > until:
-                if not _kill_children():
-                    raise Silent
-                until = time.monotonic() + self.timeout
+            elif time.monotonic() > until:
+                return [(batch, None) for batch in crew.end()]
+        self.tick()
+        return ended
 
-
-class Again:
-    """The units that were at work when a process died. They go one by one: so the one that kills its process is known."""
-
-    def __init__(self) -> None:
-        self.units: Deque[Unit] = collections.deque()
-        self._tries: Counter[str] = collections.Counter()
-
-    def add(self, running: Running) -> Iterator[Tuple[Unit, Found]]:
-        for unit in [unit for some in running.values() for unit in some]:
-            self._tries[unit.name] += 1
-            if self._tries[unit.name] < TRIES:
-                self.units.append(unit)
-            else:
-                yield unit, Found("its process died")
-        running.clear()
+    def _pace(self, found: List[Found]) -> None:
+        """Hands no unit out before the time that these keys may take."""
+        if self.rate is not None:
+            rewrapped = sum(sum(each.old.values()) for each in found)
+            self._may_begin = max(self._may_begin, time.monotonic()) + rewrapped / self.rate

@@ -3,6 +3,7 @@ verified."""
 
 from __future__ import annotations
 
+import contextlib
 import datetime
 import hashlib
 import json
@@ -11,8 +12,9 @@ import secrets
 import sqlite3
 import stat
 import sys
-from typing import Any, Callable, Iterator, Optional, Set, Tuple
+from typing import Any, Iterator, Optional, Set, Tuple
 
+from . import signs
 from .found import NAMED, Found
 
 
@@ -30,11 +32,11 @@ def shown(text: str) -> str:
 
 
 class Report:
-    """Lines of JSON in a new file. Nobody reads them for a status."""
+    """Lines of JSON in a new file, which nobody reads for a status; on a terminal, a bar that tqdm draws."""
 
     def __init__(self, name: Optional[str]) -> None:
         self.file: Any = None
-        self.clear: Callable[[], None] = lambda: None
+        self.bar: Any = None
         self.said: Set[int] = set()
         if name is not None:
             try:
@@ -54,8 +56,30 @@ class Report:
         if self.file is not None:
             os.fsync(self.file.fileno())
 
+    @contextlib.contextmanager
+    def progress(self, total: int, measure: str) -> Iterator[None]:
+        self.begin = signs.shared[0]
+        with contextlib.suppress(ImportError):
+            if sys.stderr.isatty():
+                from tqdm import tqdm  # type: ignore[import]
+
+                tqdm.monitor_interval = 0  # No thread of it is there when processes are forked.
+                self.bar = tqdm(total=total, leave=False, unit=measure, unit_scale=True)
+        try:
+            yield
+        finally:
+            if self.bar is not None:
+                self.bar.close()
+                self.bar = None
+
+    def tick(self) -> None:
+        if self.bar is not None:
+            self.bar.n = min(signs.shared[0] - self.begin, self.bar.total)
+            self.bar.refresh()
+
     def say(self, text: str) -> None:
-        self.clear()
+        if self.bar is not None:
+            self.bar.clear()
         print(f"keywrap.rotate: {shown(text)}", file=sys.stderr, flush=True)
 
     def name(self, name: str, found: Found) -> None:
