@@ -114,7 +114,7 @@ on() {
     [[ $1 != *without* ]] || software=slow
     row "$1: the AES" writes "$3" "${@:4}" "$2/chosen"
     $software row "$1: the rows, and published cases" "${@:4}" "$2/rows" <kept
-    slow row "$1: the rows that are not kept" "${@:4}" "$2/rows" <all
+    evidence row "$1: the rows that are not kept" "${@:4}" "$2/rows" <all
     slow row "$1: beside the rows" "${@:4}" "$2/own"
     [ -e "${2%_without}/compared" ] || return
     row "$1: the provider, parameters" "${@:4}" "$2/compared" "$2" parameters
@@ -157,7 +157,8 @@ row 'beside the rows' here/own
 if needs 'the calls, sanitized' 'sanitizers of cc'; then
     slow row 'the calls, sanitized: compile' cc "${options[@]}" -g "${sanitize[@]}" "$root/tests/rows.c" \
         "$root"/c/hardware/*.c proved.a -o sanitized
-    slow row 'the calls, sanitized' ./sanitized <all
+    slow row 'the calls, sanitized' ./sanitized <kept
+    evidence row 'the calls, sanitized, the rows that are not kept' ./sanitized <all
 fi
 threads=(cc "${options[@]}" -g -pthread "$root/tests/hardware/threads.c")
 for name in keywrap keywrap_hw; do
