@@ -22,6 +22,6 @@ if [ ! -e "$1/llvm.a" ]; then
     rt lib --jobs "$jobs" --backend rattle && cp out/libkeywrap_c.a "$1/rattle.a" &&
         rt lib --jobs "$jobs" && cp out/libkeywrap_c.a "$1/llvm.a" || exit
 fi
-[[ " $* " != *' arm64 '* ]] || [ -d "$1/arm64" ] || of_arm "$1/arm64"
+[[ " $* " != *' arm64 '* ]] || [ -e "$1/arm64/built_from-aarch64-unknown-linux-gnu" ] || of_arm "$1/arm64"
 [[ " $* " != *' keywrap.wasm '* ]] || [ -e "$1/keywrap.wasm" ] || module "$1/keywrap.wasm" ||
     rm -f "$1/keywrap.wasm.new"
