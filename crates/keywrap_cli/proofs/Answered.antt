@@ -1,31 +1,10 @@
 -- What operations answer, and what a run has written.
-use Rattle.std.proofs.Common.{◌≡◌, ◌≢◌, ◌∙◌, ℕ, List, length, Option, Result, Ok, Err, Vec, IsOk, ap, refl}
-use Rattle.std.proofs.KnownBytes.{Keeps-refl}
-use Rattle.std.specs.declared.alloc.Global.{Global}
-use Rattle.fips197.specs.Cipher.{cipher}
-use Rattle.key_lines.specs.LineAnswers.{Answer, IsAnswered}
-use Rattle.key_lines.specs.declared.fault.LineFault.{LineFault}
+use Rattle.keywrap_cli.proofs.Common.{◌≡◌, ◌∙◌, ℕ, List, length, Option, Result, Ok, Err, Vec, IsOk, ap, refl, Keeps-refl, Global, cipher, Answer, IsAnswered, LineFault, Note, IsPaddedTextLength, AgreedForm, RewrapFault, IsInputLength, IsOneLine, printed, Answers, AnswersTo, FindsKey, IsMade, IsPrinted, MakesConversion, MayLack, WritesFor, conversion, OpensKeks, ReadsInput, last_kek, RunsOperation, RunsUnder, WritesTheAnswer, IsRefusedBefore, RunsInput, WritesAnswer, WritesFrom, WritesOutput, job_fault_of, Direction, Notation, Ciphers, Keks, Done, JobFault, What}
+use Rattle.std.proofs.Common.{◌≢◌}
 use Rattle.key_lines.specs.declared.fault.LineFault.TheVariants.{Input, Refused, Memory, TooManyLines}
-use Rattle.key_lines.specs.declared.job.Note.{Note}
 use Rattle.key_lines.specs.declared.job.Note.TheVariants as notes
-use Rattle.key_wrap_core.specs.Lengths.{IsPaddedTextLength}
-use Rattle.key_wrap_core.specs.declared.agreed_form.AgreedForm.{AgreedForm}
-use Rattle.key_wrap_core.specs.declared.rewrapping.RewrapFault.{RewrapFault}
 use Rattle.key_wrap_core.specs.declared.rewrapping.RewrapFault.TheVariants as refusals
-use Rattle.keywrap_cli.specs.Conversion.{IsInputLength}
-use Rattle.keywrap_cli.specs.Files.{IsOneLine, printed}
-use Rattle.keywrap_cli.specs.JobAnswers.{Answers, AnswersTo, FindsKey, IsMade, IsPrinted, MakesConversion, MayLack, WritesFor, conversion}
-use Rattle.keywrap_cli.specs.JobReading.{OpensKeks, ReadsInput, last_kek}
-use Rattle.keywrap_cli.specs.Operation.{RunsOperation, RunsUnder, WritesTheAnswer}
-use Rattle.keywrap_cli.specs.RunSteps.{IsRefusedBefore, RunsInput, WritesAnswer, WritesFrom, WritesOutput, job_fault_of}
-use Rattle.keywrap_cli.specs.declared.convert.Direction.{Direction}
 use Rattle.keywrap_cli.specs.declared.convert.Direction.TheVariants as directions
-use Rattle.keywrap_cli.specs.declared.files.Notation.{Notation}
-use Rattle.keywrap_cli.specs.declared.kek_file.Ciphers.{Ciphers}
-use Rattle.keywrap_cli.specs.declared.kek_file.Keks.{Keks}
-use Rattle.keywrap_cli.specs.declared.outcome.Done.{Done}
-use Rattle.keywrap_cli.specs.declared.outcome.JobFault.{JobFault}
-use Rattle.keywrap_cli.specs.declared.what.What.{What}
 use Rattle.keywrap_cli.specs.declared.what.What.TheVariants.{UnwrapAny}
 use Rattle.keywrap_cli.proofs.KekFiles.{keks_weaker, refused_keks, under_keks}
 

@@ -1,19 +1,10 @@
 -- What a call makes of its input in a buffer with room, from what the call promises, by the cases of its result.
-use Rattle.std.proofs.Common.{◌≡◌, ◌↔◌, ℕ, List, length, Result, Ok, Err, OnOk, refl}
-use Rattle.std.specs.Prelude.{IsOkUnless}
-use Rattle.key_lines.specs.LineAnswers.{made}
+use Rattle.keywrap_cli.proofs.Common.{◌≡◌, ◌↔◌, ℕ, List, length, Result, Ok, Err, OnOk, refl, IsOkUnless, made, IsTextLengthAs, IsWrapping, with_value, ArePaddedLengths, KeyAnswer, NoOtherForm, AgreedForm, Form, FindsKey, IsMade, MakesConversion, job_refusal, IsInputLength, IsKeyOf}
 use Rattle.key_lines.specs.declared.fault.LineFault.TheVariants.{Refused}
-use Rattle.key_wrap_core.specs.Forms.{IsTextLengthAs, IsWrapping, with_value}
 use Rattle.key_wrap_core.specs.EitherForm.{IsEither, IsOnlyWrapping, NoKeyIn}
-use Rattle.key_wrap_core.specs.InPlace.{ArePaddedLengths, KeyAnswer}
-use Rattle.key_wrap_core.specs.Forms.{NoOtherForm}
 use Rattle.key_wrap_core.specs.declared.faults.InPlaceFault.{InPlaceFault}
 use Rattle.key_wrap_core.specs.declared.faults.InPlaceFault.TheVariants.{BadLength, Integrity}
-use Rattle.key_wrap_core.specs.declared.agreed_form.AgreedForm.{AgreedForm}
-use Rattle.key_wrap_core.specs.declared.forms.Form.{Form}
 use Rattle.key_wrap_core.specs.declared.forms.FoundKey.{FoundKey}
-use Rattle.keywrap_cli.specs.JobAnswers.{FindsKey, IsMade, MakesConversion, job_refusal}
-use Rattle.keywrap_cli.specs.Conversion.{IsInputLength, IsKeyOf}
 use Rattle.keywrap_cli.specs.declared.convert.Direction.TheVariants.{Wrap, Unwrap}
 
 -- a wrapping of a key with a legal length

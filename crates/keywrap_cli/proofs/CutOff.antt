@@ -1,16 +1,8 @@
 -- What a command without files has written, and the cause of its fault by the fault of its call.
-use Rattle.std.specs.declared.alloc.Global.{Global}
-use Rattle.std.proofs.Common.{◌≡◌, ℕ, List, Vec, Option, Result, Ok, Err, IfErr, IsErrAnd, refl, sym, ap, subst}
-use Rattle.std.proofs.lemmas.Result.{IfErr-weaker}
-use Rattle.key_files.specs.HexText.{hex_line}
-use Rattle.key_files.specs.Writing.{WritesHex}
+use Rattle.keywrap_cli.proofs.Common.{Global, ◌≡◌, ℕ, List, Vec, Option, Result, Ok, Err, IfErr, IsErrAnd, refl, sym, ap, subst, IfErr-weaker, hex_line, WritesHex, Form, DrillAnswer, hex_fault_of, Direction}
 use Rattle.key_files.specs.declared.fault.HexWriteFault.{HexWriteFault}
 use Rattle.key_files.specs.declared.fault.HexWriteFault.TheVariants as hex
-use Rattle.key_wrap_core.specs.declared.forms.Form.{Form}
-use Rattle.keywrap_cli.specs.Drill.{DrillAnswer}
-use Rattle.keywrap_cli.specs.Faults.{hex_fault_of}
 use Rattle.keywrap_cli.specs.Fileless.{IsDrillFault}
-use Rattle.keywrap_cli.specs.declared.convert.Direction.{Direction}
 use Rattle.keywrap_cli.specs.declared.fault.ProgramFault.{ProgramFault}
 use Rattle.keywrap_cli.specs.declared.fault.ProgramFault.TheVariants.{Flush}
 

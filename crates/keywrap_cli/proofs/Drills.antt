@@ -1,16 +1,13 @@
 -- The bytes that the text of a drill denotes: within the limit, the bytes of its digits. Such a text is refused only for
 -- its digits. So the decoding's answer is the text's answer, by cases.
-use Rattle.std.proofs.Common.{◌≡◌, ◌≢◌, ◌↔◌, ◌||◌, not, position, ℕ, ◌<◌, ◌≤◌, List, length, Vec, Bool, true, false, Option, Some, None, Result, Ok, Err, IfOk, IsOk, MatchResult}
-use Rattle.std.proofs.Common.{IsErrAnd, refl, sym, ◌∙◌, ap, subst, cond}
-use Rattle.std.specs.declared.alloc.Global.{Global}
+use Rattle.keywrap_cli.proofs.Common.{◌≡◌, ◌↔◌, ◌||◌, not, position, ℕ, ◌<◌, ◌≤◌, List, length, Vec, Bool, true, false, Option, Some, None, Result, Ok, Err, IsOk, IsErrAnd, refl, sym, ◌∙◌, ap, subst, cond, Global, digits_of, is_skipped, FileFault, drill_meaning, text_fault_of, TextAnswer}
+use Rattle.std.proofs.Common.{◌≢◌, IfOk, MatchResult}
 use Rattle.std.proofs.lemmas.Bool.{lt-ltb, le-ltb}
-use Rattle.key_files.specs.HexText.{digits_of, is_hex_digit, is_skipped}
+use Rattle.key_files.specs.HexText.{is_hex_digit}
 use Rattle.key_files.specs.FileMeaning.{file_meaning, hex_meaning, digits_meaning}
-use Rattle.key_files.specs.declared.fault.FileFault.{FileFault}
 use Rattle.key_files.specs.declared.fault.FileFault.TheVariants as files
 use Rattle.key_files.specs.declared.read.TheConstants.{MAX_FILE}
 use Rattle.keywrap_cli.specs.declared.drilling.DrillFault.{DrillFault}
-use Rattle.keywrap_cli.specs.Drill.{drill_meaning, text_fault_of, TextAnswer}
 
 -- digits that are odd in number are refused as such, and others denote bytes
 odd_or_paired : (odd : Bool) (bytes : List ℕ) (fault : FileFault) → fault ≢ files.OddDigits

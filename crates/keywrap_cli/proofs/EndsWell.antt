@@ -1,44 +1,21 @@
 -- What a run says that ends with status 0, and that its answers to lines are lines.
-use Rattle.std.proofs.Common.{◌≡◌, ◌≢◌, ℕ, ◌+◌, List, [], ◌∷◌, ◌++◌, length, map, Option, Some, None, Result, Ok, Err, Vec, refl, sym, subst, ap, ◌∙◌, arith, append-nil}
-use Rattle.std.specs.Prelude.{IfOk, IfSome, MatchResult}
-use Rattle.std.specs.declared.alloc.Global.{Global}
-use Rattle.std.specs.List.{AllByRecursion}
-use Rattle.std.specs.Io.KnownBytes.{Appends}
-use Rattle.fips197.specs.Cipher.{cipher}
-use Rattle.key_files.specs.Writing.{IsLine}
-use Rattle.key_lines.specs.LineAnswers.{Answer, AreLines, note_count, notes_of, output_of, refusals_of}
+use Rattle.keywrap_cli.proofs.Common.{◌≡◌, ℕ, ◌+◌, List, [], ◌∷◌, ◌++◌, length, map, Option, Some, None, Result, Ok, Err, Vec, refl, sym, subst, ap, ◌∙◌, arith, IfSome, Global, AllByRecursion, Appends, cipher, IsLine, Answer, AreLines, note_count, notes_of, output_of, refusals_of, LineFault, Note, IsWrappingWithIv, IsKindWith, Form, Kind, RewrapFault, IsOneLine, line_notation, Answers, Makes, MayLack, done_of, kind_note, OpensKeks, ReadsFile, ReadsInput, last_kek, RunsOperation, RunsOperationLines, RunsUnder, WritesTheLines, AnswersEachLine, AnswersLines, IsRefusedBefore, WritesFrom, Notation, Ciphers, Keks, Done, JobFault, What}
+use Rattle.std.proofs.Common.{◌≢◌, append-nil}
+use Rattle.std.specs.Prelude.{IfOk, MatchResult}
 use Rattle.key_lines.specs.Lines.{lines_of}
 use Rattle.key_lines.specs.Running.{AreResults, RunsLines, WritesAnswers, written_for}
 use Rattle.key_lines.specs.Summary.{first_of}
-use Rattle.key_lines.specs.declared.fault.LineFault.{LineFault}
 use Rattle.key_lines.specs.declared.fault.RefusedLine.{RefusedLine}
 use Rattle.key_lines.specs.declared.fault.RunFault.{RunFault}
-use Rattle.key_lines.specs.declared.job.Note.{Note}
 use Rattle.key_lines.specs.declared.job.Note.TheVariants as notes
 use Rattle.key_lines.specs.declared.run.RunOptions.{RunOptions}
 use Rattle.key_lines.specs.declared.summary.RunSummary.{RunSummary}
 use Rattle.key_lines.specs.declared.text.TextNotation.{TextNotation}
 use Rattle.key_lines.specs.declared.text.TextNotation.TheVariants as texts
-use Rattle.key_wrap_core.specs.Forms.{IsWrappingWithIv}
-use Rattle.key_wrap_core.specs.Kind.{IsKindWith}
-use Rattle.key_wrap_core.specs.declared.forms.Form.{Form}
 use Rattle.key_wrap_core.specs.declared.forms.Form.TheVariants as forms
-use Rattle.key_wrap_core.specs.declared.forms.Kind.{Kind}
 use Rattle.key_wrap_core.specs.declared.forms.Kind.TheVariants as kinds
-use Rattle.key_wrap_core.specs.declared.rewrapping.RewrapFault.{RewrapFault}
 use Rattle.keywrap_cli.specs.EndsWell.{AnswersAllLines, AnswersLinesOf, AnswersWhole, AreOutputs, EndsWell, FindsKeys, IsAnsweredLine, IsWrapped, IsWrappedLine}
-use Rattle.keywrap_cli.specs.Files.{IsOneLine, line_notation}
-use Rattle.keywrap_cli.specs.JobAnswers.{Answers, Makes, MayLack, done_of, kind_note}
-use Rattle.keywrap_cli.specs.JobReading.{OpensKeks, ReadsFile, ReadsInput, last_kek}
-use Rattle.keywrap_cli.specs.Operation.{RunsOperation, RunsOperationLines, RunsUnder, WritesTheLines}
-use Rattle.keywrap_cli.specs.RunSteps.{AnswersEachLine, AnswersLines, IsRefusedBefore, WritesFrom}
-use Rattle.keywrap_cli.specs.declared.files.Notation.{Notation}
-use Rattle.keywrap_cli.specs.declared.kek_file.Ciphers.{Ciphers}
-use Rattle.keywrap_cli.specs.declared.kek_file.Keks.{Keks}
-use Rattle.keywrap_cli.specs.declared.outcome.Done.{Done}
 use Rattle.keywrap_cli.specs.declared.outcome.Done.TheVariants.{Written}
-use Rattle.keywrap_cli.specs.declared.outcome.JobFault.{JobFault}
-use Rattle.keywrap_cli.specs.declared.what.What.{What}
 use Rattle.keywrap_cli.specs.declared.what.What.TheVariants.{Wrap, Unwrap, UnwrapAny, Check, Rewrap}
 use Rattle.keywrap_cli.proofs.KekFiles.{keks_weaker, under_keks}
 

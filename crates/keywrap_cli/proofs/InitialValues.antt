@@ -1,20 +1,17 @@
 -- 16 hex digits denote what `hex` decodes: the digits of each byte are the byte of the number at their place. Then the
 -- answer for a text, in each of the three cases.
-use Rattle.std.proofs.Common.{◌≡◌, ◌↔◌, ◌<◌, ◌+◌, ◌*◌, ◌%◌, ℕ, true, List, [], ◌∷◌, length, Some, Result, Ok, Err, MatchResult, false}
-use Rattle.std.proofs.Common.{refl, sym, ap, ◌∙◌, arith}
+use Rattle.keywrap_cli.proofs.Common.{◌≡◌, ◌↔◌, ◌<◌, ◌+◌, ◌*◌, ◌%◌, ℕ, true, List, [], ◌∷◌, length, Some, Result, Ok, Err, false, refl, sym, ap, ◌∙◌, arith, AllPass, nat_tests, IsReserved}
+use Rattle.std.proofs.Common.{MatchResult}
 use Rattle.std.specs.Char.{digit_value}
 use Rattle.std.specs.Int.Digits.{number_from_digits, number_from_digits_after}
-use Rattle.std.specs.List.{AllPass}
 use Rattle.std.specs.Result.{is_err}
 use Rattle.std.specs.Str.Parse.{AllDigits, digits_value_after}
-use Rattle.std.proofs.lemmas.Bool.Decides.{nat_tests}
 use Rattle.std.proofs.lemmas.List.Elements.{All-head, All-tail}
 use Rattle.byteorder.specs.Endian.{big_number}
 use Rattle.hex.specs.Hex.{decode_pairs, decode_sized, hex_digit_value, is_hex_digit, pair_value}
 use Rattle.hex.specs.declared.error.FromHexError.{FromHexError}
 use Rattle.hex.proofs.HexLemmas.{IsOk-decode_sized, IsOk-written, decode_pairs-ok}
 use Rattle.hex.proofs.Pairs.{cons_byte, decode_pairs-ok_pair, decode_sized-pairs}
-use Rattle.key_wrap_core.specs.Plain.{IsReserved}
 use Rattle.keywrap_cli.specs.InitialValue.{DenotesIv, IsSixteenDigits}
 use Rattle.keywrap_cli.specs.declared.initial_value.IvFault.{IvFault}
 use Rattle.keywrap_cli.specs.declared.initial_value.IvFault.TheVariants.{NotSixteenDigits, Reserved}

@@ -1,15 +1,7 @@
 -- Reading the KEK files: what a call says of the KEKs that it read, and what follows for the rest of it.
-use Rattle.std.proofs.Common.{◌≡◌, ◌↔◌, ℕ, Bool, false, List, Option, Some, None, Result, Ok, Err, IsTrue, ap, refl, subst}
-use Rattle.std.specs.Prelude.{IsOkAnd, MatchResult}
-use Rattle.key_files.specs.declared.fault.FileFault.{FileFault}
-use Rattle.keywrap_cli.specs.JobReading.{AreCiphers, OpensKek, OpensKeks, UnderKek, UnderKeks, UnderNewKek}
-use Rattle.keywrap_cli.specs.JobReading.{kek_fault_of, last_kek, one_kek, two_keks}
-use Rattle.keywrap_cli.specs.Operation.{TellsSameKek}
-use Rattle.keywrap_cli.specs.declared.files.Notation.{Notation}
-use Rattle.keywrap_cli.specs.declared.kek_file.Ciphers.{Ciphers}
+use Rattle.keywrap_cli.proofs.Common.{◌≡◌, ◌↔◌, ℕ, Bool, false, List, Option, Some, None, Result, Ok, Err, IsTrue, ap, refl, subst, IsOkAnd, FileFault, AreCiphers, OpensKek, OpensKeks, UnderKek, UnderKeks, UnderNewKek, kek_fault_of, last_kek, one_kek, two_keks, TellsSameKek, Notation, Ciphers, Keks, JobFault}
+use Rattle.std.specs.Prelude.{MatchResult}
 use Rattle.keywrap_cli.specs.declared.kek_file.KekRole.TheVariants.{Kek, NewKek}
-use Rattle.keywrap_cli.specs.declared.kek_file.Keks.{Keks}
-use Rattle.keywrap_cli.specs.declared.outcome.JobFault.{JobFault}
 
 kek_weaker : (notation : Notation) (file file' : Option (List ℕ)) (Then Then' : List ℕ → Type 0) (Refused Refused' : Option FileFault → Type 0)
     → ((K : List ℕ) → Then K → Then' K) → ((why : Option FileFault) → Refused why → Refused' why)

@@ -1,17 +1,9 @@
 -- The line of a check is one line: no character of it is LF, but for the last.
-use Rattle.std.proofs.Common.{◌≡◌, ◌<◌, ◌+◌, ◌%◌, ◌==◌, ◌^◌, not, true, Bool, ℕ, List, [], ◌∷◌, ◌++◌, codes, arith, refl, subst, sym}
+use Rattle.keywrap_cli.proofs.Common.{◌≡◌, ◌<◌, ◌+◌, ◌%◌, ◌==◌, ◌^◌, not, true, Bool, ℕ, List, [], ◌∷◌, ◌++◌, codes, arith, refl, subst, sym, list_all, nat_tests, IsLine, IsKindWith, Kind, kind_line, IsOneLine, Notation}
 use Rattle.std.specs.Fmt.{decimal}
-use Rattle.std.specs.List.{list_all}
-use Rattle.std.proofs.lemmas.Bool.Decides.{nat_tests}
 use Rattle.std.proofs.lemmas.Fmt.{decimal_by_steps}
-use Rattle.key_files.specs.Writing.{IsLine}
 use Rattle.key_files.proofs.Lists.{IsLine-of, all-append}
-use Rattle.key_wrap_core.specs.Kind.{IsKindWith}
-use Rattle.key_wrap_core.specs.declared.forms.Kind.{Kind}
 use Rattle.key_wrap_core.specs.declared.forms.Kind.TheVariants as kinds
-use Rattle.keywrap_cli.specs.JobAnswers.{kind_line}
-use Rattle.keywrap_cli.specs.Files.{IsOneLine}
-use Rattle.keywrap_cli.specs.declared.files.Notation.{Notation}
 use Rattle.keywrap_cli.specs.declared.files.Notation.TheVariants.{Raw, Hex, Base64, Base64Url}
 
 -- any byte but LF

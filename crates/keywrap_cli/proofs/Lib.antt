@@ -1,4 +1,5 @@
 pub mod Answered
+pub mod Common
 pub mod Conversions
 pub mod CutOff
 pub mod Drills

@@ -1,10 +1,6 @@
 -- A report grows by a line at a time: each of its parts for one vector more, and then the report itself.
-use Rattle.std.specs.Io.KnownBytes.{Appends}
-use Rattle.std.proofs.Common.{◌≡◌, ◌+◌, ◌<◌, ◌&&◌, ℕ, Option, subst, take, map, get_or, Bool, true, false, List, [], ◌∷◌, ◌++◌, length, refl, sym}
-use Rattle.std.proofs.Common.{inl, inr, ap, ◌∙◌, append_assoc, arith, length-append}
-use Rattle.std.proofs.lemmas.List.{append-nil, map-append, take_more}
-use Rattle.keywrap_cli.specs.VectorReport.{AreVerdicts, Gave, IsReport, IsVerdict, IsVerdictOnAll, report_lines, verdict, all_true}
-use Rattle.test_vectors.specs.Vectors.{TestVector}
+use Rattle.keywrap_cli.proofs.Common.{Appends, ◌≡◌, ◌+◌, ◌<◌, ◌&&◌, ℕ, Option, subst, take, map, get_or, Bool, true, false, List, [], ◌∷◌, ◌++◌, length, refl, sym, inl, inr, ap, ◌∙◌, append_assoc, arith, length-append, map-append, take_more, AreVerdicts, Gave, IsReport, IsVerdict, IsVerdictOnAll, report_lines, verdict, all_true, TestVector}
+use Rattle.std.proofs.lemmas.List.{append-nil}
 
 lines_more : (vectors : List TestVector) (oks : List Bool) (v : TestVector) (ok : Bool) → length oks ≡ length vectors
     → report_lines (vectors ++ v ∷ []) (oks ++ ok ∷ []) ≡ report_lines vectors oks ++ (v.name ++ verdict ok)

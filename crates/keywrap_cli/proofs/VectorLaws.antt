@@ -1,11 +1,8 @@
 -- What the calls of the crate gave for a vector, and whether the vector is right.
-use Rattle.std.proofs.Common.{◌∙◌, ℕ, List, length, Option, Some, None, ap, inl, inr, sym}
+use Rattle.keywrap_cli.proofs.Common.{◌∙◌, ℕ, List, length, Option, Some, None, ap, inl, inr, sym, cipher, Differs, LibraryGives, IsReproduced, IsMissed, IsRight, Takes, TestVector}
 use Rattle.std.specs.Prelude.{◌≢◌}
-use Rattle.fips197.specs.Cipher.{cipher}
 use Rattle.fips197.specs.KeyExpansion.{IsKekLength}
-use Rattle.keywrap_cli.specs.VectorReport.{Differs, LibraryGives, IsReproduced, IsMissed, IsRight, Takes}
 use Rattle.keywrap_cli.specs.declared.convert.Direction.TheVariants.{Wrap, Unwrap}
-use Rattle.test_vectors.specs.Vectors.{TestVector}
 use Rattle.test_vectors.specs.declared.table.Algorithm.{Algorithm}
 use Rattle.test_vectors.specs.declared.table.Algorithm.TheVariants.{KeyWrap, KeyWrapWithPadding, Encryption}
 

@@ -2,16 +2,13 @@
 
 mod block_calls;
 mod cases;
-mod checks;
 mod drills;
 mod faults;
 mod fixed_calls;
 mod hostile;
 mod initial_values;
 mod jobs;
-mod operations;
+mod lines;
 mod published;
 mod rewraps;
-mod standards;
 mod vectors;
-mod wrapping;

@@ -1,15 +1,19 @@
 //! Test cases: an operation, its files, its result and its output; and how a case is run.
 
+use crate::convert::{Direction, convert_into};
 use crate::files::Notation;
 use crate::kek_file::Keks;
 use crate::operation::Operation;
 use crate::outcome::{Done, JobFault};
 use crate::what::What;
+use block_pair::BlockPair;
 use key_wrap_core::{AgreedForm, Form, InitialValue, RewrapForms};
 use std::alloc::Global;
 use std::io::Write;
 use std::process::Abort;
+use std::test::Fail;
 use test_doubles::{Narrow, Trickle};
+use test_vectors::Algorithm;
 
 /// The notations of the input and of the KEK files.
 pub const HEX: [Notation; 2] = [Notation::Hex, Notation::Hex];
@@ -34,14 +38,14 @@ pub struct Case<'a>(
     pub &'a [u8],
 );
 
-/// Returns a case whose files are hex.
-pub fn hex(
-    what: What,
-    files: [&'static [u8]; 3],
-    wanted: Answer,
-    output: &'static [u8],
-) -> Case<'static> {
-    Case(what, HEX, files, wanted, output)
+/// Returns a case whose files are hex, and whose output is written.
+pub fn hex(what: What, files: [&'static [u8]; 3], output: &'static [u8]) -> Case<'static> {
+    Case(what, HEX, files, WRITTEN, output)
+}
+
+/// Returns a case whose files are hex, and which is refused.
+pub fn refused(what: What, files: [&'static [u8]; 3], fault: JobFault) -> Case<'static> {
+    Case(what, HEX, files, Err(fault), b"")
 }
 
 /// Returns a form with the default initial value.
@@ -54,12 +58,47 @@ pub fn check() -> What {
     What::Check(InitialValue::default())
 }
 
-/// Returns a rewrap with the default initial value that passes nothing.
-pub fn rewrap(old: Form, new: Form) -> What {
-    What::Rewrap {
-        forms: RewrapForms::by_default(old, new),
-        pass_new: false,
+/// The old and the new form of a rewrap, with the default initial value. `None` keeps the form.
+pub type Forms = Option<(Form, Form)>;
+
+pub const KEPT: Forms = None;
+
+pub const PLAIN: Forms = Some((Form::Plain, Form::Plain));
+
+pub const TO_PADDED: Forms = Some((Form::Plain, Form::Padded));
+
+pub const TO_PLAIN: Forms = Some((Form::Padded, Form::Plain));
+
+pub const PADDED: Forms = Some((Form::Padded, Form::Padded));
+
+/// Returns a rewrap, and whether it copies wrapped keys that are new already.
+pub fn rewrap(forms: Forms, pass_new: bool) -> What {
+    let forms = match forms {
+        None => RewrapForms::Kept,
+        Some((old, new)) => RewrapForms::by_default(old, new),
+    };
+    What::Rewrap { forms, pass_new }
+}
+
+/// Returns the form of a published wrapping, and `None` for an encryption.
+pub fn wrapping_form(algorithm: Algorithm) -> Option<Form> {
+    match algorithm {
+        Algorithm::KeyWrap => Some(Form::Plain),
+        Algorithm::KeyWrapWithPadding => Some(Form::Padded),
+        Algorithm::Encryption => None,
     }
+}
+
+/// Returns the wrapping of a key in a form.
+pub fn wrapped<B: BlockPair>(
+    alloc: Global,
+    form: &AgreedForm,
+    pair: &B,
+    key: &[u8],
+) -> Result<Vec<u8>, Fail> {
+    let mut text = Vec::new(alloc);
+    convert_into(Direction::Wrap, form, pair, key, &mut text)?;
+    Ok(text)
 }
 
 /// Runs an operation over its files. Returns its result, and the files as it left them.

@@ -53,28 +53,26 @@ static WRAPPINGS: [(Form, &str, &str); 8] = [
 const SPACED: &str = "00 11\t22 33 44 55 66 77\r\n88 99 AA bb CC dd EE ff\n";
 
 #[test]
-fn wraps_and_unwraps_keys(rt: HostRuntime) {
+fn wraps_and_unwraps_keys(rt: HostRuntime) -> Result<(), Fail> {
     for (form, key, text) in &WRAPPINGS {
-        assert!(rt; answers(rt.alloc(), *form, Wrap, key, text), "{key}");
-        assert!(rt; answers(rt.alloc(), *form, Unwrap, text, key), "{text}");
+        assert!(rt; drills_to(rt.alloc(), *form, Wrap, key, text)?, "{key}");
+        assert!(rt; drills_to(rt.alloc(), *form, Unwrap, text, key)?, "{text}");
     }
     let (_, _, text) = WRAPPINGS[0];
-    assert!(rt; answers(rt.alloc(), Plain, Wrap, SPACED, text));
+    assert!(rt; drills_to(rt.alloc(), Plain, Wrap, SPACED, text)?);
+    Ok(())
 }
 
 // Returns whether the result of a drill is the bytes of these digits.
-fn answers(alloc: Global, form: Form, direction: Direction, text: &str, digits: &str) -> bool {
-    match drill(alloc, form, direction, text) {
-        Ok(found) => are_of(alloc, &found, digits),
-        Err(_) => false,
-    }
-}
-
-fn are_of(alloc: Global, bytes: &[u8], digits: &str) -> bool {
-    match hex::encode(alloc, bytes) {
-        Ok(found) => found.as_str() == digits,
-        Err(_) => false,
-    }
+fn drills_to(
+    alloc: Global,
+    form: Form,
+    direction: Direction,
+    text: &str,
+    digits: &str,
+) -> Result<bool, Fail> {
+    let found = hex::encode(alloc, &drill(alloc, form, direction, text)?)?;
+    Ok(found.as_str() == digits)
 }
 
 // Some words of the wrapping of 43 zero words, each with its offset in bytes.

@@ -1,21 +1,28 @@
 //! The calls for one key: each does what its operation does.
 
 use super::cases::{Answer, HEX, RAW, RAW_KEKS, WRITTEN};
-use super::initial_values::{OTHER, OTHER_TEXT};
+use super::initial_values::OTHER;
 use super::jobs::{
-    BAD_LENGTH, HEX_KEK, HEX_KEY, HEX_TEXT, INTEGRITY, KEK_DIGIT, PADDED_KEK, RAW_KEK, RAW_KEY,
-    RAW_TEXT, TEXT_OF_20,
+    AT_1, HEX_KEK, HEX_KEY, HEX_TEXT, OTHER_TEXT, PADDED_KEK, PLAIN_16, RAW_KEK, RAW_KEY, RAW_TEXT,
+    TEXT_OF_20,
 };
-use super::rewraps::{NEW_KEK, NEW_KEK_LENGTH, NEW_PADDED, NEW_TEXT};
+use super::rewraps::{NEW_KEK, NEW_PADDED, NEW_TEXT};
 use crate::convert::Direction::{self, Unwrap, Wrap};
 use crate::files::Notation;
 use crate::job::{Job, Task, run_job, run_rewrap, run_with};
+use crate::outcome::JobFault;
 use key_wrap_core::Form::{self, Padded, Plain};
 use key_wrap_core::InitialValue;
 use std::test::Fail;
 use test_doubles::{Narrow, Trickle};
 
-const PLAIN_16: &[u8] = b"plain 16\n";
+const KEK_DIGIT: Answer = Err(JobFault::KekFile(AT_1));
+
+const NEW_KEK_LENGTH: Answer = Err(JobFault::NewKekLength);
+
+const BAD_LENGTH: Answer = Err(JobFault::BadLength);
+
+const INTEGRITY: Answer = Err(JobFault::Integrity);
 
 const TO_PADDED: [Form; 2] = [Plain, Padded];
 

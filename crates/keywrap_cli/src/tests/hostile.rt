@@ -10,7 +10,7 @@ mod texts;
 mod writes;
 
 use super::cases::Case;
-use super::{checks, initial_values, jobs, rewraps};
+use super::{jobs, rewraps};
 use memory::run_in_room;
 use reads::fail_each_read;
 use std::alloc::Global;
@@ -28,12 +28,6 @@ enum Trial {
 
 fn try_each_case(rt: &impl Abort, alloc: Global, trial: Trial) {
     for case in &jobs::cases() {
-        try_case(rt, alloc, trial, case);
-    }
-    for case in &checks::cases() {
-        try_case(rt, alloc, trial, case);
-    }
-    for case in &initial_values::cases() {
         try_case(rt, alloc, trial, case);
     }
     for case in &rewraps::cases() {

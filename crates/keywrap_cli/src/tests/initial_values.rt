@@ -1,41 +1,10 @@
-//! Initial values: their texts, and jobs under them.
+//! Initial values, and their texts.
 
-use super::cases::{Case, RAW_KEKS, WRITTEN, hex};
-use super::jobs::{HEX_KEK, HEX_KEY, HEX_TEXT, INTEGRITY, RAW_KEK};
 use crate::initial_value::{IvFault, parse_iv};
-use crate::what::What;
 use key_wrap_core::{AgreedForm, InitialValue};
 
 /// A value that is not the default.
 pub const OTHER: [u8; 8] = *b"\x01\x23\x45\x67\x89\xAB\xCD\xEF";
-
-// The same key under this value, as OpenSSL wraps it.
-pub const OTHER_TEXT: &[u8] = b"a0f76f4b09e1f2191b8d94da2ca57adfd45ee9732992a98f\n";
-
-pub fn cases() -> [Case<'static>; 3] {
-    [
-        hex(
-            What::Wrap(other()),
-            [HEX_KEK, b"", HEX_KEY],
-            WRITTEN,
-            OTHER_TEXT,
-        ),
-        Case(
-            What::Unwrap(other()),
-            RAW_KEKS,
-            [RAW_KEK, b"", OTHER_TEXT],
-            WRITTEN,
-            HEX_KEY,
-        ),
-        Case(
-            What::Unwrap(other()),
-            RAW_KEKS,
-            [RAW_KEK, b"", HEX_TEXT],
-            INTEGRITY,
-            b"",
-        ),
-    ]
-}
 
 /// The plain form with the other value, which is not reserved.
 pub fn other() -> AgreedForm {

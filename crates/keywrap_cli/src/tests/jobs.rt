@@ -1,12 +1,14 @@
-//! Jobs over files in memory: the vector of RFC 3394, section 4.1, in each job and notation, and
-//! refusals.
+//! Operations under one KEK over files in memory: the vectors of RFC 3394, section 4.1, and
+//! RFC 5649, section 6, in each notation, another initial value, and refusals.
 
-use super::cases::{Answer, Case, RAW, RAW_KEKS, WRITTEN, check, form, hex};
+use super::cases::{Answer, Case, RAW, RAW_KEKS, WRITTEN, check, form, hex, refused};
+use super::initial_values::other;
 use crate::files::Notation;
-use crate::outcome::JobFault;
-use crate::what::What;
-use key_files::FileFault;
-use key_wrap_core::Form;
+use crate::outcome::Done;
+use crate::outcome::JobFault::{BadLength, InputFile, Integrity, KekFile, KekLength};
+use crate::what::What::{self, Unwrap, Wrap};
+use key_files::FileFault::{self, OddDigits};
+use key_wrap_core::Form::{Padded, Plain};
 
 /// The KEK, the key and its text.
 pub const HEX_KEK: &[u8] = b"000102030405060708090a0b0c0d0e0f\n";
@@ -36,82 +38,81 @@ const SPACED_KEK: &[u8] = b"00 01 02 03 04 05 06 07\r\n08090A0b0C0d0E0f\r\n";
 
 const FIFTEEN: &[u8] = b"000000000000000000000000000000";
 
+// The text of RFC 3394, section 4.1, without its last byte; and with another last byte.
+const SHORT: &[u8] = b"1fa68b0a8112b447aef34bd8fb5a7b829d3e862371d2cf";
+
+const CHANGED: &[u8] = b"1fa68b0a8112b447aef34bd8fb5a7b829d3e862371d2cfe4";
+
+/// The same key under the other value, as OpenSSL wraps it.
+pub const OTHER_TEXT: &[u8] = b"a0f76f4b09e1f2191b8d94da2ca57adfd45ee9732992a98f\n";
+
+pub const PLAIN_16: &[u8] = b"plain 16\n";
+
+const NONE: &[u8] = b"none\n";
+
+const NEITHER: Answer = Ok(Done::Neither);
+
+const RAW_INPUT: [Notation; 2] = [Notation::Raw, Notation::Hex];
+
+/// A digit is wrong at the first byte, or at the second.
+pub const AT_0: FileFault = FileFault::BadDigit { at: 0 };
+
+pub const AT_1: FileFault = FileFault::BadDigit { at: 1 };
+
 fn wrap() -> What {
-    What::Wrap(form(Form::Plain))
+    Wrap(form(Plain))
 }
 
 fn unwrap() -> What {
-    What::Unwrap(form(Form::Plain))
+    Unwrap(form(Plain))
 }
 
-pub fn cases() -> [Case<'static>; 27] {
+pub fn cases() -> [Case<'static>; 35] {
     [
-        hex(wrap(), [HEX_KEK, b"", HEX_KEY], WRITTEN, HEX_TEXT),
-        hex(unwrap(), [HEX_KEK, b"", HEX_TEXT], WRITTEN, HEX_KEY),
-        hex(check(), [HEX_KEK, b"", HEX_TEXT], WRITTEN, b"plain 16\n"),
+        hex(wrap(), [HEX_KEK, b"", HEX_KEY], HEX_TEXT),
+        hex(unwrap(), [HEX_KEK, b"", HEX_TEXT], HEX_KEY),
+        hex(Wrap(other()), [HEX_KEK, b"", HEX_KEY], OTHER_TEXT),
+        hex(Unwrap(other()), [HEX_KEK, b"", OTHER_TEXT], HEX_KEY),
+        hex(check(), [HEX_KEK, b"", HEX_TEXT], PLAIN_16),
+        hex(check(), [PADDED_KEK, b"", TEXT_OF_20], b"padded 20\n"),
+        hex(check(), [PADDED_KEK, b"", TEXT_OF_7], b"padded 7\n"),
+        Case(check(), RAW_KEKS, [RAW_KEK, b"", SHORT], NEITHER, NONE),
+        Case(check(), RAW_KEKS, [RAW_KEK, b"", CHANGED], NEITHER, NONE),
+        Case(check(), RAW_KEKS, [RAW_KEK, b"", BLANKS], NEITHER, NONE),
+        Case(check(), RAW, [RAW_KEK, b"", RAW_TEXT], WRITTEN, PLAIN_16),
         Case(wrap(), RAW, [RAW_KEK, b"", RAW_KEY], WRITTEN, RAW_TEXT),
         Case(unwrap(), RAW, [RAW_KEK, b"", RAW_TEXT], WRITTEN, RAW_KEY),
-        Case(
-            check(),
-            RAW,
-            [RAW_KEK, b"", RAW_TEXT],
-            WRITTEN,
-            b"plain 16\n",
-        ),
         Case(wrap(), RAW_KEKS, [RAW_KEK, b"", HEX_KEY], WRITTEN, HEX_TEXT),
         Case(
             wrap(),
-            [Notation::Raw, Notation::Hex],
+            RAW_INPUT,
             [HEX_KEK, b"", RAW_KEY],
             WRITTEN,
             RAW_TEXT,
         ),
-        hex(wrap(), [SPACED_KEK, b"", HEX_KEY], WRITTEN, HEX_TEXT),
+        hex(wrap(), [SPACED_KEK, b"", HEX_KEY], HEX_TEXT),
         // a KEK of an illegal length, with any input
-        Case(wrap(), RAW, [b"", b"", RAW_KEY], KEK_LENGTH, b""),
-        Case(wrap(), RAW, [&[0; 15], b"", RAW_KEY], KEK_LENGTH, b""),
-        Case(wrap(), RAW, [&[0; 17], b"", RAW_KEY], KEK_LENGTH, b""),
-        hex(wrap(), [b"", b"", FIFTEEN], KEK_LENGTH, b""),
-        hex(wrap(), [BLANKS, b"", HEX_KEY], KEK_LENGTH, b""),
-        hex(unwrap(), [BLANKS, b"", HEX_TEXT], KEK_LENGTH, b""),
-        hex(check(), [BLANKS, b"", HEX_TEXT], KEK_LENGTH, b""),
+        Case(wrap(), RAW, [b"", b"", RAW_KEY], Err(KekLength), b""),
+        Case(wrap(), RAW, [&[0; 15], b"", RAW_KEY], Err(KekLength), b""),
+        Case(wrap(), RAW, [&[0; 17], b"", RAW_KEY], Err(KekLength), b""),
+        refused(wrap(), [b"", b"", FIFTEEN], KekLength),
+        refused(wrap(), [BLANKS, b"", HEX_KEY], KekLength),
+        refused(unwrap(), [BLANKS, b"", HEX_TEXT], KekLength),
+        refused(check(), [BLANKS, b"", HEX_TEXT], KekLength),
         // files that denote no bytes
-        hex(wrap(), [b"0g", b"", HEX_KEY], KEK_DIGIT, b""),
-        hex(wrap(), [b"012", b"", HEX_KEY], KEK_DIGITS, b""),
-        hex(wrap(), [HEX_KEK, b"", b"g01"], INPUT_DIGIT, b""),
-        hex(unwrap(), [HEX_KEK, b"", b"012"], INPUT_DIGITS, b""),
-        hex(check(), [HEX_KEK, b"", b"zz"], INPUT_DIGIT, b""),
+        refused(wrap(), [b"0g", b"", HEX_KEY], KekFile(AT_1)),
+        refused(wrap(), [b"012", b"", HEX_KEY], KekFile(OddDigits)),
+        refused(wrap(), [HEX_KEK, b"", b"g01"], InputFile(AT_0)),
+        refused(unwrap(), [HEX_KEK, b"", b"012"], InputFile(OddDigits)),
+        refused(check(), [HEX_KEK, b"", b"zz"], InputFile(AT_0)),
         // inputs of an illegal length
-        hex(wrap(), [HEX_KEK, b"", FIFTEEN], BAD_LENGTH, b""),
-        hex(wrap(), [HEX_KEK, b"", BLANKS], BAD_LENGTH, b""),
-        hex(unwrap(), [HEX_KEK, b"", BLANKS], BAD_LENGTH, b""),
-        hex(
-            What::Wrap(form(Form::Padded)),
-            [HEX_KEK, b"", BLANKS],
-            BAD_LENGTH,
-            b"",
-        ),
-        hex(
-            What::Unwrap(form(Form::Padded)),
-            [HEX_KEK, b"", BLANKS],
-            BAD_LENGTH,
-            b"",
-        ),
-        // a legal length, but a wrapping in the other form
-        hex(unwrap(), [PADDED_KEK, b"", TEXT_OF_20], INTEGRITY, b""),
+        refused(wrap(), [HEX_KEK, b"", FIFTEEN], BadLength),
+        refused(wrap(), [HEX_KEK, b"", BLANKS], BadLength),
+        refused(unwrap(), [HEX_KEK, b"", BLANKS], BadLength),
+        refused(Wrap(form(Padded)), [HEX_KEK, b"", BLANKS], BadLength),
+        refused(Unwrap(form(Padded)), [HEX_KEK, b"", BLANKS], BadLength),
+        // a legal length, but a wrapping in the other form, or under another initial value
+        refused(unwrap(), [PADDED_KEK, b"", TEXT_OF_20], Integrity),
+        refused(Unwrap(other()), [HEX_KEK, b"", HEX_TEXT], Integrity),
     ]
 }
-
-pub const KEK_LENGTH: Answer = Err(JobFault::KekLength);
-
-pub const KEK_DIGIT: Answer = Err(JobFault::KekFile(FileFault::BadDigit { at: 1 }));
-
-pub const KEK_DIGITS: Answer = Err(JobFault::KekFile(FileFault::OddDigits));
-
-pub const INPUT_DIGIT: Answer = Err(JobFault::InputFile(FileFault::BadDigit { at: 0 }));
-
-pub const INPUT_DIGITS: Answer = Err(JobFault::InputFile(FileFault::OddDigits));
-
-pub const BAD_LENGTH: Answer = Err(JobFault::BadLength);
-
-pub const INTEGRITY: Answer = Err(JobFault::Integrity);

@@ -1,14 +1,18 @@
-//! Rewraps over files in memory: from one KEK and form to another, and refusals.
+//! Rewraps over files in memory: from one KEK and form to another, past wrapped keys that are new
+//! already, and refusals.
 
-use super::cases::{Answer, Case, RAW, RAW_KEKS, WRITTEN, hex, rewrap};
-use super::jobs::{
-    BAD_LENGTH, BLANKS, HEX_KEK, HEX_TEXT, INPUT_DIGIT, INPUT_DIGITS, INTEGRITY, KEK_DIGIT,
-    KEK_DIGITS, KEK_LENGTH, PADDED_KEK, RAW_KEK, RAW_TEXT, TEXT_OF_7, TEXT_OF_20,
+use super::cases::{
+    Case, Forms, KEPT, PADDED, PLAIN, RAW, RAW_KEKS, TO_PADDED, TO_PLAIN, WRITTEN, hex, refused,
+    rewrap,
 };
-use crate::outcome::JobFault;
+use super::jobs::{
+    AT_0, AT_1, BLANKS, HEX_KEK, HEX_TEXT, PADDED_KEK, RAW_KEK, RAW_TEXT, TEXT_OF_7, TEXT_OF_20,
+};
+use crate::outcome::JobFault::{
+    BadLength, InputFile, Integrity, KekFile, KekLength, KeyNotPlain, NewKekFile, NewKekLength,
+};
 use crate::what::What;
-use key_files::FileFault;
-use key_wrap_core::Form;
+use key_files::FileFault::OddDigits;
 
 /// The KEK of RFC 3394, section 4.3.
 pub const NEW_KEK: &[u8] = b"000102030405060708090a0b0c0d0e0f101112131415161718191a1b1c1d1e1f\n";
@@ -27,93 +31,72 @@ const RAW_NEW_TEXT: &[u8] = b"\x64\xE8\xC3\xF9\xCE\x0F\x5B\xA2\x63\xE9\x77\x79\
 pub const NEW_PADDED: &[u8] = b"afc860015ffe2d75bedf43c444fe58f4ad9d89c4ec71e23b\n";
 
 // The wrapping of the 7 octets of RFC 5649, section 6, under this KEK, by OpenSSL.
-pub const NEW_OF_7: &[u8] = b"443b17837bb39348610d19202df8a1f9\n";
+const NEW_OF_7: &[u8] = b"443b17837bb39348610d19202df8a1f9\n";
 
 const FIFTEEN: &[u8] = b"000102030405060708090a0b0c0d0e";
 
 const TWENTY_THREE: &[u8] = b"1fa68b0a8112b447aef34bd8fb5a7b829d3e862371d2cf";
 
-pub const KEY_NOT_PLAIN: Answer = Err(JobFault::KeyNotPlain);
-
-pub const NEW_KEK_LENGTH: Answer = Err(JobFault::NewKekLength);
-
-const NEW_KEK_DIGIT: Answer = Err(JobFault::NewKekFile(FileFault::BadDigit { at: 1 }));
-
-const NEW_KEK_DIGITS: Answer = Err(JobFault::NewKekFile(FileFault::OddDigits));
-
 fn plain() -> What {
-    rewrap(Form::Plain, Form::Plain)
+    to(PLAIN)
 }
 
-fn to_plain() -> What {
-    rewrap(Form::Padded, Form::Plain)
+fn to(forms: Forms) -> What {
+    rewrap(forms, false)
 }
 
-pub fn cases() -> [Case<'static>; 23] {
+fn pass(forms: Forms) -> What {
+    rewrap(forms, true)
+}
+
+pub fn cases() -> [Case<'static>; 33] {
     [
-        hex(plain(), [HEX_KEK, NEW_KEK, HEX_TEXT], WRITTEN, NEW_TEXT),
-        Case(
-            plain(),
-            RAW,
-            [RAW_KEK, RAW_NEW_KEK, RAW_TEXT],
-            WRITTEN,
-            RAW_NEW_TEXT,
-        ),
-        Case(
-            plain(),
-            RAW_KEKS,
-            [RAW_KEK, RAW_NEW_KEK, HEX_TEXT],
-            WRITTEN,
-            NEW_TEXT,
-        ),
-        hex(
-            rewrap(Form::Plain, Form::Padded),
-            [HEX_KEK, NEW_KEK, HEX_TEXT],
-            WRITTEN,
-            NEW_PADDED,
-        ),
-        hex(
-            to_plain(),
-            [NEW_KEK, HEX_KEK, NEW_PADDED],
-            WRITTEN,
-            HEX_TEXT,
-        ),
-        hex(
-            rewrap(Form::Padded, Form::Padded),
-            [PADDED_KEK, NEW_KEK, TEXT_OF_7],
-            WRITTEN,
-            NEW_OF_7,
-        ),
+        hex(plain(), [HEX_KEK, NEW_KEK, HEX_TEXT], NEW_TEXT),
+        Case(plain(), RAW, RAW_FILES, WRITTEN, RAW_NEW_TEXT),
+        Case(plain(), RAW_KEKS, RAW_KEK_FILES, WRITTEN, NEW_TEXT),
+        hex(to(TO_PADDED), [HEX_KEK, NEW_KEK, HEX_TEXT], NEW_PADDED),
+        hex(to(TO_PLAIN), [NEW_KEK, HEX_KEK, NEW_PADDED], HEX_TEXT),
+        hex(to(PADDED), [PADDED_KEK, NEW_KEK, TEXT_OF_7], NEW_OF_7),
+        // wrapped keys that are new already
+        hex(pass(PLAIN), [HEX_KEK, NEW_KEK, HEX_TEXT], NEW_TEXT),
+        hex(pass(PLAIN), [HEX_KEK, NEW_KEK, NEW_TEXT], NEW_TEXT),
+        hex(pass(TO_PADDED), [HEX_KEK, NEW_KEK, NEW_PADDED], NEW_PADDED),
+        hex(pass(KEPT), [HEX_KEK, NEW_KEK, NEW_TEXT], NEW_TEXT),
+        hex(pass(KEPT), [HEX_KEK, NEW_KEK, NEW_OF_7], NEW_OF_7),
+        refused(pass(PLAIN), [HEX_KEK, NEW_KEK, NEW_PADDED], Integrity),
+        refused(pass(TO_PADDED), [HEX_KEK, NEW_KEK, NEW_TEXT], Integrity),
+        // the length of the input is legal only in the new form
+        hex(pass(TO_PADDED), [HEX_KEK, NEW_KEK, NEW_OF_7], NEW_OF_7),
+        refused(pass(PLAIN), [HEX_KEK, NEW_KEK, NEW_OF_7], BadLength),
         // a refused KEK, with any files after it
-        hex(plain(), [b"", NEW_KEK, HEX_TEXT], KEK_LENGTH, b""),
-        hex(plain(), [FIFTEEN, b"0g", HEX_TEXT], KEK_LENGTH, b""),
-        hex(plain(), [b"0g", b"", HEX_TEXT], KEK_DIGIT, b""),
-        hex(plain(), [b"012", NEW_KEK, HEX_TEXT], KEK_DIGITS, b""),
-        hex(plain(), [HEX_KEK, b"", HEX_TEXT], NEW_KEK_LENGTH, b""),
-        hex(plain(), [HEX_KEK, FIFTEEN, b"0g"], NEW_KEK_LENGTH, b""),
-        hex(plain(), [HEX_KEK, b"0g", b""], NEW_KEK_DIGIT, b""),
-        hex(plain(), [HEX_KEK, b"012", HEX_TEXT], NEW_KEK_DIGITS, b""),
+        refused(plain(), [b"", NEW_KEK, HEX_TEXT], KekLength),
+        refused(plain(), [FIFTEEN, b"0g", HEX_TEXT], KekLength),
+        refused(plain(), [b"0g", b"", HEX_TEXT], KekFile(AT_1)),
+        refused(plain(), [b"012", NEW_KEK, HEX_TEXT], KekFile(OddDigits)),
+        refused(plain(), [HEX_KEK, b"", HEX_TEXT], NewKekLength),
+        refused(plain(), [HEX_KEK, FIFTEEN, b"0g"], NewKekLength),
+        refused(plain(), [HEX_KEK, b"0g", b""], NewKekFile(AT_1)),
+        refused(plain(), [HEX_KEK, b"012", HEX_TEXT], NewKekFile(OddDigits)),
         // inputs that denote no bytes, or have an illegal length
-        hex(plain(), [HEX_KEK, NEW_KEK, b"g01"], INPUT_DIGIT, b""),
-        hex(plain(), [HEX_KEK, NEW_KEK, b"012"], INPUT_DIGITS, b""),
-        hex(plain(), [HEX_KEK, NEW_KEK, TWENTY_THREE], BAD_LENGTH, b""),
-        hex(plain(), [HEX_KEK, NEW_KEK, BLANKS], BAD_LENGTH, b""),
+        refused(plain(), [HEX_KEK, NEW_KEK, b"g01"], InputFile(AT_0)),
+        refused(plain(), [HEX_KEK, NEW_KEK, b"012"], InputFile(OddDigits)),
+        refused(plain(), [HEX_KEK, NEW_KEK, TWENTY_THREE], BadLength),
+        refused(plain(), [HEX_KEK, NEW_KEK, BLANKS], BadLength),
         // the KEKs swapped, and the forms
-        hex(plain(), [NEW_KEK, HEX_KEK, HEX_TEXT], INTEGRITY, b""),
-        hex(to_plain(), [HEX_KEK, NEW_KEK, HEX_TEXT], INTEGRITY, b""),
-        hex(
-            rewrap(Form::Padded, Form::Padded),
-            [HEX_KEK, NEW_KEK, HEX_TEXT],
-            INTEGRITY,
-            b"",
-        ),
+        refused(plain(), [NEW_KEK, HEX_KEK, HEX_TEXT], Integrity),
+        refused(to(PADDED), [HEX_KEK, NEW_KEK, HEX_TEXT], Integrity),
         // a key of 20 bytes has no plain wrapping; a text that is not a wrapping has no key
-        hex(
-            to_plain(),
+        refused(to(TO_PLAIN), [PADDED_KEK, NEW_KEK, TEXT_OF_20], KeyNotPlain),
+        refused(
+            pass(TO_PLAIN),
             [PADDED_KEK, NEW_KEK, TEXT_OF_20],
-            KEY_NOT_PLAIN,
-            b"",
+            KeyNotPlain,
         ),
-        hex(to_plain(), [HEX_KEK, NEW_KEK, TEXT_OF_20], INTEGRITY, b""),
+        refused(to(TO_PLAIN), [HEX_KEK, NEW_KEK, TEXT_OF_20], Integrity),
+        refused(to(TO_PLAIN), [HEX_KEK, NEW_KEK, HEX_TEXT], Integrity),
     ]
 }
+
+const RAW_FILES: [&[u8]; 3] = [RAW_KEK, RAW_NEW_KEK, RAW_TEXT];
+
+const RAW_KEK_FILES: [&[u8]; 3] = [RAW_KEK, RAW_NEW_KEK, HEX_TEXT];

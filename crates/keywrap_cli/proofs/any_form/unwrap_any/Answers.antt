@@ -1,9 +1,5 @@
 -- What the call in the room promises.
-use Rattle.std.proofs.Common.{rules, ◌≡◌, ◌-◌, ◌∙◌, ℕ, List, [], length, take, drop, arith, ap}
-use Rattle.std.proofs.lemmas.List.{take_at}
-use Rattle.key_wrap_core.specs.InPlace.{ArePaddedLengths}
-use Rattle.key_wrap_core.specs.Lengths.{IsPaddedTextLength}
-use Rattle.keywrap_cli.specs.JobAnswers.{FindsKey}
+use Rattle.keywrap_cli.proofs.Common.{rules, ◌≡◌, ◌-◌, ◌∙◌, ℕ, List, [], length, take, drop, arith, ap, take_at, ArePaddedLengths, IsPaddedTextLength, FindsKey}
 use Rattle.keywrap_cli.proofs.Conversions.{IsMade-refused, is_found, none_found}
 use Rattle.keywrap_cli.proofs.any_form.unwrap_any.Goals as goal
 

@@ -1,9 +1,4 @@
-use Rattle.std.proofs.Common.{◌≡◌, ◌∙◌, ℕ, List, length, take, drop, OnOk, arith, ap}
-use Rattle.std.proofs.lemmas.List.{take_at}
-use Rattle.std.proofs.lemmas.Result.{on_ok_weaker}
-use Rattle.key_wrap_core.specs.Forms.{IsTextLengthAs}
-use Rattle.key_wrap_core.specs.InPlace.{ArePlainLengths}
-use Rattle.key_wrap_core.specs.Plain.{Plain}
+use Rattle.keywrap_cli.proofs.Common.{◌≡◌, ◌∙◌, ℕ, List, length, take, drop, OnOk, arith, ap, take_at, on_ok_weaker, IsTextLengthAs, ArePlainLengths, Plain}
 use Rattle.key_wrap_core.specs.declared.agreed_form.AgreedForm.TheVariants as forms
 use Rattle.key_wrap_core.proofs.FormLengths.{plain_text_legal}
 use Rattle.keywrap_cli.proofs.Conversions.{unwrapped, wrapped}

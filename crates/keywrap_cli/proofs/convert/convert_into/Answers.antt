@@ -1,6 +1,5 @@
 -- The refusal of the conversion in the room.
-use Rattle.std.proofs.Common.{[], Err, ap, subst}
-use Rattle.keywrap_cli.specs.JobAnswers.{MakesConversion}
+use Rattle.keywrap_cli.proofs.Common.{[], Err, ap, subst, MakesConversion}
 use Rattle.keywrap_cli.proofs.Conversions.{IsMade-refused}
 use Rattle.keywrap_cli.proofs.convert.convert_into.Goals as goal
 

@@ -1,9 +1,5 @@
 -- The line that was written, whole or up to its front, stays in the writer when it is flushed.
-use Rattle.std.proofs.Common.{ap}
-use Rattle.std.proofs.KnownBytes.{Appends-kept}
-use Rattle.std.proofs.lemmas.Result.{IfOk-weaker}
-use Rattle.key_files.specs.HexText.{hex_line}
-use Rattle.keywrap_cli.specs.Faults.{hex_fault_of}
+use Rattle.keywrap_cli.proofs.Common.{ap, Appends-kept, IfOk-weaker, hex_line, hex_fault_of}
 use Rattle.keywrap_cli.proofs.CutOff.{at_fault, at_flush, line_cut_off}
 use Rattle.keywrap_cli.proofs.fileless.run_drill.Goals as goal
 

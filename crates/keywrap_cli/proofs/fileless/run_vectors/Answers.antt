@@ -1,6 +1,5 @@
 -- A call gave something else, and the status is 5.
-use Rattle.std.proofs.Common.{inr}
-use Rattle.std.proofs.lemmas.Result.{IfOk-weaker}
+use Rattle.keywrap_cli.proofs.Common.{inr, IfOk-weaker}
 use Rattle.keywrap_cli.proofs.fileless.run_vectors.Goals as goal
 
 pub returns-else-branch-clause-verdict : goal.returns-else-branch-clause-verdict

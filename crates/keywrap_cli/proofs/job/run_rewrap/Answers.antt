@@ -1,8 +1,6 @@
 -- Both KEKs were read, and the run says the rest, or one was refused.
-use Rattle.std.proofs.Common.{Ok, Err, ap, false, refl}
-use Rattle.key_wrap_core.specs.Forms.{by_default}
+use Rattle.keywrap_cli.proofs.Common.{Ok, Err, ap, false, refl, by_default, two_keks}
 use Rattle.key_wrap_core.specs.declared.rewrapping.RewrapForms.TheVariants.{Changed}
-use Rattle.keywrap_cli.specs.JobReading.{two_keks}
 use Rattle.keywrap_cli.specs.declared.what.What.TheVariants.{Rewrap}
 use Rattle.keywrap_cli.proofs.Answered.{headline, refused_run, whole_run}
 use Rattle.keywrap_cli.proofs.job.run_rewrap.Goals as goal

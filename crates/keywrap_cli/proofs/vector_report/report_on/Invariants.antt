@@ -1,6 +1,4 @@
-use Rattle.std.proofs.Common.{map, take, string_bytes}
-use Rattle.keywrap_cli.specs.VectorReport.{IsReport}
-use Rattle.test_vectors.specs.Vectors.{shown}
+use Rattle.keywrap_cli.proofs.Common.{map, take, string_bytes, IsReport, shown}
 use Rattle.keywrap_cli.proofs.vector_report.report_on.Given as goal
 
 abbrev pub invariant-loop-vector : goal.invariant-loop-vector

@@ -1,10 +1,9 @@
 //! With ample memory and sound files, no operation returns Memory, Read or Write.
 
-use super::super::cases::{Case, HEX, RAW, WRITTEN, check, form, rewrap};
+use super::super::cases::{Case, HEX, RAW, WRITTEN, check, form, rewrap, wrapped};
 use super::super::initial_values::other;
 use super::super::jobs::{HEX_KEK, RAW_KEK};
 use super::super::rewraps::{NEW_KEK, RAW_NEW_KEK};
-use super::super::wrapping::wrapped;
 use crate::convert::Direction;
 use crate::drilling::drill;
 use crate::files::Notation;
@@ -84,11 +83,11 @@ fn run_on_key(rt: &impl Abort, alloc: Global, key: &[u8], size: usize) -> Result
             writes(rt, alloc, &What::Unwrap(form(old_form)), &text, key, size)?;
             let line = check_line(alloc, old_form, key.len())?;
             writes(rt, alloc, &check(), &text, line.as_bytes(), size)?;
-            assert!(rt; drills(alloc, old_form, key), "{} bytes", key.len());
+            assert!(rt; drills(alloc, old_form, key)?, "{} bytes", key.len());
             for new_form in FORMS {
                 if is_key_length(new_form, key.len()) {
                     let new_text = wrapped(alloc, &form(new_form), &new, key)?;
-                    let what = rewrap(old_form, new_form);
+                    let what = rewrap(Some((old_form, new_form)), false);
                     writes(rt, alloc, &what, &text, &new_text, size)?;
                 }
             }
@@ -152,19 +151,8 @@ fn line_of(alloc: Global, bytes: &[u8]) -> Result<Vec<u8>, AllocError> {
 }
 
 // Returns whether drills of the key and of its wrapping succeed.
-fn drills(alloc: Global, form: Form, key: &[u8]) -> bool {
-    match drilled(alloc, form, Direction::Wrap, key) {
-        Some(text) => match drilled(alloc, form, Direction::Unwrap, &text) {
-            Some(back) => back.as_slice() == key,
-            None => false,
-        },
-        None => false,
-    }
-}
-
-fn drilled(alloc: Global, form: Form, direction: Direction, bytes: &[u8]) -> Option<Vec<u8>> {
-    match hex::encode(alloc, bytes) {
-        Ok(digits) => drill(alloc, form, direction, &digits).ok(),
-        Err(_) => None,
-    }
+fn drills(alloc: Global, form: Form, key: &[u8]) -> Result<bool, Fail> {
+    let text = drill(alloc, form, Direction::Wrap, &hex::encode(alloc, key)?)?;
+    let back = drill(alloc, form, Direction::Unwrap, &hex::encode(alloc, &text)?)?;
+    Ok(back.as_slice() == key)
 }

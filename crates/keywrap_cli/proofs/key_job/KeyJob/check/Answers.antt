@@ -1,6 +1,5 @@
 -- The line gives the text's kind, in a buffer that was cleared.
-use Rattle.std.proofs.Common.{◌≡◌, ap, ◌∙◌}
-use Rattle.keywrap_cli.specs.JobAnswers.{kind_line}
+use Rattle.keywrap_cli.proofs.Common.{◌≡◌, ap, ◌∙◌, kind_line}
 use Rattle.keywrap_cli.proofs.KindLines.{check_line}
 use Rattle.keywrap_cli.proofs.key_job.KeyJob.check.Goals as goal
 

@@ -1,7 +1,5 @@
 -- What the conversion makes of the bytes, in the notation of the job.
-use Rattle.std.proofs.Common.{◌≡◌, ℕ, List, Err, rules, subst}
-use Rattle.keywrap_cli.specs.JobAnswers.{Answers, IsMade, MakesConversion, MayLack, conversion}
-use Rattle.keywrap_cli.specs.JobReading.{last_kek}
+use Rattle.keywrap_cli.proofs.Common.{◌≡◌, ℕ, List, Err, rules, subst, Answers, IsMade, MakesConversion, MayLack, conversion, last_kek}
 use Rattle.keywrap_cli.proofs.Answered.{converted, converted_fault, may_lack, printed_answer}
 use Rattle.keywrap_cli.proofs.key_job.KeyJob.convert.Goals as goal
 

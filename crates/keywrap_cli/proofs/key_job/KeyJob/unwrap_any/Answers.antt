@@ -1,7 +1,5 @@
 -- The key that was found, in the notation of the job.
-use Rattle.std.proofs.Common.{◌≡◌, ℕ, List, Err, rules, subst}
-use Rattle.keywrap_cli.specs.JobAnswers.{Answers, FindsKey, IsMade, MayLack}
-use Rattle.keywrap_cli.specs.JobReading.{last_kek}
+use Rattle.keywrap_cli.proofs.Common.{◌≡◌, ℕ, List, Err, rules, subst, Answers, FindsKey, IsMade, MayLack, last_kek}
 use Rattle.keywrap_cli.specs.declared.what.What.TheVariants.{UnwrapAny}
 use Rattle.keywrap_cli.proofs.Answered.{found, found_fault, printed_answer}
 use Rattle.keywrap_cli.proofs.key_job.KeyJob.unwrap_any.Goals as goal

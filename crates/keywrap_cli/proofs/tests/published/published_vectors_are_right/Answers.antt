@@ -1,22 +1,29 @@
 -- The published vectors are right by the definitions. The checker computes AES, with every definition opened. A wrapping
 -- is shown by its tape, of which RFC 3394 prints the words after each step.
-use Rattle.std.proofs.Common.{◌≡◌, ℕ, zero, suc, ◌+◌, ◌-◌, ◌*◌, ◌^◌, ◌≤◌, ◌<◌, List, [], ◌∷◌, length, take, drop, nat_lt, bit_xor, true, inl, inr, refl, arith}
+use Rattle.std.proofs.Common.{Bool, ◌≡◌, ℕ, zero, suc, ◌+◌, ◌-◌, ◌*◌, ◌^◌, ◌≤◌, ◌<◌, List, [], ◌∷◌, length, take, drop, nat_lt, bit_xor, true, inl, inr, refl, arith}
 use Rattle.std.specs.Prelude.{⊤}
 use Rattle.std.specs.List.{list_all}
 use Rattle.std.proofs.lemmas.Bool.{and_parts, cases_lt, ltb-true}
 use Rattle.fips197.specs.Field.{inverse, polynomial_product, product, remainder}
 use Rattle.fips197.specs.SBox.{number_with_bits, s_box}
-use Rattle.fips197.specs.KeyExpansion.{first_words, key_expansion, next_word, rot_word, round_key, sub_word, temp}
+use Rattle.fips197.specs.KeyExpansion.{IsKekLength, first_words, key_expansion, next_word, rot_word, round_key, sub_word, temp}
 use Rattle.fips197.specs.Rounds.{add_round_key, multiplied, shift_rows, sub_bytes}
 use Rattle.fips197.specs.StateLaw.{all_bytes}
 use Rattle.fips197.specs.Cipher.{cipher, is_key, rounds}
-use Rattle.key_wrap_core.specs.Words.{AreWords, at, joined, word_bytes}
+use Rattle.key_wrap_core.specs.Words.{AreWords, at, joined, spelled, word_bytes}
 use Rattle.key_wrap_core.specs.Tape.{Tape, Wraps}
 use Rattle.key_wrap_core.specs.Lengths.{IsPaddedKeyLength, IsPlainKeyLength}
-use Rattle.key_wrap_core.specs.Padded.{aiv}
-use Rattle.key_wrap_core.specs.Plain.{default_iv}
+use Rattle.key_wrap_core.specs.Padded.{Padded, aiv, padded}
+use Rattle.key_wrap_core.specs.Plain.{Plain, default_iv}
 use Rattle.test_vectors.specs.Published.{hex}
 use Rattle.keywrap_cli.proofs.tests.published.published_vectors_are_right.Goals as goal
+
+infixr 4 ◌&◌
+◌&◌ : {A B : Type 0} → A → B → A × B
+a & b = (a, b)
+
+abbrev is_word : ℕ → Bool
+is_word w = nat_lt w (2 ^ 64)
 
 -- the equations of the first m steps of a tape
 abbrev AreSteps : (List ℕ → List ℕ) → ℕ → (x a : List ℕ) → ℕ → Type 0
@@ -35,36 +42,59 @@ step_of E n x a (suc m) t steps low high = elim (cases_lt t (suc m)) [
       rw (last, before, after) steps.1
 ]
 
-are_words : (ws : List ℕ) → list_all (λ w. nat_lt w (2 ^ 64)) ws ≡ true → AreWords ws
+are_words : (ws : List ℕ) → list_all is_word ws ≡ true → AreWords ws
 are_words [] e = tt
 are_words (w ∷ ws) e =
-    let parts = and_parts (nat_lt w (2 ^ 64)) (list_all (λ v. nat_lt v (2 ^ 64)) ws) e in
+    let parts = and_parts (nat_lt w (2 ^ 64)) (list_all is_word ws) e in
     (ltb-true w (2 ^ 64) parts.0, are_words ws parts.1)
 
-tape_of : (E : List ℕ → List ℕ) (n : ℕ) (x a : List ℕ) → length x ≡ 7 * n → length a ≡ 6 * n + 1
-    → list_all (λ w. nat_lt w (2 ^ 64)) x ≡ true → list_all (λ w. nat_lt w (2 ^ 64)) a ≡ true → AreSteps E n x a (6 * n) → Tape E n x a
-tape_of E n x a length_x length_a words_x words_a steps = record {
-  length_x = length_x;
-  length_a = length_a;
-  words_x = are_words x words_x;
-  words_a = are_words a words_a;
-  step = λ t. step_of E n x a (6 * n) t steps;
+-- a tape of these words
+wraps : (E : List ℕ → List ℕ) (n iv : ℕ) (x a : List ℕ) → length (take n x) ≡ n → length x ≡ 7 * n → length a ≡ 6 * n + 1
+    → list_all is_word x ≡ true → list_all is_word a ≡ true → at a 0 ≡ iv → AreSteps E n x a (6 * n)
+    → Wraps E iv (take n x) (at a (6 * n) ∷ drop (6 * n) x)
+wraps E n iv x a size length_x length_a words_x words_a initial steps = record {
+  x = x;
+  a = a;
+  tape = rw size (record {
+    length_x = length_x;
+    length_a = length_a;
+    words_x = are_words x words_x;
+    words_a = are_words a words_a;
+    step = λ t. step_of E n x a (6 * n) t steps;
+  });
+  initial = initial;
+  key = rw size refl;
+  text = rw size refl;
 }
 
-plain_16 : IsPlainKeyLength 16
-plain_16 = (refl, omega arith, omega arith)
+plain : (kek key text : List ℕ) (n : ℕ) (x a : List ℕ) → IsPlainKeyLength (length key) → spelled (take n x) ≡ key
+    → spelled (at a (6 * n) ∷ drop (6 * n) x) ≡ text → Wraps (cipher kek) default_iv (take n x) (at a (6 * n) ∷ drop (6 * n) x)
+    → Plain (cipher kek) default_iv key text
+plain kek key text n x a legal key_words text_words wraps = record {
+  legal = legal;
+  P = take n x;
+  C = at a (6 * n) ∷ drop (6 * n) x;
+  key_words = key_words;
+  text_words = text_words;
+  wraps = wraps;
+}
 
-plain_24 : IsPlainKeyLength 24
-plain_24 = (refl, omega arith, omega arith)
+-- opens AES
+opened : ℕ
+unfolding cipher is_key rounds sub_bytes shift_rows multiplied add_round_key s_box number_with_bits inverse product remainder polynomial_product round_key key_expansion first_words next_word temp sub_word rot_word word_bytes
+opened = 0
 
-plain_32 : IsPlainKeyLength 32
-plain_32 = (refl, omega arith, omega arith)
+abbrev kek16 : List ℕ
+kek16 = hex "000102030405060708090a0b0c0d0e0f"
 
-padded_7 : IsPaddedKeyLength 7
-padded_7 = (omega arith, omega arith)
+abbrev kek24 : List ℕ
+kek24 = hex "000102030405060708090a0b0c0d0e0f1011121314151617"
 
-padded_20 : IsPaddedKeyLength 20
-padded_20 = (omega arith, omega arith)
+abbrev kek32 : List ℕ
+kek32 = hex "000102030405060708090a0b0c0d0e0f101112131415161718191a1b1c1d1e1f"
+
+abbrev kek5649 : List ℕ
+kek5649 = hex "5840df6e29b02af1ab493b705bf16ea1ae8338f4dcc176a8"
 
 abbrev x4_1 : List ℕ
 x4_1 =
@@ -76,17 +106,9 @@ a4_1 =
     0xa6a6a6a6a6a6a6a6 ∷ 0xf4740052e82a2250 ∷ 0x06ba4ebde7768d09 ∷ 0xfc967627be93720b ∷ 0x5896ea9028ee203f ∷ 0x93aea71b258d90c6 ∷ 0xe3ee986344d878f1 ∷
     0x2bfc21b2c20e4001 ∷ 0x4be8ce99c0a43a75 ∷ 0xebe1ce91067024fa ∷ 0x5a9c7b1f5b1c3b4c ∷ 0x93b71967eed41ff7 ∷ 0x1fa68b0a8112b447 ∷ []
 
-s4_1-6 : AreSteps (cipher (hex "000102030405060708090a0b0c0d0e0f")) 2 x4_1 a4_1 6
-unfolding cipher is_key rounds sub_bytes shift_rows multiplied add_round_key
-    s_box number_with_bits inverse product remainder polynomial_product
-    round_key key_expansion first_words next_word temp sub_word rot_word word_bytes
-s4_1-6 = ((((((tt, refl), refl), refl), refl), refl), refl)
-
-s4_1-12 : AreSteps (cipher (hex "000102030405060708090a0b0c0d0e0f")) 2 x4_1 a4_1 12
-unfolding cipher is_key rounds sub_bytes shift_rows multiplied add_round_key
-    s_box number_with_bits inverse product remainder polynomial_product
-    round_key key_expansion first_words next_word temp sub_word rot_word word_bytes
-s4_1-12 = ((((((s4_1-6, refl), refl), refl), refl), refl), refl)
+s4_1 : AreSteps (cipher kek16) 2 x4_1 a4_1 12
+unfolding opened
+s4_1 = ((((((((((((tt, refl), refl), refl), refl), refl), refl), refl), refl), refl), refl), refl), refl)
 
 abbrev x4_2 : List ℕ
 x4_2 =
@@ -98,17 +120,9 @@ a4_2 =
     0xa6a6a6a6a6a6a6a6 ∷ 0xdfe8fd5d1a3786a6 ∷ 0x9d9b32b9ed742e00 ∷ 0x7b8e343ca51cf8a8 ∷ 0x02a97c5897140591 ∷ 0x15d4b63f66583812 ∷ 0xae2d0b76a6951eec ∷
     0x79f849444f4b8aaf ∷ 0x5933a9195b5f5e29 ∷ 0x57ada800299c2e8c ∷ 0xbf17bd6a9bc80169 ∷ 0xb68bf270ae815444 ∷ 0x96778b25ae6ca435 ∷ []
 
-s4_2-6 : AreSteps (cipher (hex "000102030405060708090a0b0c0d0e0f1011121314151617")) 2 x4_2 a4_2 6
-unfolding cipher is_key rounds sub_bytes shift_rows multiplied add_round_key
-    s_box number_with_bits inverse product remainder polynomial_product
-    round_key key_expansion first_words next_word temp sub_word rot_word word_bytes
-s4_2-6 = ((((((tt, refl), refl), refl), refl), refl), refl)
-
-s4_2-12 : AreSteps (cipher (hex "000102030405060708090a0b0c0d0e0f1011121314151617")) 2 x4_2 a4_2 12
-unfolding cipher is_key rounds sub_bytes shift_rows multiplied add_round_key
-    s_box number_with_bits inverse product remainder polynomial_product
-    round_key key_expansion first_words next_word temp sub_word rot_word word_bytes
-s4_2-12 = ((((((s4_2-6, refl), refl), refl), refl), refl), refl)
+s4_2 : AreSteps (cipher kek24) 2 x4_2 a4_2 12
+unfolding opened
+s4_2 = ((((((((((((tt, refl), refl), refl), refl), refl), refl), refl), refl), refl), refl), refl), refl)
 
 abbrev x4_3 : List ℕ
 x4_3 =
@@ -120,17 +134,9 @@ a4_3 =
     0xa6a6a6a6a6a6a6a6 ∷ 0x794314d454e3fde0 ∷ 0xd450ea5c5bbcb563 ∷ 0x85dbdf1879d5c0a6 ∷ 0x738c291128b72269 ∷ 0x2656a02dfff054d9 ∷ 0xddfd0c0e8b52a63c ∷
     0x39ab00d4ae4399ed ∷ 0x4ce414878463eaa4 ∷ 0xfbb44db106aa0780 ∷ 0x877112a7308adccf ∷ 0x78e40190807cc15a ∷ 0x64e8c3f9ce0f5ba2 ∷ []
 
-s4_3-6 : AreSteps (cipher (hex "000102030405060708090a0b0c0d0e0f101112131415161718191a1b1c1d1e1f")) 2 x4_3 a4_3 6
-unfolding cipher is_key rounds sub_bytes shift_rows multiplied add_round_key
-    s_box number_with_bits inverse product remainder polynomial_product
-    round_key key_expansion first_words next_word temp sub_word rot_word word_bytes
-s4_3-6 = ((((((tt, refl), refl), refl), refl), refl), refl)
-
-s4_3-12 : AreSteps (cipher (hex "000102030405060708090a0b0c0d0e0f101112131415161718191a1b1c1d1e1f")) 2 x4_3 a4_3 12
-unfolding cipher is_key rounds sub_bytes shift_rows multiplied add_round_key
-    s_box number_with_bits inverse product remainder polynomial_product
-    round_key key_expansion first_words next_word temp sub_word rot_word word_bytes
-s4_3-12 = ((((((s4_3-6, refl), refl), refl), refl), refl), refl)
+s4_3 : AreSteps (cipher kek32) 2 x4_3 a4_3 12
+unfolding opened
+s4_3 = ((((((((((((tt, refl), refl), refl), refl), refl), refl), refl), refl), refl), refl), refl), refl)
 
 abbrev x4_4 : List ℕ
 x4_4 =
@@ -144,23 +150,9 @@ a4_4 =
     0x5a994895d81644b0 ∷ 0x864f408c8ab8cdc7 ∷ 0x53f4373f575eb7ad ∷ 0x9eaa4cda0b1ba5f5 ∷ 0xb1b9902c68e0eb59 ∷ 0xfce591d77709a6ec ∷ 0x428428d2bd88cf55 ∷
     0x6ac861ab961da576 ∷ 0xe80db49cc9a1ea6e ∷ 0xabee3534ac465c3c ∷ 0xe7cc8d8cede62be6 ∷ 0x031d33264e15d332 ∷ []
 
-s4_4-6 : AreSteps (cipher (hex "000102030405060708090a0b0c0d0e0f1011121314151617")) 3 x4_4 a4_4 6
-unfolding cipher is_key rounds sub_bytes shift_rows multiplied add_round_key
-    s_box number_with_bits inverse product remainder polynomial_product
-    round_key key_expansion first_words next_word temp sub_word rot_word word_bytes
-s4_4-6 = ((((((tt, refl), refl), refl), refl), refl), refl)
-
-s4_4-12 : AreSteps (cipher (hex "000102030405060708090a0b0c0d0e0f1011121314151617")) 3 x4_4 a4_4 12
-unfolding cipher is_key rounds sub_bytes shift_rows multiplied add_round_key
-    s_box number_with_bits inverse product remainder polynomial_product
-    round_key key_expansion first_words next_word temp sub_word rot_word word_bytes
-s4_4-12 = ((((((s4_4-6, refl), refl), refl), refl), refl), refl)
-
-s4_4-18 : AreSteps (cipher (hex "000102030405060708090a0b0c0d0e0f1011121314151617")) 3 x4_4 a4_4 18
-unfolding cipher is_key rounds sub_bytes shift_rows multiplied add_round_key
-    s_box number_with_bits inverse product remainder polynomial_product
-    round_key key_expansion first_words next_word temp sub_word rot_word word_bytes
-s4_4-18 = ((((((s4_4-12, refl), refl), refl), refl), refl), refl)
+s4_4 : AreSteps (cipher kek24) 3 x4_4 a4_4 18
+unfolding opened
+s4_4 = ((((((((((((((((((tt, refl), refl), refl), refl), refl), refl), refl), refl), refl), refl), refl), refl), refl), refl), refl), refl), refl), refl)
 
 abbrev x4_5 : List ℕ
 x4_5 =
@@ -174,23 +166,9 @@ a4_5 =
     0xd532789e4e79d81e ∷ 0x2a5ffcef1f1916d0 ∷ 0x01271ba91d9804ff ∷ 0xa3223bd7237f7039 ∷ 0xb50c330616e7b1cc ∷ 0xfb8aff3f083e12c2 ∷ 0x82f597607784a331 ∷
     0xd48e5e83b7c906d5 ∷ 0x1bf2b1cd947311b9 ∷ 0xc9f5f26a378011ce ∷ 0x39128ce5e435f3b1 ∷ 0xa8f9bc1612c68b3f ∷ []
 
-s4_5-6 : AreSteps (cipher (hex "000102030405060708090a0b0c0d0e0f101112131415161718191a1b1c1d1e1f")) 3 x4_5 a4_5 6
-unfolding cipher is_key rounds sub_bytes shift_rows multiplied add_round_key
-    s_box number_with_bits inverse product remainder polynomial_product
-    round_key key_expansion first_words next_word temp sub_word rot_word word_bytes
-s4_5-6 = ((((((tt, refl), refl), refl), refl), refl), refl)
-
-s4_5-12 : AreSteps (cipher (hex "000102030405060708090a0b0c0d0e0f101112131415161718191a1b1c1d1e1f")) 3 x4_5 a4_5 12
-unfolding cipher is_key rounds sub_bytes shift_rows multiplied add_round_key
-    s_box number_with_bits inverse product remainder polynomial_product
-    round_key key_expansion first_words next_word temp sub_word rot_word word_bytes
-s4_5-12 = ((((((s4_5-6, refl), refl), refl), refl), refl), refl)
-
-s4_5-18 : AreSteps (cipher (hex "000102030405060708090a0b0c0d0e0f101112131415161718191a1b1c1d1e1f")) 3 x4_5 a4_5 18
-unfolding cipher is_key rounds sub_bytes shift_rows multiplied add_round_key
-    s_box number_with_bits inverse product remainder polynomial_product
-    round_key key_expansion first_words next_word temp sub_word rot_word word_bytes
-s4_5-18 = ((((((s4_5-12, refl), refl), refl), refl), refl), refl)
+s4_5 : AreSteps (cipher kek32) 3 x4_5 a4_5 18
+unfolding opened
+s4_5 = ((((((((((((((((((tt, refl), refl), refl), refl), refl), refl), refl), refl), refl), refl), refl), refl), refl), refl), refl), refl), refl), refl)
 
 abbrev x4_6 : List ℕ
 x4_6 =
@@ -206,29 +184,9 @@ a4_6 =
     0x15342443cb95adbf ∷ 0x33fe29365885c4b8 ∷ 0x5075496800978b5a ∷ 0xa5382a26b47551e0 ∷ 0xf19d80d437efe8eb ∷ 0xb422b444b87a1918 ∷ 0xd058823360f88a23 ∷
     0xc89a96ca7b163ed9 ∷ 0x39d02fe7435870fb ∷ 0x0aeb82ae3146a90c ∷ 0x28c9f404c4b810f4 ∷ []
 
-s4_6-6 : AreSteps (cipher (hex "000102030405060708090a0b0c0d0e0f101112131415161718191a1b1c1d1e1f")) 4 x4_6 a4_6 6
-unfolding cipher is_key rounds sub_bytes shift_rows multiplied add_round_key
-    s_box number_with_bits inverse product remainder polynomial_product
-    round_key key_expansion first_words next_word temp sub_word rot_word word_bytes
-s4_6-6 = ((((((tt, refl), refl), refl), refl), refl), refl)
-
-s4_6-12 : AreSteps (cipher (hex "000102030405060708090a0b0c0d0e0f101112131415161718191a1b1c1d1e1f")) 4 x4_6 a4_6 12
-unfolding cipher is_key rounds sub_bytes shift_rows multiplied add_round_key
-    s_box number_with_bits inverse product remainder polynomial_product
-    round_key key_expansion first_words next_word temp sub_word rot_word word_bytes
-s4_6-12 = ((((((s4_6-6, refl), refl), refl), refl), refl), refl)
-
-s4_6-18 : AreSteps (cipher (hex "000102030405060708090a0b0c0d0e0f101112131415161718191a1b1c1d1e1f")) 4 x4_6 a4_6 18
-unfolding cipher is_key rounds sub_bytes shift_rows multiplied add_round_key
-    s_box number_with_bits inverse product remainder polynomial_product
-    round_key key_expansion first_words next_word temp sub_word rot_word word_bytes
-s4_6-18 = ((((((s4_6-12, refl), refl), refl), refl), refl), refl)
-
-s4_6-24 : AreSteps (cipher (hex "000102030405060708090a0b0c0d0e0f101112131415161718191a1b1c1d1e1f")) 4 x4_6 a4_6 24
-unfolding cipher is_key rounds sub_bytes shift_rows multiplied add_round_key
-    s_box number_with_bits inverse product remainder polynomial_product
-    round_key key_expansion first_words next_word temp sub_word rot_word word_bytes
-s4_6-24 = ((((((s4_6-18, refl), refl), refl), refl), refl), refl)
+s4_6 : AreSteps (cipher kek32) 4 x4_6 a4_6 24
+unfolding opened
+s4_6 = ((((((((((((((((((((((((tt, refl), refl), refl), refl), refl), refl), refl), refl), refl), refl), refl), refl), refl), refl), refl), refl), refl), refl), refl), refl), refl), refl), refl), refl)
 
 abbrev x20 : List ℕ
 x20 =
@@ -242,120 +200,43 @@ a20 =
     0x383b21c2e93ccdcd ∷ 0x6e80328ba43f8ad6 ∷ 0x30f77af6d6812629 ∷ 0x030c47b8386c848a ∷ 0xe462ff5030b3f409 ∷ 0x445114f6da00a78d ∷ 0x20e741cc7b3fd849 ∷
     0xb847bd08d8a0244e ∷ 0x77051f4e955b3b53 ∷ 0xd06d6c6f1cb2f738 ∷ 0xfdf1a67fbe23dd61 ∷ 0x138bdeaa9b8fa7fc ∷ []
 
-s20-6 : AreSteps (cipher (hex "5840df6e29b02af1ab493b705bf16ea1ae8338f4dcc176a8")) 3 x20 a20 6
-unfolding cipher is_key rounds sub_bytes shift_rows multiplied add_round_key
-    s_box number_with_bits inverse product remainder polynomial_product
-    round_key key_expansion first_words next_word temp sub_word rot_word word_bytes
-s20-6 = ((((((tt, refl), refl), refl), refl), refl), refl)
+s20 : AreSteps (cipher kek5649) 3 x20 a20 18
+unfolding opened
+s20 = ((((((((((((((((((tt, refl), refl), refl), refl), refl), refl), refl), refl), refl), refl), refl), refl), refl), refl), refl), refl), refl), refl)
 
-s20-12 : AreSteps (cipher (hex "5840df6e29b02af1ab493b705bf16ea1ae8338f4dcc176a8")) 3 x20 a20 12
-unfolding cipher is_key rounds sub_bytes shift_rows multiplied add_round_key
-    s_box number_with_bits inverse product remainder polynomial_product
-    round_key key_expansion first_words next_word temp sub_word rot_word word_bytes
-s20-12 = ((((((s20-6, refl), refl), refl), refl), refl), refl)
-
-s20-18 : AreSteps (cipher (hex "5840df6e29b02af1ab493b705bf16ea1ae8338f4dcc176a8")) 3 x20 a20 18
-unfolding cipher is_key rounds sub_bytes shift_rows multiplied add_round_key
-    s_box number_with_bits inverse product remainder polynomial_product
-    round_key key_expansion first_words next_word temp sub_word rot_word word_bytes
-s20-18 = ((((((s20-12, refl), refl), refl), refl), refl), refl)
-
-w4_1 : Wraps (cipher (hex "000102030405060708090a0b0c0d0e0f")) default_iv (take 2 x4_1) (at a4_1 12 ∷ drop 12 x4_1)
-w4_1 = record { x = x4_1; a = a4_1; tape = tape_of (cipher (hex "000102030405060708090a0b0c0d0e0f")) 2 x4_1 a4_1 refl refl refl refl s4_1-12; initial = refl; key = refl; text = refl }
-
-w4_2 : Wraps (cipher (hex "000102030405060708090a0b0c0d0e0f1011121314151617")) default_iv (take 2 x4_2) (at a4_2 12 ∷ drop 12 x4_2)
-w4_2 = record { x = x4_2; a = a4_2; tape = tape_of (cipher (hex "000102030405060708090a0b0c0d0e0f1011121314151617")) 2 x4_2 a4_2 refl refl refl refl s4_2-12; initial = refl; key = refl; text = refl }
-
-w4_3 : Wraps (cipher (hex "000102030405060708090a0b0c0d0e0f101112131415161718191a1b1c1d1e1f")) default_iv (take 2 x4_3) (at a4_3 12 ∷ drop 12 x4_3)
-w4_3 = record { x = x4_3; a = a4_3; tape = tape_of (cipher (hex "000102030405060708090a0b0c0d0e0f101112131415161718191a1b1c1d1e1f")) 2 x4_3 a4_3 refl refl refl refl s4_3-12; initial = refl; key = refl; text = refl }
-
-w4_4 : Wraps (cipher (hex "000102030405060708090a0b0c0d0e0f1011121314151617")) default_iv (take 3 x4_4) (at a4_4 18 ∷ drop 18 x4_4)
-w4_4 = record { x = x4_4; a = a4_4; tape = tape_of (cipher (hex "000102030405060708090a0b0c0d0e0f1011121314151617")) 3 x4_4 a4_4 refl refl refl refl s4_4-18; initial = refl; key = refl; text = refl }
-
-w4_5 : Wraps (cipher (hex "000102030405060708090a0b0c0d0e0f101112131415161718191a1b1c1d1e1f")) default_iv (take 3 x4_5) (at a4_5 18 ∷ drop 18 x4_5)
-w4_5 = record { x = x4_5; a = a4_5; tape = tape_of (cipher (hex "000102030405060708090a0b0c0d0e0f101112131415161718191a1b1c1d1e1f")) 3 x4_5 a4_5 refl refl refl refl s4_5-18; initial = refl; key = refl; text = refl }
-
-w4_6 : Wraps (cipher (hex "000102030405060708090a0b0c0d0e0f101112131415161718191a1b1c1d1e1f")) default_iv (take 4 x4_6) (at a4_6 24 ∷ drop 24 x4_6)
-w4_6 = record { x = x4_6; a = a4_6; tape = tape_of (cipher (hex "000102030405060708090a0b0c0d0e0f101112131415161718191a1b1c1d1e1f")) 4 x4_6 a4_6 refl refl refl refl s4_6-24; initial = refl; key = refl; text = refl }
-
-w20 : Wraps (cipher (hex "5840df6e29b02af1ab493b705bf16ea1ae8338f4dcc176a8")) (aiv 20) (take 3 x20) (at a20 18 ∷ drop 18 x20)
-w20 = record { x = x20; a = a20; tape = tape_of (cipher (hex "5840df6e29b02af1ab493b705bf16ea1ae8338f4dcc176a8")) 3 x20 a20 refl refl refl refl s20-18; initial = refl; key = refl; text = refl }
-
-e7 : cipher (hex "5840df6e29b02af1ab493b705bf16ea1ae8338f4dcc176a8") (joined (aiv 7) 0x466f725061736900) ≡ hex "afbeb0f07dfbf5419200f2ccb50bb24f"
-unfolding cipher is_key rounds sub_bytes shift_rows multiplied add_round_key
-    s_box number_with_bits inverse product remainder polynomial_product
-    round_key key_expansion first_words next_word temp sub_word rot_word word_bytes
+e7 : cipher kek5649 (joined (aiv 7) 0x466f725061736900) ≡ hex "afbeb0f07dfbf5419200f2ccb50bb24f"
+unfolding opened
 e7 = refl
 
 f1 : cipher (hex "2b7e151628aed2a6abf7158809cf4f3c") (hex "3243f6a8885a308d313198a2e0370734") ≡ hex "3925841d02dc09fbdc118597196a0b32"
-unfolding cipher is_key rounds sub_bytes shift_rows multiplied add_round_key
-    s_box number_with_bits inverse product remainder polynomial_product
-    round_key key_expansion first_words next_word temp sub_word rot_word word_bytes
+unfolding opened
 f1 = refl
 
-f2 : cipher (hex "000102030405060708090a0b0c0d0e0f") (hex "00112233445566778899aabbccddeeff") ≡ hex "69c4e0d86a7b0430d8cdb78070b4c55a"
-unfolding cipher is_key rounds sub_bytes shift_rows multiplied add_round_key
-    s_box number_with_bits inverse product remainder polynomial_product
-    round_key key_expansion first_words next_word temp sub_word rot_word word_bytes
+f2 : cipher kek16 (hex "00112233445566778899aabbccddeeff") ≡ hex "69c4e0d86a7b0430d8cdb78070b4c55a"
+unfolding opened
 f2 = refl
 
-f3 : cipher (hex "000102030405060708090a0b0c0d0e0f1011121314151617") (hex "00112233445566778899aabbccddeeff") ≡ hex "dda97ca4864cdfe06eaf70a0ec0d7191"
-unfolding cipher is_key rounds sub_bytes shift_rows multiplied add_round_key
-    s_box number_with_bits inverse product remainder polynomial_product
-    round_key key_expansion first_words next_word temp sub_word rot_word word_bytes
+f3 : cipher kek24 (hex "00112233445566778899aabbccddeeff") ≡ hex "dda97ca4864cdfe06eaf70a0ec0d7191"
+unfolding opened
 f3 = refl
 
-f4 : cipher (hex "000102030405060708090a0b0c0d0e0f101112131415161718191a1b1c1d1e1f") (hex "00112233445566778899aabbccddeeff") ≡ hex "8ea2b7ca516745bfeafc49904b496089"
-unfolding cipher is_key rounds sub_bytes shift_rows multiplied add_round_key
-    s_box number_with_bits inverse product remainder polynomial_product
-    round_key key_expansion first_words next_word temp sub_word rot_word word_bytes
+f4 : cipher kek32 (hex "00112233445566778899aabbccddeeff") ≡ hex "8ea2b7ca516745bfeafc49904b496089"
+unfolding opened
 f4 = refl
 
 pub returns : goal.returns
 unfolding word_bytes
-returns c = (
-  (inl refl, record { legal = plain_16; P = take 2 x4_1; C = at a4_1 12 ∷ drop 12 x4_1; key_words = refl; text_words = refl; wraps = w4_1 }),
-  (
-    (inr (inl refl), record { legal = plain_16; P = take 2 x4_2; C = at a4_2 12 ∷ drop 12 x4_2; key_words = refl; text_words = refl; wraps = w4_2 }),
-    (
-      (inr (inr refl), record { legal = plain_16; P = take 2 x4_3; C = at a4_3 12 ∷ drop 12 x4_3; key_words = refl; text_words = refl; wraps = w4_3 }),
-      (
-        (inr (inl refl), record { legal = plain_24; P = take 3 x4_4; C = at a4_4 18 ∷ drop 18 x4_4; key_words = refl; text_words = refl; wraps = w4_4 }),
-        (
-          (inr (inr refl), record { legal = plain_24; P = take 3 x4_5; C = at a4_5 18 ∷ drop 18 x4_5; key_words = refl; text_words = refl; wraps = w4_5 }),
-          (
-            (inr (inr refl), record { legal = plain_32; P = take 4 x4_6; C = at a4_6 24 ∷ drop 24 x4_6; key_words = refl; text_words = refl; wraps = w4_6 }),
-            (
-              (
-                inr (inl refl),
-                record {
-                  legal = padded_20;
-                  P = take 3 x20;
-                  words = are_words (take 3 x20) refl;
-                  key_words = refl;
-                  text_words = (at a20 18 ∷ drop 18 x20, refl, w20);
-                },
-              ),
-              (
-                (inr (inl refl), record { legal = padded_7; P = 0x466f725061736900 ∷ []; words = are_words (0x466f725061736900 ∷ []) refl; key_words = refl; text_words = e7 }),
-                (
-                  (inl refl, (record { sixteen = refl; bytes = all_bytes (hex "3243f6a8885a308d313198a2e0370734") refl }, f1)),
-                  (
-                    (inl refl, (record { sixteen = refl; bytes = all_bytes (hex "00112233445566778899aabbccddeeff") refl }, f2)),
-                    (
-                      (inr (inl refl), (record { sixteen = refl; bytes = all_bytes (hex "00112233445566778899aabbccddeeff") refl }, f3)),
-                      (
-                        (inr (inr refl), (record { sixteen = refl; bytes = all_bytes (hex "00112233445566778899aabbccddeeff") refl }, f4)),
-                        tt,
-                      ),
-                    ),
-                  ),
-                ),
-              ),
-            ),
-          ),
-        ),
-      ),
-    ),
-  ),
-)
+returns c =
+    (inl refl, plain _ _ _ 2 x4_1 a4_1 (refl, omega arith, omega arith) refl refl (wraps _ 2 _ x4_1 a4_1 refl refl refl refl refl refl s4_1))
+    & (inr (inl refl), plain _ _ _ 2 x4_2 a4_2 (refl, omega arith, omega arith) refl refl (wraps _ 2 _ x4_2 a4_2 refl refl refl refl refl refl s4_2))
+    & (inr (inr refl), plain _ _ _ 2 x4_3 a4_3 (refl, omega arith, omega arith) refl refl (wraps _ 2 _ x4_3 a4_3 refl refl refl refl refl refl s4_3))
+    & (inr (inl refl), plain _ _ _ 3 x4_4 a4_4 (refl, omega arith, omega arith) refl refl (wraps _ 3 _ x4_4 a4_4 refl refl refl refl refl refl s4_4))
+    & (inr (inr refl), plain _ _ _ 3 x4_5 a4_5 (refl, omega arith, omega arith) refl refl (wraps _ 3 _ x4_5 a4_5 refl refl refl refl refl refl s4_5))
+    & (inr (inr refl), plain _ _ _ 4 x4_6 a4_6 (refl, omega arith, omega arith) refl refl (wraps _ 4 _ x4_6 a4_6 refl refl refl refl refl refl s4_6))
+    & (inr (inl refl), record { legal = (omega arith, omega arith); P = take 3 x20; words = are_words (take 3 x20) refl; key_words = refl; text_words = (at a20 18 ∷ drop 18 x20, refl, wraps _ 3 _ x20 a20 refl refl refl refl refl refl s20) })
+    & (inr (inl refl), record { legal = (omega arith, omega arith); P = 0x466f725061736900 ∷ []; words = are_words (0x466f725061736900 ∷ []) refl; key_words = refl; text_words = e7 })
+    & (inl refl, (record { sixteen = refl; bytes = all_bytes (hex "3243f6a8885a308d313198a2e0370734") refl }, f1))
+    & (inl refl, (record { sixteen = refl; bytes = all_bytes (hex "00112233445566778899aabbccddeeff") refl }, f2))
+    & (inr (inl refl), (record { sixteen = refl; bytes = all_bytes (hex "00112233445566778899aabbccddeeff") refl }, f3))
+    & (inr (inr refl), (record { sixteen = refl; bytes = all_bytes (hex "00112233445566778899aabbccddeeff") refl }, f4))
+    & tt
