@@ -135,8 +135,10 @@ def main(arguments):
     if arguments[:1] == ["--check-hashes"] and are_listed(text, rest.split(end)[0]):
         return 0
     by_hand, = re.findall(r"the (\d+) lines\sof\skeywrap.c", (TOP / "dist/README").read_text(encoding="utf-8"))
-    wanted = re.sub(r"[\d,]+(?= lines of C around the module)", f"{int(by_hand):,}",
-                    f"{head}{begin}\n{text}\n{end}{rest.split(end)[1]}")
+    wanted = f"{head}{begin}\n{text}\n{end}{rest.split(end)[1]}"
+    of_command = sum(len(path.read_text().splitlines()) for path in (TOP / "c/command").iterdir())
+    for lines, place in (int(by_hand), "around the module"), (of_command, r"\(`c/command/`\)"):
+        wanted = re.sub(rf"[\d,]+(?= lines of C {place})", f"{lines:,}", wanted)
     if not arguments or arguments[0] == "--hashes":
         PAGE.write_text(wanted, encoding="utf-8")
     elif page != wanted:

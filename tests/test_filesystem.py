@@ -17,7 +17,7 @@ import pytest
 
 from checks import DONE, FLUSH_FAULT, NO_OUTPUT, fresh, held, keeps, lands, no_output, state
 from commands import CHECK, FILES, JOBS, SAME_KEK, UNWRAP, WRAP
-from program import PIPES, Ended, finish, refused, sh, wait_for
+from program import PIPES, Ended, finish, refused, sh, slow, wait_for
 from vectors import KEY16, NOT_FLUSHED, WRAPPED16
 
 WRAP_FILE, UNWRAP_FILE = f"{WRAP} -i key.hex -o to/file", f"{UNWRAP} -i wrapped.hex -o to/file"
@@ -68,6 +68,14 @@ class TestFaults:
     def test_refusal(self, failing, prepare, args, variables, ended):
         sh(prepare)
         keeps(failing, f"{args} --verbose", ended, **variables)
+
+    @slow
+    def test_each_error(self, failing):
+        """The reason has the system's text and number of the error."""
+        for number in range(1, 134):
+            reason = f"to/file: {os.strerror(number)} (os error {number})"
+            keeps(failing, f"{WRAP_FILE} --verbose", refused(6, NOT_FLUSHED, reason), FAIL_CALL="rename",
+                  FAIL_ERRNO=str(number))
 
     @pytest.mark.parametrize("args", [
         *[f"wrap --kek to/kek16.hex -i key.hex -o to/{name}" for name in ("file", "kek16.hex", "link")],

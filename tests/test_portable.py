@@ -227,13 +227,6 @@ def test_self_test_sees_a_changed_byte(portable, options):
     run(sys.executable, ROOT / "tests/library/patched.py", "keywrap.so", "decryption")
 
 
-def test_numbers_in_documents(portable):
-    """docs/TRUST.md has README's number of lines."""
-    lines, = re.findall(r"the (\d+) lines of keywrap.c", " ".join((portable / "README").read_text().split()))
-    trust = (ROOT / "docs/TRUST.md").read_text()
-    assert f"wasm2c, the C compiler, {int(lines):,} lines of C around the module" in trust
-
-
 RIGHT = "8 vectors and the self test: right"
 
 

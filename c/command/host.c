@@ -9,7 +9,6 @@
 #include <signal.h>
 #include <stdio.h>
 #include <stddef.h>
-#include <sys/file.h>
 #include <sys/stat.h>
 #include <time.h>
 #include <unistd.h>
@@ -25,7 +24,6 @@ u8 *base = memory;
 
 static int arg_count;
 static char **args;
-extern char **environ;
 
 #define AT(address) ((void *)POINTER(address))
 
@@ -148,33 +146,19 @@ u64 host_rattle_env(u64 name, u64 to, u64 len) {
     return copy_text(getenv(AT(name)), to, len);
 }
 
-u64 host_rattle_env_at(u64 number, u64 to, u64 len) {
-    char **entry = environ;
-    while (entry && *entry && number-- > 0) entry++;
-    return copy_text(entry ? *entry : NULL, to, len);
-}
-
 /*** Files ***/
 
+/* The program opens a file to read it, and makes a new one to write it. */
 u32 host_open(u64 path, u32 flags, u64 rest) {
-    static const struct {
-        u32 linux_flag;
-        int flag;
-    } names[] = {
-        {0100, O_CREAT},     {0200, O_EXCL},          {0400, O_NOCTTY},       {01000, O_TRUNC},       {02000, O_APPEND},
-        {04000, O_NONBLOCK}, {0200000, O_DIRECTORY},  {0400000, O_NOFOLLOW},  {02000000, O_CLOEXEC},
-    };
-    static const int modes[] = {O_RDONLY, O_WRONLY, O_RDWR};
-    int ours;
-    if ((flags & 3) == 3) return refuse(EINVAL);
-    ours = modes[flags & 3];
-    flags &= ~(u32)3;
-    for (unsigned i = 0; i < sizeof names / sizeof *names; i++) {
-        if (flags & names[i].linux_flag) ours |= names[i].flag;
-        flags &= ~names[i].linux_flag;
+    enum { CREATE = 0100, NEW = 0200, NO_TERMINAL = 0400, CLOSE_ON_EXEC = 02000000, WRITE = 1 };
+    switch (flags) {
+    case NO_TERMINAL | CLOSE_ON_EXEC:
+        return (u32)open(AT(path), O_RDONLY | O_NOCTTY | O_CLOEXEC);
+    case WRITE | CREATE | NEW | NO_TERMINAL | CLOSE_ON_EXEC:
+        return (u32)open(AT(path), O_WRONLY | O_CREAT | O_EXCL | O_NOCTTY | O_CLOEXEC, (mode_t)get(rest, 4));
+    default:
+        return refuse(EINVAL);
     }
-    if (flags) return refuse(EINVAL);
-    return (u32)open(AT(path), ours, ours & O_CREAT ? (mode_t)get(rest, 4) : 0);
 }
 
 u32 host_close(u32 file) {
@@ -199,30 +183,12 @@ u32 host_fsync(u32 file) {
     return (u32)fsync((int)file);
 }
 
-u32 host_fdatasync(u32 file) {
-#ifdef __APPLE__
-    return (u32)fsync((int)file);
-#else
-    return (u32)fdatasync((int)file);
-#endif
-}
-
-u32 host_ftruncate(u32 file, u64 len) {
-    return (u32)ftruncate((int)file, (off_t)len);
-}
-
 u32 host_fchmod(u32 file, u32 mode) {
     return (u32)fchmod((int)file, (mode_t)mode);
 }
 
 u32 host_fchown(u32 file, u32 owner, u32 group) {
     return (u32)fchown((int)file, (uid_t)owner, (gid_t)group);
-}
-
-u32 host_flock(u32 file, u32 operation) {
-    static const int names[] = {0, LOCK_SH, LOCK_EX, 0, LOCK_NB, LOCK_SH | LOCK_NB, LOCK_EX | LOCK_NB, 0, LOCK_UN};
-    if (operation > 8 || !names[operation]) return refuse(EINVAL);
-    return (u32)flock((int)file, names[operation]);
 }
 
 u32 host_isatty(u32 file) {
@@ -259,44 +225,25 @@ u32 host_unlink(u64 path) {
     return (u32)unlink(AT(path));
 }
 
-#ifdef __APPLE__
-#define st_atim st_atimespec
-#define st_mtim st_mtimespec
-#define st_ctim st_ctimespec
-#endif
-
-static void put_time(u64 to, struct timespec time) {
-    put(to, 8, (u64)time.tv_sec);
-    put(to + 8, 8, (u64)time.tv_nsec);
-}
-
+/* The other kinds are all the same to the program. */
 static u32 linux_kind(mode_t mode) {
     return S_ISREG(mode)    ? 0100000
            : S_ISDIR(mode)  ? 0040000
            : S_ISLNK(mode)  ? 0120000
            : S_ISFIFO(mode) ? 0010000
-           : S_ISCHR(mode)  ? 0020000
-           : S_ISBLK(mode)  ? 0060000
-           : S_ISSOCK(mode) ? 0140000
                             : 0;
 }
 
-/* Writes struct statx of Linux. The module joins the two halves of a device, so they are split alike here. */
+/* Writes Linux's struct statx: what the program reads of it, the rest is 0. The module joins the two halves of a
+ * device, so they are split alike here. */
 static void put_status(u64 to, const struct stat *found) {
     u64 device = (u64)found->st_dev;
     memset(AT(to), 0, 256);
-    put(to, 4, 0x7ff);
-    put(to + 4, 4, (u64)found->st_blksize);
-    put(to + 16, 4, (u64)found->st_nlink);
     put(to + 20, 4, (u64)found->st_uid);
     put(to + 24, 4, (u64)found->st_gid);
-    put(to + 28, 2, (found->st_mode & 07777) | linux_kind(found->st_mode));
+    put(to + 28, 2, (found->st_mode & 0777) | linux_kind(found->st_mode));
     put(to + 32, 8, (u64)found->st_ino);
     put(to + 40, 8, (u64)found->st_size);
-    put(to + 48, 8, (u64)found->st_blocks);
-    put_time(to + 64, found->st_atim);
-    put_time(to + 96, found->st_ctim);
-    put_time(to + 112, found->st_mtim);
     put(to + 136, 4, (device >> 32 & 0xfffff000) | (device >> 8 & 0xfff));
     put(to + 140, 4, (device >> 12 & 0xffffff00) | (device & 0xff));
 }
@@ -329,7 +276,8 @@ u32 host_statx(u32 file, u64 path, u32 flags, u32 mask, u64 to) {
 u32 host_clock_gettime(u32 clock, u64 to) {
     struct timespec time;
     if (clock_gettime(clock == 1 ? CLOCK_MONOTONIC : CLOCK_REALTIME, &time)) return (u32)-1;
-    put_time(to, time);
+    put(to, 8, (u64)time.tv_sec);
+    put(to + 8, 8, (u64)time.tv_nsec);
     return 0;
 }
 
@@ -353,14 +301,36 @@ void host___multi3(u64 result, u64 a, u64 a_high, u64 b, u64 b_high) {
     put_pair(result, a * b, high + a * b_high + a_high * b);
 }
 
+/*** What the module has, and the program never calls ***/
+
+u64 host_rattle_env_at(u64 number, u64 to, u64 len) {
+    (void)number, (void)to, (void)len;
+    abort();
+}
+
+u32 host_fdatasync(u32 file) {
+    (void)file;
+    abort();
+}
+
+u32 host_ftruncate(u32 file, u64 len) {
+    (void)file, (void)len;
+    abort();
+}
+
+u32 host_flock(u32 file, u32 operation) {
+    (void)file, (void)operation;
+    abort();
+}
+
 void host___ashlti3(u64 result, u64 low, u64 high, u32 by) {
-    if (by & 64) put_pair(result, 0, low << (by & 63));
-    else put_pair(result, low << by, by ? high << by | low >> (64 - by) : high);
+    (void)result, (void)low, (void)high, (void)by;
+    abort();
 }
 
 void host___lshrti3(u64 result, u64 low, u64 high, u32 by) {
-    if (by & 64) put_pair(result, high >> (by & 63), 0);
-    else put_pair(result, by ? low >> by | high << (64 - by) : low, high >> by);
+    (void)result, (void)low, (void)high, (void)by;
+    abort();
 }
 
 /* After `--version` alone a second line says which build this is. */
