@@ -5,6 +5,8 @@ usage: scripts/trust.py                   writes the tables of docs/TRUST.md, an
        scripts/trust.py --check           fails if the tables or the lines in docs/TRUST.md are others
        scripts/trust.py --hashes FILE     writes the hashes of SHA256SUMS, which `make dist` made, into docs/TRUST.md
        scripts/trust.py --check-hashes FILE     fails if a line of SHA256SUMS is not there
+       scripts/trust.py --axioms FILE    writes what rt says of axioms: FILE is the output of rt check for keywrap_c and
+                                         keywrap_wasm
 
 A development version has no hashes, and leaves the list of the last version on the page. SHA256SUMS may be of one
 machine. So the bill of materials, which has the hashes of what was packed with it, is not compared.
@@ -20,6 +22,8 @@ CRATES = TOP / "crates"
 PAGE = TOP / "docs" / "TRUST.md"
 BEGIN, END = "<!-- scripts/trust.py: begin -->", "<!-- scripts/trust.py: end -->"
 HASHES_BEGIN, HASHES_END = "<!-- scripts/trust.py --hashes: begin -->", "<!-- scripts/trust.py --hashes: end -->"
+
+AXIOMS_BEGIN, AXIOMS_END = "<!-- scripts/trust.py --axioms: begin -->", "<!-- scripts/trust.py --axioms: end -->"
 
 # The headlines: a name, and the source files whose functions make it, each with the names of these functions if they
 # are not all of the file.
@@ -117,6 +121,24 @@ def hashes(sums):
     return "\n".join(f"    {line}" for line in found)
 
 
+def written_lines(directory):
+    """The hundreds of lines of the programs below a directory."""
+    return round(sum(len(path.read_text(encoding="utf-8").splitlines()) for path in (TOP / directory).rglob("*")
+                     if path.suffix in (".c", ".h", ".java", ".js", ".ts")), -2)
+
+
+def axioms(log):
+    """A line for each crate: the axioms that its proof reached, of how many, and rt's own line."""
+    text, rows = Path(log).read_text(encoding="utf-8"), {}
+    for crate, reached, verdict in re.findall(r"^crate (\w+):.*\n((?:axioms .*\n)+)(logic=proved .*)$", text, re.M):
+        declared = sum(map(int, re.findall(r"of the (\d+) declared", reached)))
+        count = re.search(r" axioms=(\d+)", verdict)
+        rows[crate] = textwrap.fill(
+            f"- `{crate}`: {count[1] if count else 'none'} of {declared} axioms reached. `{verdict}`", 120,
+            subsequent_indent="  ", break_on_hyphens=False)
+    return "\n".join(text for _, text in sorted(rows.items()))
+
+
 def are_listed(lines, listed):
     """Whether the page lists these lines."""
     compared = {line for line in lines.splitlines() if not line.endswith(".cdx.json")}
@@ -129,17 +151,18 @@ def main(arguments):
         if (TOP / "VERSION").read_text(encoding="utf-8").strip().endswith("-dev"):
             return 0
         begin, end, text = HASHES_BEGIN, HASHES_END, hashes(arguments[1])
+    elif arguments[:1] == ["--axioms"]:
+        begin, end, text = AXIOMS_BEGIN, AXIOMS_END, axioms(arguments[1])
     else:
         begin, end, text = BEGIN, END, tables().strip()
     head, rest = page.split(begin)
     if arguments[:1] == ["--check-hashes"] and are_listed(text, rest.split(end)[0]):
         return 0
     by_hand, = re.findall(r"the (\d+) lines\sof\skeywrap.c", (TOP / "dist/README").read_text(encoding="utf-8"))
-    wanted = f"{head}{begin}\n{text}\n{end}{rest.split(end)[1]}"
-    of_command = sum(len(path.read_text().splitlines()) for path in (TOP / "c/command").iterdir())
-    for lines, place in (int(by_hand), "around the module"), (of_command, r"\(`c/command/`\)"):
-        wanted = re.sub(rf"[\d,]+(?= lines of C {place})", f"{lines:,}", wanted)
-    if not arguments or arguments[0] == "--hashes":
+    wanted = re.sub(r"[\d,]+(?= lines of C around the module)", f"{int(by_hand):,}",
+                    f"{head}{begin}\n{text}\n{end}{rest.split(end)[1]}")
+    wanted = re.sub(r"(?<=about )\d+(?= lines of `([a-z/]+)`)", lambda found: str(written_lines(found[1])), wanted)
+    if not arguments or arguments[0] in ("--hashes", "--axioms"):
         PAGE.write_text(wanted, encoding="utf-8")
     elif page != wanted:
         words = " ".join(arguments).replace("check-", "").replace("--check", "").strip()

@@ -129,7 +129,7 @@ def long_list():
 def full_list():
     yield from lengths_list(KEKS, 64)
     yield from rewraps_list(tuple(itertools.product(KEKS, KEKS)), (16, 24, 32, 40))
-    yield from many_list(KEKS, range(25))
+    yield from many_list(KEKS, range(49))
     yield from steps_list(64)
     yield from refusals_list()
     yield 'self_test',

@@ -256,7 +256,7 @@ def and_(a, b):
             return form(a.c & b, {atom: y for atom, x in a.t.items() if (y := x & mask)})
         if a.op == 'and' and isinstance(a.args[1], int):
             return and_(a.args[0], a.args[1] & b)
-        if a.op == 'or' and 0 in (parts := [and_(part, b) for part in a.args]):
+        if a.op == 'or' and (0 in (parts := [and_(part, b) for part in a.args]) or b == 1):
             return or_(*parts)
     elif bits(a) == 1 < bits(b) or bits(b) == 1 < bits(a):      # the other bits of a register may be anything
         return and_(and_(a, 1), and_(b, 1))
@@ -270,6 +270,9 @@ def or_(a, b):
         return b if a == 0 else a
     if not isinstance(a, N) and not isinstance(b, N) and bits(a) & bits(b) == 0:
         return xor(a, b)
+    for one, other in (a, b), (b, a):
+        if bits(one) & ~least(other) == 0:
+            return other
     return a if a == b else N('or', a, b, top=bits(a) | bits(b))
 
 
