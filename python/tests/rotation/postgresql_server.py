@@ -16,24 +16,18 @@ def server_programs():
 class Server:
     """Libpq finds it by `environment`. It refuses to run as root."""
 
-    def __init__(self, primary=None):
-        """A server of its own, or the replica of another one."""
+    def __init__(self):
         self.directory = pathlib.Path(tempfile.mkdtemp())
         if os.geteuid() == 0:
             shutil.chown(self.directory, "nobody")
         self.environment = {"PGHOST": str(self.directory), "PGPORT": "5432", "PGUSER": "keywrap",
                             "PGDATABASE": "postgres", "PSQLRC": "/dev/null"}  # fmt: skip
-        if primary is None:
-            self.control("-o", "-U keywrap -A trust -N", "initdb")
-        else:
-            self.program("pg_basebackup", "-D", "data", "-R", "-N", "-c", "fast", "-h", primary.directory, "-U", "keywrap")
+        self.control("-o", "-U keywrap -A trust -N", "initdb")
         self.control("-o", f"-k {self.directory} -c listen_addresses= -c fsync=off", "-l", "log", "start")
 
     def control(self, *words):
-        self.program("pg_ctl", "-s", "-D", "data", *words)
-
-    def program(self, name, *words):
-        command = [*(NOBODY if os.geteuid() == 0 else []), sorted(server_programs())[-1] / name, *words]
+        program = sorted(server_programs())[-1] / "pg_ctl"
+        command = [*(NOBODY if os.geteuid() == 0 else []), program, "-s", "-D", "data", *words]
         subprocess.run(command, check=True, cwd=self.directory, stdout=subprocess.DEVNULL)
 
     def sql(self, statements):

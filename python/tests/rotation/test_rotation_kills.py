@@ -1,8 +1,8 @@
-"""Random kills and stops of a rotation, over each kind of store, with live writers, a KEK that is replaced for a moment,
-and two rotations at once, also of halves of the store and with different KEKs.
+"""Random kills and stops of a rotation, over each kind of store, with live writers, a KEK that is replaced for a
+moment, and two rotations at once, also of halves of the store.
 
 `cryptography` (OpenSSL) checks every key: none is lost, none is under a foreign KEK. With status 0 all are new.
-With KEYWRAP_KILLS=N each kind of store gets N rounds of both tests, else one.
+With KEYWRAP_KILLS=N there are N times the 48 kills.
 """
 
 import collections
@@ -10,36 +10,32 @@ import contextlib
 import fcntl
 import json
 import os
+import pathlib
 import random
 import signal
 import sqlite3
-import subprocess
-import sys
 import threading
 import time
 
 import pytest
-
-pytest.importorskip("cryptography", reason="no cryptography (apt-get install python3-cryptography)")
-
-from postgresql_server import Server, server_programs  # noqa: E402
-from rotation_help import KEK, NEW_KEK, SLOWLY, left_over, set_keks, unwrapped, wrapped_under  # noqa: E402
+from rotation_help import (KEK, NEW_KEK, children, end, left_over, patched, start, unwrapped, wait_for, wrapped_under,
+                           write_lines)
 
 ROUNDS = int(os.environ.get("KEYWRAP_KILLS", "1"))
 FILES = 8
 OTHER_KEK = bytes(range(200, 224))
-RANDOMLY = [*SLOWLY[:-1], SLOWLY[-1].replace('time.sleep(float(os.environ.get("SLOW", "0.01")))', "wait(0.004)")
-            .replace("from keywrap import _many", """
-import random
+RANDOMLY = patched("""import random
 from keywrap import _many
 from keywrap.rotation import replacing, rows
+from rotation_help import before_each_key
 rows.ROWS = 10
 def wait(seconds):
     time.sleep(random.random() * seconds)
 def slow(*words, real=replacing.exchange):
     wait(0.01)
     real(*words)
-replacing.exchange = slow""")]  # fmt: skip
+replacing.exchange = slow
+_many.rewrap_slots = before_each_key(lambda text: wait(0.004))""")
 
 
 class Files:
@@ -47,123 +43,75 @@ class Files:
 
     words, places = ["store"], 120
 
-    def __init__(self, keys):
+    def __init__(self, keys, server):
         self.keys = dict(keys)
         os.makedirs("store")
         for number in range(FILES):
-            self.rename(number)
+            self.rename(number, {place: key for place, key in self.keys.items() if place % FILES == number})
 
-    def content(self, wrapped):
-        return "".join(key.hex() + "\n" for key in wrapped)
-
-    def rename(self, number):
-        with open("their", "w") as file:
-            file.write(self.content(self.keys[place] for place in sorted(self.keys) if place % FILES == number))
-        os.rename("their", f"store/{number}")
+    def rename(self, name, keys):
+        write_lines("their", [keys[place].hex() for place in sorted(keys)])
+        os.rename("their", f"store/{name}")
 
     def write(self, place, wrapped):
         """Reads the file, changes one key, and renames a new file into its place. Only the rotation writes it, too."""
-        number = place % FILES
-        found = self.read(number)
-        found[place] = wrapped
-        with open("their", "w") as file:
-            file.write(self.content(found[place] for place in sorted(found)))
-        os.rename("their", f"store/{number}")
-
-    def lines(self, number):
-        return [bytes.fromhex(line) for line in open(f"store/{number}").read().split()]
+        self.rename(place % FILES, {**self.read(place % FILES), place: wrapped})
 
     def read(self, number):
-        return dict(zip(sorted(place for place in self.keys if place % FILES == number), self.lines(number)))
+        found = map(bytes.fromhex, pathlib.Path(f"store/{number}").read_text().split())
+        return dict(zip(sorted(place for place in self.keys if place % FILES == number), found))
 
     def held(self):
         return {place: key for number in range(FILES) for place, key in self.read(number).items()}
 
 
-class Csv(Files):
-    words = ["--csv", "key", "store"]
-
-    def content(self, wrapped):
-        return "key,owner\n" + "".join(f'{key.hex()},"a ""b"""\n' for key in wrapped)
-
-    def lines(self, number):
-        return [bytes.fromhex(line.split(",")[0]) for line in open(f"store/{number}").read().splitlines()[1:]]
-
-
-class Json(Files):
-    words = ["--json", "key", "store"]
-
-    def content(self, wrapped):
-        return "".join(f'{{"n": 1.50, "key" : "{key.hex()}"}}\n' for key in wrapped)
-
-    def lines(self, number):
-        return [bytes.fromhex(json.loads(line)["key"]) for line in open(f"store/{number}")]
-
-
-class OneKey(Files):
-    words = ["--raw", "store"]
-
-    def rename(self, number):
-        for place in sorted(self.keys):
-            if place % FILES == number:
-                self.write(place, self.keys[place])
-
-    def write(self, place, wrapped):
-        with open("their", "wb") as file:
-            file.write(wrapped)
-        os.rename("their", f"store/{place}")
-
-    def held(self):
-        return {place: open(f"store/{place}", "rb").read() for place in self.keys}
-
-
-class Objects(OneKey):
+class Objects(Files):
     """Objects with compare-and-swap: a version is the digest of the content."""
 
     places = 16
     words = ["--files-from", "manifest", "--get", "sh object get {name} {file}",
-             "--put", "sh object put {name} {file} {version}"]  # fmt: skip
+             "--put", "sh object put {name} {file} {version}"]
     commands = """version() { sha256sum <"$1" | cut -c 1-64; }
         case $1 in
         get) cp "store/$2" "$3" && version "$3" ;;
-        put) exec 9>lock && flock 9 && [ "$(version "store/$2")" = "$4" ] && cp "$3" "new.$$" && mv "new.$$" "store/$2" ;;
+        put) exec 9>lock && flock 9 && [ "$(version "store/$2")" = "$4" ] && cp "$3" "new$$" && mv "new$$" "store/$2" ;;
         esac"""
 
-    def __init__(self, keys):
-        for name, content in (("object", self.commands), ("manifest", "\n".join(map(str, keys)))):
-            with open(name, "w") as file:
-                file.write(content)
-        super().__init__(keys)
+    def __init__(self, keys, server):
+        self.keys = keys
+        os.makedirs("store")
+        pathlib.Path("object").write_text(self.commands)
+        pathlib.Path("manifest").write_text("\n".join(map(str, keys)))
+        for place, wrapped in keys.items():
+            self.write(place, wrapped)
 
     def write(self, place, wrapped):
         with open("lock", "w") as lock:
             fcntl.flock(lock, fcntl.LOCK_EX)
-            with open("their", "w") as file:
-                file.write(wrapped.hex() + "\n")
-            os.rename("their", f"store/{place}")
+            self.rename(place, {place: wrapped})
 
     def held(self):
-        return {place: bytes.fromhex(open(f"store/{place}").read()) for place in self.keys}
+        return {place: bytes.fromhex(pathlib.Path(f"store/{place}").read_text()) for place in self.keys}
+
+
+class OneKey(Objects):
+    """Files of one key."""
+
+    words, places = ["--one-key", "store"], 120
 
 
 class Sqlite:
-    words, places = ["--table", "keys", "keys.db"], 120
+    words, places, mode = ["--table", "keys", "keys.db"], 120, "DELETE"
 
-    mode = "DELETE"
-
-    def __init__(self, keys):
+    def __init__(self, keys, server):
         self.run(f"PRAGMA journal_mode = {self.mode}")
         self.run("CREATE TABLE keys (id INTEGER PRIMARY KEY, key BLOB)")
         for place, wrapped in keys.items():
             self.run("INSERT INTO keys VALUES (?, ?)", place, wrapped)
 
     def run(self, statement, *values):
-        connection = sqlite3.connect("keys.db", timeout=60)
-        try:
-            with connection:
-                return connection.execute(statement, values).fetchall()
-        finally:
-            connection.close()
+        with contextlib.closing(sqlite3.connect("keys.db", timeout=60)) as connection, connection:
+            return connection.execute(statement, values).fetchall()
 
     def write(self, place, wrapped):
         self.run("UPDATE keys SET key = ? WHERE id = ?", wrapped, place)
@@ -190,16 +138,6 @@ class Postgresql:
         return self.server.held()
 
 
-@pytest.fixture(scope="module")
-def server():
-    if not server_programs():
-        pytest.skip("no PostgreSQL server (apt-get install postgresql)")
-    pytest.importorskip("psycopg", reason="no psycopg (apt-get install python3-psycopg)")
-    started = Server()
-    yield started
-    started.end()
-
-
 def key_and_kek(wrapped):
     """The key, and the KEK that it is under."""
     found = ((unwrapped(kek, wrapped), kek) for kek in (NEW_KEK, KEK, OTHER_KEK))
@@ -209,36 +147,33 @@ def key_and_kek(wrapped):
 def replace_kek(source, runs):
     """Replaces the new KEK for a moment, after each run has begun its report."""
     for report, running in runs.items():
-        while running.poll() is None and not (os.path.exists(report) and os.path.getsize(report)):
-            time.sleep(0.01)
+        wait_for(lambda: running.poll() is not None or os.path.exists(report) and os.path.getsize(report))
     for content in (OTHER_KEK, NEW_KEK):
-        with open("other", "w") as file:
-            file.write(content.hex())
+        pathlib.Path("other").write_text(content.hex())
         os.rename("other", "new-kek.hex")
         time.sleep(source.random() * 0.2)
 
 
 def disturb(source, running):
-    """Kills or stops a run, one of its processes, or all of them."""
+    """Kills or stops a run, one of its processes, or all of them. Returns whether it killed something."""
     time.sleep(source.random() * 0.6)
     how = source.choice(["run", "worker", "all", "stop", "terminate"])
-    try:
-        with open(f"/proc/{running.pid}/task/{running.pid}/children", encoding="ascii") as file:
-            workers = [int(child) for child in file.read().split()]
+    with contextlib.suppress(ProcessLookupError, FileNotFoundError):  # It ended before.
+        workers = children(running)
         if how == "stop":
             for sent in (signal.SIGSTOP, signal.SIGCONT):
                 os.kill(source.choice([*workers, running.pid]) if sent == signal.SIGSTOP else running.pid, sent)
                 time.sleep(0.2)
             for pid in workers:
                 os.kill(pid, signal.SIGCONT)
-        elif how == "terminate":
-            running.terminate()
-        elif how == "all":
-            os.killpg(running.pid, signal.SIGKILL)
-        else:
-            os.kill(running.pid if how == "run" or not workers else source.choice(workers), signal.SIGKILL)
-    except (ProcessLookupError, FileNotFoundError):
-        pass  # It ended before.
+        elif running.poll() is None:
+            if how == "all":
+                os.killpg(running.pid, signal.SIGKILL)
+            else:
+                os.kill(source.choice(workers) if how == "worker" and workers else running.pid,
+                        signal.SIGTERM if how == "terminate" else signal.SIGKILL)
+            return True
+    return False
 
 
 class Writer(threading.Thread):
@@ -256,41 +191,39 @@ class Writer(threading.Thread):
             time.sleep(self.source.random() * 0.02)
 
 
-KINDS = {"lines": Files, "CSV": Csv, "JSON Lines": Json, "files of one key": OneKey, "objects": Objects,
-         "SQLite": Sqlite, "SQLite with a log": Log, "PostgreSQL": Postgresql}  # fmt: skip
+KINDS = {"lines": Files, "files of one key": OneKey, "objects": Objects, "SQLite": Sqlite, "SQLite with a log": Log,
+         "PostgreSQL": Postgresql}
+each_store = pytest.mark.parametrize("kind", KINDS)
+each_round = pytest.mark.parametrize("number", range(ROUNDS))
 
 
 @pytest.fixture
-def filled(request, tmp_path, monkeypatch):
-    """filled(kind, number): a store of random keys under the KEK, the keys by their places, and a source of numbers."""
-    monkeypatch.chdir(tmp_path)
-    set_keks(tmp_path, monkeypatch)
+def filled(request, kind):
+    """filled(seed): a store of random keys under the KEK, the keys by their places, and a source of numbers."""
+    server = request.getfixturevalue("server") if kind == "PostgreSQL" else None
 
-    def fill(kind, number):
-        source = random.Random(f"{kind} {number}")
+    def fill(seed):
+        source = random.Random(f"{kind} {seed}")
         keys = {place: source.randbytes(32) for place in range(KINDS[kind].places)}
-        more = []
-        if kind == "PostgreSQL":
-            more = [request.getfixturevalue("server")]
-            for name, value in more[0].environment.items():
-                monkeypatch.setenv(name, value)
-        return KINDS[kind]({place: wrapped_under(KEK, key) for place, key in keys.items()}, *more), keys, source
+        return KINDS[kind]({place: wrapped_under(KEK, key) for place, key in keys.items()}, server), keys, source
 
     return fill
 
 
-def start(store, report, *words):
-    run = [*RANDOMLY, "--jobs", "2", "--report", report, *words, *store.words]
-    return subprocess.Popen(run, start_new_session=True, stderr=subprocess.DEVNULL)
+def begun(store, source, *words):
+    """The name of a new report, and the run that writes it."""
+    report = f"report{source.random()}"
+    return report, start("--jobs", "2", "--report", report, *words, *store.words, program=RANDOMLY)
 
 
-def last(store, report, *words):
-    """The status of a run that is begun again until it is done: locks and other writers may need some runs."""
-    for number in range(5):
-        status = start(store, f"{report}.{number}", *words).wait(timeout=240)
+def last(store, source, *words):
+    """The status and the counts of a run that is begun again until it is done: others may need some."""
+    for _ in range(5):
+        report, running = begun(store, source, *words)
+        status = end(running).status
         if status != 6:
-            return status, counts_of(f"{report}.{number}")
-    return status, None
+            break
+    return status, [json.loads(line) for line in open(report)][-1]
 
 
 @contextlib.contextmanager
@@ -304,64 +237,30 @@ def writing(store, source):
         writer.join(timeout=60)
 
 
-def counts_of(report):
-    """The last line of a report."""
-    return [json.loads(line) for line in open(report) if line.endswith("}\n")][-1]
-
-
 def held_by(store):
     """The keys, and the number of keys under each KEK."""
     found = {place: key_and_kek(wrapped) for place, wrapped in store.held().items()}
     return {place: key for place, (key, _) in found.items()}, collections.Counter(kek for _, kek in found.values())
 
 
-def started(store, source):
-    """One run or two over the whole store, or two over its halves."""
-    count = source.choice([1, 2])
-    halves = count == 2 and type(store) is not Postgresql and source.randrange(2) == 0
-    return {report: start(store, report, *words) for report, words in (
-        (f"report{source.random()}", ["--shard", f"{at}/2"] if halves else []) for at in range(1, count + 1))}
-
-
-@pytest.mark.parametrize("number", range(ROUNDS))
-@pytest.mark.parametrize("kind", KINDS)
-def test_random_kills(filled, tmp_path, kind, number):
-    store, keys, source = filled(kind, number)
+@each_round
+@each_store
+@pytest.mark.parametrize("count", [1, 2])
+def test_random_kills(filled, tmp_path, number, count):
+    """Four kills of one run or two over the whole store, or of two over its halves."""
+    store, keys, source = filled(f"{count} {number}")
+    kills = 0
     with writing(store, source) as acknowledged:
-        for _ in range(3):
-            runs = started(store, source)
+        while kills < 4:
+            halves = count == 2 and type(store) is not Postgresql and source.randrange(2) == 0
+            runs = dict(begun(store, source, *(["--shard", f"{at}/2"] if halves else [])) for at in range(1, count + 1))
             if source.randrange(3) == 0:
                 replace_kek(source, runs)
             for running in runs.values():
-                disturb(source, running)
+                kills += disturb(source, running)
             for running in runs.values():
-                running.wait(timeout=240)
-    status, counts = last(store, "last")
+                end(running)
+    status, counts = last(store, source)
     assert held_by(store) == ({**keys, **acknowledged}, {NEW_KEK: len(keys)})
     assert (status, counts["keys"], counts["new"], counts["refused"]) == (0, len(keys), len(keys), 0)
-    assert left_over(tmp_path) == []
-
-
-@pytest.mark.parametrize("number", range(ROUNDS))
-@pytest.mark.parametrize("kind", KINDS)
-def test_rotations_with_different_keks(filled, tmp_path, kind, number):
-    """One takes keys to another KEK: the other one names them, and leaves them. A third one has no KEK of this store."""
-    store, keys, source = filled(kind, number)
-    for name, kek in (("other.hex", OTHER_KEK), ("foreign.hex", bytes(32))):
-        (tmp_path / name).write_text(kek.hex())
-    others = ["--new-kek", str(tmp_path / "other.hex")]
-    with writing(store, source) as acknowledged:
-        for _ in range(2):
-            started = [[], others, ["--kek", "foreign.hex"]]
-            runs = [start(store, f"report{source.random()}", *words) for words in source.sample(started, 3)]
-            disturb(source, source.choice(runs))
-            for running in runs:
-                running.wait(timeout=240)
-    expected = {**keys, **acknowledged}
-    status, counts = last(store, "first")
-    found, keks = held_by(store)
-    assert (found, set(keks) - {NEW_KEK, OTHER_KEK}) == (expected, set())
-    assert (status, counts["refused"]) == (5 if keks[OTHER_KEK] else 0, keks[OTHER_KEK])
-    assert last(store, "back", "--kek", str(tmp_path / "other.hex"))[0] == 0
-    assert held_by(store) == (expected, {NEW_KEK: len(keys)})
     assert left_over(tmp_path) == []

@@ -1,5 +1,4 @@
-"""The lines of docs/ROTATION.md, as they are, and the example for a Secret: what happens to a refused key, and to a store
-that somebody else writes meanwhile."""
+"""The lines of docs/ROTATION.md, as they are, and the example for a Secret."""
 
 import base64
 import json
@@ -7,16 +6,11 @@ import os
 import pathlib
 import re
 import shutil
-import stat
 import subprocess
 import sys
 
 import pytest
-
-pytest.importorskip("cryptography", reason="no cryptography (apt-get install python3-cryptography)")
-
-from postgresql_server import Server, server_programs  # noqa: E402
-from rotation_help import KEK, NEW_KEK, left_over, make_keys, set_keks, wrapped_under  # noqa: E402
+from rotation_help import KEK, wrapped_under
 
 ROOT = pathlib.Path(__file__).resolve().parents[3]
 PAGE = (ROOT / "docs/ROTATION.md").read_text(encoding="utf-8")
@@ -65,7 +59,7 @@ for name in ada bob; do
     for new in "" -new; do openssl rand -hex 32 > keks/$name$new.hex; echo $name=$name$new.hex >> keks/${new:-old}; done
 done
 mv keks/-new keks/new
-{ echo tenant,key; wrapped 1920 keks/ada.hex | sed 's/^/ada,/'; wrapped 1280 keks/bob.hex | sed 's/^/bob,/'; } > keys.csv
+{ echo tenant,key; wrapped 1920 keks/ada.hex | sed s/^/ada,/; wrapped 1280 keks/bob.hex | sed s/^/bob,/; } > keys.csv
 wrapped 3200 | while read -r key; do echo "vault:v3:$(echo $key | xxd -r -p | base64 -w 0)"; done > versions
 """,
     "Rotate a store of your own": r"""
@@ -93,16 +87,6 @@ def recipes():
             answer = [line.strip() for line in lines if not line.startswith(("$ ", "> "))]
             name = section.splitlines()[0]
             yield pytest.param(KEKS + STORES_OF_RECIPES[name] + typed, "\n".join(answer), id=name)
-
-
-@pytest.fixture(scope="module")
-def server():
-    if not server_programs():
-        pytest.skip("no PostgreSQL server (apt-get install postgresql)")
-    pytest.importorskip("psycopg", reason="no psycopg (apt-get install python3-psycopg)")
-    started = Server()
-    yield started
-    started.end()
 
 
 @pytest.mark.parametrize("typed, answer", recipes())
@@ -138,7 +122,7 @@ KUBERNETES = re.search(r"command: \[sh, -c, '(.*)'\]", several_machines())[1]
 
 @pytest.mark.parametrize("line", [
     SLURM, f"for JOB_COMPLETION_INDEX in {{0..9}}; do export JOB_COMPLETION_INDEX; ({KUBERNETES}) || exit; done"],
-    ids=["Slurm", "Kubernetes"])  # fmt: skip
+    ids=["Slurm", "Kubernetes"])
 def test_line_of_an_array_of_jobs(line, tmp_path, environment):
     (tmp_path / "bin/sbatch").write_text(SBATCH)
     (tmp_path / "bin/sbatch").chmod(0o755)
@@ -147,7 +131,7 @@ def test_line_of_an_array_of_jobs(line, tmp_path, environment):
     script = f"set -e\n{prepare}export KEYWRAP_KEK=kek.hex KEYWRAP_NEW_KEK=new-kek.hex\n{line}\n"
     script += "python3 -m keywrap.rotate --verify store\n"
     done = subprocess.run(["bash", "-c", script], cwd=tmp_path / "here", env=environment, stdin=subprocess.DEVNULL,
-                          capture_output=True, text=True, check=False)  # fmt: skip
+                          capture_output=True, text=True, check=False)
     assert done.returncode == 0, done.stderr
     assert "4000 keys: 4000 new, 0 refused" in done.stderr.splitlines()[-1]
 
@@ -172,82 +156,13 @@ def test_there_are_recipes():
     assert {recipe.id for recipe in recipes()} == {*STORES_OF_RECIPES}
 
 
-# The Secret.
-
-KEYS = make_keys(5)
-SECRET = "keywrap.rotation.kubernetes_secret"
-BEFORE = """
-import os, runpy, sys
-from keywrap import rotate
-real = rotate.rewrap_all
-def rewrap_all(*words):
-    fresh = real(*words)
-    exec(os.environ["MEANWHILE"])
-    return fresh
-rotate.rewrap_all = rewrap_all
-sys.argv = sys.argv[1:]
-runpy.run_module(sys.argv[0], run_name="__main__")
-"""
-
-
-def in_secret(wrapped):
-    data = {f"key-{9 - number}": base64.b64encode(key).decode() for number, key in enumerate(wrapped)}
-    secret = {"kind": "Secret", "data": data, "metadata": {"resourceVersion": "17"}}
-    return json.dumps(secret, indent=2, ensure_ascii=False).encode() + b"\n"
-
-
-@pytest.fixture
-def file(tmp_path, monkeypatch):
-    (tmp_path / "keks").mkdir()
-    set_keks(tmp_path / "keks", monkeypatch)
-    (tmp_path / "store").mkdir()
-    return tmp_path / "store/file"
-
-
-def run(file, meanwhile=""):
-    command = [sys.executable, "-B", "-c", BEFORE, SECRET, file]
-    return subprocess.run(command, env={**os.environ, "MEANWHILE": meanwhile}, check=False, capture_output=True)
-
-
-def under(kek, keys=KEYS):
-    return [wrapped_under(kek, key) for key in keys]
-
-
-def test_rotates_a_secret_and_keeps_the_rest(file):
-    file.write_bytes(in_secret(under(KEK)))
-    file.chmod(0o640)
-    for _ in range(2):
-        assert run(file).returncode == 0
-        assert (file.read_bytes(), stat.S_IMODE(file.stat().st_mode)) == (in_secret(under(NEW_KEK)), 0o640)
-    assert os.listdir(file.parent) == ["file"]
-
-
-@pytest.mark.parametrize("change", [[*under(KEK), wrapped_under(NEW_KEK, b"added" * 8)], under(KEK)[1:], []])
-def test_a_change_meanwhile_is_kept(file, change):
-    file.write_bytes(in_secret(under(KEK)))
-    other = file.parent.parent / "other"
-    other.write_bytes(in_secret(change))
-    done = run(file, f"open({str(file)!r}, 'wb').write(open({str(other)!r}, 'rb').read())")
-    assert (done.returncode, b"read it again" in done.stderr) == (1, True)
-    assert file.read_bytes() == other.read_bytes()
-    assert left_over(file.parent) == []
-
-
-def test_a_removed_store_does_not_come_back(file):
-    file.write_bytes(in_secret(under(KEK)))
-    assert run(file, f"os.unlink({str(file)!r})").returncode == 1
-    assert os.listdir(file.parent) == []
-
-
-def test_a_refused_member_is_named(file):
-    file.write_bytes(in_secret([*under(KEK)[:3], bytes(40), *under(KEK)[4:]]))
-    before = file.read_bytes()
-    done = run(file)
-    assert (done.returncode, b"file: key-6: under no KEK of this rotation" in done.stderr) == (1, True)
-    assert file.read_bytes() == before
-
-
-def test_a_member_with_a_stray_character_is_refused(file):
-    file.write_bytes(in_secret(under(KEK)).replace(b'"key-6": "', b'"key-6": "!'))
-    before = file.read_bytes()
-    assert (run(file).returncode, file.read_bytes()) == (1, before)
+@pytest.mark.parametrize("change, said", [("", "under no KEK of this rotation"), ("!", "")])
+def test_a_refused_member_of_a_secret(tmp_path, change, said):
+    """A wrong key, and one with a stray character: the file is as it was."""
+    ours, other = (base64.b64encode(key).decode() for key in (wrapped_under(KEK, bytes(16)), bytes(40)))
+    secret = {"data": {"ours": ours, "other": change + other}}
+    file = tmp_path / "secret.json"
+    file.write_text(json.dumps(secret))
+    command = [sys.executable, "-m", "keywrap.rotation.kubernetes_secret", file]
+    done = subprocess.run(command, capture_output=True, text=True)
+    assert (done.returncode, said in done.stderr, json.loads(file.read_text())) == (1, True, secret)
