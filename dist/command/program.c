@@ -1,7 +1,7 @@
 /* The program keywrap, version 1.2.0-dev, translated to C from the module of the proved program.
  * `make dist-sources` of the repository writes this file; do not edit it.
- * By Rattle rattle-kit-13f logic dac8208d650f15bf, binaryen 108.
- * Of the sources 81c52c593c7e0c302576a70ca93b9bacc03b8aad22e6366b727facd87cf2ebb9.
+ * By Rattle rattle-kit-13b logic dac8208d650f15bf, binaryen 108.
+ * Of the sources 749cfae0f97899930beeb8296e10d1bdbd926887028ef1ff69ca146751a6e203.
  * docs/TRUST.md of the repository says what is proved, what is translated and what is trusted. */
 
 #include "module.h"
