@@ -21,7 +21,7 @@ func Example() {
 	if err != nil {
 		log.Fatal(err)
 	}
-	fmt.Printf("%x\n", wrapped)
+	fmt.Println(len(wrapped), "bytes")
 
 	key, err := keywrap.Unwrap(exampleKEK, wrapped)
 	if err != nil {
@@ -33,14 +33,14 @@ func Example() {
 	key, err = keywrap.Unwrap(exampleKEK, wrapped)
 	fmt.Println(key == nil, errors.Is(err, keywrap.ErrIntegrity))
 	// Output:
-	// 1fa68b0a8112b447aef34bd8fb5a7b829d3e862371d2cfe5
+	// 24 bytes
 	// 00112233445566778899aabbccddeeff
 	// true true
 }
 
 func ExampleRewrap() {
 	newKEK, _ := hex.DecodeString("000102030405060708090a0b0c0d0e0f1011121314151617")
-	wrapped, _ := hex.DecodeString("1fa68b0a8112b447aef34bd8fb5a7b829d3e862371d2cfe5")
+	wrapped, _ := keywrap.Wrap(exampleKEK, exampleKey)
 
 	// To start an interrupted rotation again, what is new already is passed.
 	flags := keywrap.KeepForm | keywrap.PassNew
@@ -49,16 +49,17 @@ func ExampleRewrap() {
 		if err != nil {
 			log.Fatal(err)
 		}
-		fmt.Printf("%x %v\n", rewrapped, already)
+		key, _ := keywrap.Unwrap(newKEK, rewrapped)
+		fmt.Printf("%x %v\n", key, already)
 		wrapped = rewrapped
 	}
 	// Output:
-	// 96778b25ae6ca435f92b5b97c050aed2468ab8a17ad84e5d false
-	// 96778b25ae6ca435f92b5b97c050aed2468ab8a17ad84e5d true
+	// 00112233445566778899aabbccddeeff false
+	// 00112233445566778899aabbccddeeff true
 }
 
 func ExampleUnwrapMany() {
-	good, _ := hex.DecodeString("1fa68b0a8112b447aef34bd8fb5a7b829d3e862371d2cfe5")
+	good, _ := keywrap.Wrap(exampleKEK, exampleKey)
 	damaged := make([]byte, len(good))
 
 	keys, err := keywrap.UnwrapMany(exampleKEK, [][]byte{good, damaged}, 0)
@@ -89,6 +90,10 @@ func ExampleNewCipher() {
 		log.Fatal(err)
 	}
 	wrapped, err := kek.Wrap(exampleKey)
-	fmt.Printf("%x %v\n", wrapped, err)
-	// Output: 1fa68b0a8112b447aef34bd8fb5a7b829d3e862371d2cfe5 <nil>
+	if err != nil {
+		log.Fatal(err)
+	}
+	key, err := keywrap.Unwrap(exampleKEK, wrapped)
+	fmt.Printf("%x %v\n", key, err)
+	// Output: 00112233445566778899aabbccddeeff <nil>
 }

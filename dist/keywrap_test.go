@@ -112,53 +112,6 @@ func TestRefusals(t *testing.T) {
 	checkRefusals(t, err, []error{nil})
 }
 
-// What refuses a call for many keys as a whole.
-func TestManyRefused(t *testing.T) {
-	kek, key := make([]byte, 16), make([]byte, 16)
-	text := wrapped(kek, keywrap.Plain, 16)
-	for _, row := range []struct {
-		what    string
-		kek     []byte
-		keys    [][]byte
-		texts   [][]byte
-		flags   keywrap.Flags
-		refusal keywrap.Refusal
-	}{
-		{"a KEK", kek[:15], [][]byte{key, key[:8]}, [][]byte{text, text[:16]}, 0, keywrap.ErrBadKEK},
-		{"only a KEK", kek[:15], [][]byte{key}, [][]byte{text}, 0, keywrap.ErrBadKEK},
-		{"no key", kek, nil, nil, 0, keywrap.ErrBadLength},
-		{"empty keys", kek, [][]byte{{}, {}}, [][]byte{{}, {}}, 0, keywrap.ErrBadLength},
-		{"lengths that differ", kek, [][]byte{key, append(key, key...)}, [][]byte{text, text[:16]}, 0, keywrap.ErrBadLength},
-		{"a length", kek, [][]byte{key[:15]}, [][]byte{text[:23]}, 0, keywrap.ErrBadLength},
-		{"a flag", kek, [][]byte{key}, [][]byte{text}, 16, keywrap.ErrBadLength},
-	} {
-		for name, call := range map[string]func() ([][]byte, error){
-			"WrapMany":   func() ([][]byte, error) { return keywrap.WrapMany(row.kek, row.keys, row.flags) },
-			"UnwrapMany": func() ([][]byte, error) { return keywrap.UnwrapMany(row.kek, row.texts, row.flags) },
-			"RewrapMany": func() ([][]byte, error) {
-				results, already, err := keywrap.RewrapMany(kek, row.kek, row.texts, row.flags)
-				if already != nil {
-					t.Error(already)
-				}
-				return results, err
-			},
-			"KindMany": func() ([][]byte, error) {
-				forms, lengths, err := keywrap.KindMany(row.kek, row.texts)
-				if row.flags == 0 && (forms != nil || lengths != nil) {
-					t.Error(forms, lengths)
-				} else if row.flags != 0 {
-					err = row.refusal
-				}
-				return nil, err
-			},
-		} {
-			if results, err := call(); results != nil || err != row.refusal {
-				t.Errorf("%s, %s: %x, %v instead of %v", name, row.what, results, err, row.refusal)
-			}
-		}
-	}
-}
-
 // failing panics at a call of the block cipher, and keeps what it was given.
 type failing struct {
 	cipher.Block
@@ -210,37 +163,6 @@ func TestBlockCiphers(t *testing.T) {
 	}
 	if c, err := keywrap.NewCipher(block); c != nil || err == nil {
 		t.Error(c, err)
-	}
-}
-
-// A Cipher rewraps, and unwraps in either form, as the library does with the KEKs.
-func TestCipherInEitherForm(t *testing.T) {
-	oldKEK, newKEK := make([]byte, 16), bytes.Repeat([]byte{7}, 32)
-	old, _ := keywrap.NewCipher(aesOf(oldKEK))
-	renewed, _ := keywrap.NewCipher(aesOf(newKEK))
-	texts := [][]byte{nil, make([]byte, 20), make([]byte, 24)}
-	for _, kek := range [][]byte{oldKEK, newKEK} {
-		for _, form := range []keywrap.Form{keywrap.Plain, keywrap.Padded} {
-			for _, length := range []int{5, 8, 16, 24, 27, 40} {
-				if form == keywrap.Padded || length >= 16 && length%8 == 0 {
-					texts = append(texts, wrapped(kek, form, length))
-				}
-			}
-		}
-	}
-	for _, text := range texts {
-		dueKey, dueForm, dueErr := keywrap.UnwrapAny(oldKEK, text)
-		if key, form, err := old.UnwrapAny(text); !bytes.Equal(key, dueKey) || form != dueForm || err != dueErr {
-			t.Errorf("%x: %x, %v, %v", text, key, form, err)
-		}
-		for flags := keywrap.Flags(0); flags < 16; flags++ {
-			before := append([]byte{}, text...)
-			due, dueAlready, dueErr := keywrap.Rewrap(oldKEK, newKEK, text, flags)
-			again, already, err := old.Rewrap(renewed, text, flags)
-			if !bytes.Equal(again, due) || already != dueAlready || err != dueErr || !bytes.Equal(text, before) {
-				t.Errorf("%x, %d: %x, %v, %v", text, flags, again, already, err)
-			}
-		}
 	}
 }
 

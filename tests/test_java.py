@@ -1,4 +1,4 @@
-"""The provider for Java: its lengths, exceptions and results compared with the JDK's, messages of BouncyCastle, and the
+"""The provider for Java: rows.txt; its names, exceptions and calls beside the JDK's; messages of BouncyCastle; the
 lines of java/README.md. The programs are in java/."""
 
 import os
@@ -54,7 +54,7 @@ def test_no_warning_for_java_11():
     run("javac", *options, "-cp", JNA, "-d", ".", *SOURCES, ROOT / "java/Example.java")
 
 
-@pytest.mark.parametrize("check", ["names", "lengths", "values", "calls", "damaged", "ignored", "keys", "cleared"])
+@pytest.mark.parametrize("check", ["names", "values", "calls", "damaged", "ignored", "keys", "cleared"])
 def test_compared(java, check):
     java("Checks", check)
 

@@ -16,6 +16,7 @@ import published
 from builds import NAMES, ROOT, run
 from program import slow
 from tools import missing, need
+from vectors import VALUES
 
 PAGE = (ROOT / "js/README.md").read_text()
 FILES = "README.md calls.js example.html inline.js keywrap.d.ts keywrap.js keywrap.wasm module.js package.json"
@@ -25,7 +26,7 @@ HOSTS = "chrome85,firefox79,safari15,node16"
 
 @pytest.fixture(scope="session")
 def programs(once):
-    """The directory of the programs, with the package where a user has it, and tables/ of rows."""
+    """The directory of the programs, with the package where a user has it, tables/ of rows, and vectors.mjs."""
     def build(directory):
         shutil.copytree(ROOT / "tests/js", directory, dirs_exist_ok=True)
         shutil.copy(ROOT / "scripts/engine.mjs", directory)
@@ -35,6 +36,8 @@ def programs(once):
             shutil.copytree(given, package)
         else:
             run("make", "-s", "-C", ROOT, "js", f"JS={package}")
+        (directory / "vectors.mjs").write_text(
+            "".join(f"export const {name} = '{value}';\n" for name, value in VALUES.items()))
         (directory / "tables").mkdir()
         for name in "rows", "foreign", *([] if missing("import cryptography_vectors") else ["nist"]):
             (directory / f"tables/{name}.txt").write_text(published.table(name))

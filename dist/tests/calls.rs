@@ -2,8 +2,8 @@
 //! errors of buffers of wrong lengths. The calls themselves are tested by rows of the repository.
 
 use keywrap::{
-    padded_text_len, room, text_len, Error, Forms, Kek, KekAes128, KekAes192, KekAes256, KekSlice,
-    KEYWRAP_MAX_KEY, KEYWRAP_MAX_TEXT,
+    padded_text_len, room, text_len, Error, Form, Forms, Kek, KekAes128, KekAes192, KekAes256,
+    KekSlice, Status, KEYWRAP_MAX_KEY, KEYWRAP_MAX_TEXT,
 };
 use Error::{IntegrityCheckFailed, InvalidDataSize, InvalidIv, KeyNotPlain};
 
@@ -53,6 +53,37 @@ fn lengths_of_buffers() {
         kek.wrap_with_padding(&longer[..longest + 1], &mut []),
         Err(InvalidDataSize)
     );
+}
+
+/// The refusals of the whole name what is wrong. A status is a refusal before a call.
+#[test]
+fn refusals_of_many() {
+    let (kek, other) = (KekAes128::from([1; 16]), KekAes256::from([2; 32]));
+    let before = Status::default();
+    assert_eq!(before.result(), Err(IntegrityCheckFailed));
+    let (mut one, mut slots) = ([before], vec![1; 24]);
+    let refused = kek
+        .unwrap_many(Form::Plain, &mut slots, &mut [7; 2], &mut one)
+        .map(|_| ());
+    assert_eq!(refused, Err(output(1)));
+    for (room, forms, due) in [(8, 1, 16), (16, 2, 1)] {
+        let (mut scratch, mut forms) = (vec![7; room], vec![7; forms]);
+        let refused = kek
+            .kind_many(&slots, &mut scratch, &mut forms, &mut [7], &mut one)
+            .map(|_| ());
+        assert_eq!(refused, Err(output(due)));
+    }
+    let made = kek.rewrap_many(&other, &mut slots[..17], Forms::Kept, true, &mut one);
+    assert_eq!(made.map(|_| ()), Err(InvalidDataSize));
+    let short = KekSlice::new(&[1; 15]);
+    let size = Error::InvalidKekSize { size: 15 };
+    assert_eq!(
+        short.wrap_many(Form::Plain, &mut slots, 16, &mut one),
+        Err(size)
+    );
+    let made = kek.rewrap_many(short, &mut slots, Forms::Kept, true, &mut one);
+    assert_eq!(made.map(|_| ()), Err(size));
+    assert_eq!((slots, one), (vec![1; 24], [before]));
 }
 
 #[test]

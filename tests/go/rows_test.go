@@ -112,25 +112,42 @@ func single(call string, r row, flags keywrap.Flags, kek, given []byte) (got res
 }
 
 // byCipher makes a call for one key by Go's AES, if there is such a call.
-func byCipher(call string, r row, kek, given []byte) (result, bool) {
-	call = strings.TrimSuffix(call, "_with")
-	isCall := strings.Contains("wrap unwrap wrap_padded unwrap_padded", call)
-	if len(kek) != 16 && len(kek) != 24 && len(kek) != 32 || !isCall {
-		return result{}, false
+func byCipher(call string, r row, flags keywrap.Flags, kek, given []byte) (got result, found bool) {
+	newKEK := kek
+	if text, found := r["new"]; found {
+		newKEK = bytesOf(text, nil)
+	}
+	for _, length := range []int{len(kek), len(newKEK)} {
+		if length != 16 && length != 24 && length != 32 {
+			return got, false
+		}
 	}
 	c, err := keywrap.NewCipher(aesOf(kek))
 	if err != nil {
 		panic(err)
 	}
-	if text, found := r["iv"]; found {
-		value := bytesOf(text, nil)
-		if call == "wrap" {
-			return one(c.WrapWithIV(value, given)), true
-		}
-		return one(c.UnwrapWithIV(value, given)), true
+	switch call {
+	case "wrap":
+		got = one(c.Wrap(given))
+	case "unwrap":
+		got = one(c.Unwrap(given))
+	case "wrap_padded":
+		got = one(c.WrapPadded(given))
+	case "unwrap_padded":
+		got = one(c.UnwrapPadded(given))
+	case "wrap_with":
+		got = one(c.WrapWithIV(bytesOf(r["iv"], nil), given))
+	case "unwrap_with":
+		got = one(c.UnwrapWithIV(bytesOf(r["iv"], nil), given))
+	case "unwrap_any":
+		got.bytes, got.form, got.err = c.UnwrapAny(given)
+	case "rewrap":
+		renewed, _ := keywrap.NewCipher(aesOf(newKEK))
+		got.bytes, got.already, got.err = c.Rewrap(renewed, given, flags)
+	default:
+		return got, false
 	}
-	return one(map[string]func([]byte) ([]byte, error){"wrap": c.Wrap, "unwrap": c.Unwrap,
-		"wrap_padded": c.WrapPadded, "unwrap_padded": c.UnwrapPadded}[call](given)), true
+	return got, true
 }
 
 // many makes a call for many keys. Without a refusal of the whole it returns the result of each.
@@ -150,7 +167,7 @@ func many(call string, r row, flags keywrap.Flags, kek []byte, given [][]byte) (
 	case "kind_many":
 		forms, lens, err = keywrap.KindMany(kek, given)
 	}
-	if texts == nil && forms == nil {
+	if texts == nil && forms == nil && already == nil && lens == nil {
 		return nil, err
 	}
 	got := make([]result, len(given))
@@ -231,8 +248,8 @@ func TestRows(t *testing.T) {
 			}
 			got := single(call, r, flags, kek, given)
 			isRight = got.isDue(status, r["out"], r["form"], r["len"], given) && bytes.Equal(given, before)
-			if got, found := byCipher(call, r, kek, given); found {
-				isRight = isRight && got.isDue(status, r["out"], "", "", given) && bytes.Equal(given, before)
+			if got, found := byCipher(call, r, flags, kek, given); found {
+				isRight = isRight && got.isDue(status, r["out"], r["form"], "", given) && bytes.Equal(given, before)
 			}
 			last = got.bytes
 		}

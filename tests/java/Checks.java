@@ -131,33 +131,6 @@ final class Checks {
         }
     }
 
-    /** Both ways with the JDK, for all short lengths: the same bytes, or both refuse. */
-    static void lengths() throws Exception {
-        for (String name : FORMS) {
-            int refused = 0;
-            for (int bits = 128; bits <= 256; bits += 64) {
-                for (int length = 0; length <= 80; length++) {
-                    Key kek = aes(random(bits / 8));
-                    byte[] key = random(length), copy = key.clone();
-                    byte[] due;
-                    try {
-                        due = wrapped(name, THEIRS, kek, key);
-                    } catch (IllegalBlockSizeException e) {
-                        throwsOne(IllegalBlockSizeException.class, () -> wrapped(name, OURS, kek, key));
-                        refused++;
-                        continue;
-                    } finally {
-                        throwsOne(IllegalBlockSizeException.class, () -> unwrapped(name, OURS, kek, key));
-                    }
-                    check(Arrays.equals(wrapped(name, OURS, kek, key), due), name + " " + length);
-                    check(Arrays.equals(unwrapped(name, OURS, kek, due), key), name + " " + length);
-                    check(Arrays.equals(key, copy), "the input was changed");
-                }
-            }
-            check(refused == (name.contains("KWP") ? 3 : 3 * (81 - 9)), refused);
-        }
-    }
-
     /** The initial values of both forms, by a specification and by parameters. */
     static void values() throws Exception {
         Key kek = aes(random(24));

@@ -5,8 +5,9 @@
 import assert from 'node:assert/strict';
 import { test } from 'node:test';
 import { onlyFile, readBundles } from './host.mjs';
+import { KEY16, WRAPPED16 } from './vectors.mjs';
 
-const DUE = '1fa68b0a8112b447aef34bd8fb5a7b829d3e862371d2cfe5 00112233445566778899aabbccddeeff';
+const DUE = `${WRAPPED16} ${KEY16}`;
 
 for (const [name, both] of Object.entries(await readBundles())) {
     test(`a bundle: ${name}`, async () => {

@@ -2,10 +2,7 @@
 
 import assert from 'node:assert/strict';
 import { test } from 'node:test';
-
-const KEK = '000102030405060708090a0b0c0d0e0f';
-const KEY = '00112233445566778899aabbccddeeff';
-const WRAPPED = '1fa68b0a8112b447aef34bd8fb5a7b829d3e862371d2cfe5';
+import { KEK16 as KEK, KEY16 as KEY, WRAPPED16 as WRAPPED } from './vectors.mjs';
 
 // Waits until the condition holds, for ten seconds at most.
 async function until(holds, what) {

@@ -3,12 +3,13 @@
 import assert from 'node:assert/strict';
 import { test } from 'node:test';
 import { inOtherRealm } from './host.mjs';
+import { KEK16, KEY16, WRAPPED16 } from './vectors.mjs';
 import { isAsMade, watched } from './watched.mjs';
 
 const bytes = (hex) => Uint8Array.from(hex.match(/../g), (digits) => parseInt(digits, 16));
-const KEK = bytes('000102030405060708090a0b0c0d0e0f');
-const KEY = bytes('00112233445566778899aabbccddeeff');
-const WRAPPED = bytes('1fa68b0a8112b447aef34bd8fb5a7b829d3e862371d2cfe5');
+const KEK = bytes(KEK16);
+const KEY = bytes(KEY16);
+const WRAPPED = bytes(WRAPPED16);
 const IV = new Uint8Array(8).fill(0xa6);
 const { keywrap, exports } = await watched();
 const { wrap, unwrap, wrapPadded, unwrapPadded, unwrapAny, rewrap, check } = keywrap;

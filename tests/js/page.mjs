@@ -8,6 +8,9 @@ import { createServer } from 'node:http';
 import { after, test } from 'node:test';
 import { pathToFileURL } from 'node:url';
 import { Browser } from './browser.mjs';
+import {
+    KEK5649 as KEK_5649, KEY16 as KEY, KEY20 as KEY_20, KEK16, WRAPPED16 as WRAPPED, WRAPPED20 as PADDED_20,
+} from './vectors.mjs';
 
 const [, , directory, program, kept] = process.argv;
 const TYPES = {
@@ -39,12 +42,7 @@ after(async () => {
     server.close();
 });
 
-const KEK = '000102030405060708090A0B0C0D0E0F';
-const KEY = '00112233445566778899aabbccddeeff';
-const WRAPPED = '1fa68b0a8112b447aef34bd8fb5a7b829d3e862371d2cfe5';
-const KEK_5649 = '5840df6e29b02af1ab493b705bf16ea1ae8338f4dcc176a8';
-const KEY_20 = 'c37b7e6492584340bed12207808941155068f738';
-const PADDED_20 = '138bdeaa9b8fa7fc61f97742e72248ee5ae6ae5360d1ae6a5f54f373fa543b6a';
+const KEK = KEK16.toUpperCase();
 
 // Types both fields, presses the button, and reads the outcome, and the result.
 async function done(kek, text, button) {

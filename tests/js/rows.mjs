@@ -80,6 +80,10 @@ function made(call, row) {
         found = error;
     }
     assert.deepEqual(copy, given);
+    if (found instanceof Uint8Array) {
+        assert.equal(found.buffer.byteLength, found.length);
+        assert.notEqual(found.buffer, exports.memory.buffer);
+    }
     last = found instanceof Uint8Array ? found : undefined;
     return [found, given];
 }

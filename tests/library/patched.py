@@ -12,10 +12,14 @@ import pathlib
 import sys
 import tempfile
 
-# A part of each vector that no other one has, and the wrapped key that must be refused, which becomes a right one.
-PARTS = ["9d3e862371d2cfe5", "96778b25ae6ca435", "64e8c3f9ce0f5ba2", "031d33264e15d332", "a8f9bc1612c68b3f",
-         "28c9f404c4b810f4", "138bdeaa9b8fa7fc", "afbeb0f07dfbf541", "c37b7e6492584340", "466f7250617369"]
-DAMAGED = "9d3e862371d2cfe4"
+sys.path.insert(0, str(pathlib.Path(__file__).resolve().parent.parent))
+from vectors import (KEY20, KEY24_UNDER_24, KEY24_UNDER_32, KEY32_UNDER_32, KEY7, WRAPPED16, WRAPPED20, WRAPPED24,
+                     WRAPPED32, WRAPPED7)
+
+# A part of each vector that no other one has, and of the wrapped key that must be refused, which becomes a right one.
+PARTS = [WRAPPED16[-16:], *(vector[:16] for vector in (WRAPPED24, WRAPPED32, KEY24_UNDER_24, KEY24_UNDER_32,
+                                                       KEY32_UNDER_32, WRAPPED20, WRAPPED7, KEY20, KEY7))]
+DAMAGED = f"{int(WRAPPED16[-16:], 16) ^ 1:016x}"
 
 # The tables of the inverse cipher: the places of InvShiftRows in the AES by byte shuffles, the front of the inverse
 # S-box in the AES by word tables.
@@ -34,7 +38,7 @@ with tempfile.TemporaryDirectory() as directory:
         key = bytes.fromhex("00112233445566778899aabbccddeeff")
         arguments = [bytes(range(16)), ctypes.c_size_t(16), key, ctypes.c_size_t(16), wrapped, ctypes.c_size_t(24)]
         status = ctypes.CDLL(str(pathlib.Path(directory, f"{name}.so"))).keywrap_wrap(*arguments)
-        return status == 0 and wrapped.raw.hex() == "1fa68b0a8112b447aef34bd8fb5a7b829d3e862371d2cfe5"
+        return status == 0 and wrapped.raw.hex() == WRAPPED16
 
     assert self_test("original", original) == 0
     for part in map(bytes.fromhex, [*PARTS, DAMAGED]):

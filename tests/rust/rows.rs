@@ -6,7 +6,7 @@ mod common;
 use common::Aes;
 use keywrap::steps::{Stopped, Unwrapping, Wrapping};
 use keywrap::{
-    padded_text_len, room, Error, Form, Forms, KekSlice, Rewrapped, Status, KEYWRAP_MAX_TEXT,
+    padded_text_len, room, Error, Form, Forms, KekSlice, Kind, Rewrapped, Status, KEYWRAP_MAX_TEXT,
 };
 use std::collections::HashMap;
 use std::convert::Infallible;
@@ -58,6 +58,15 @@ fn reason(call: &str, row: &Row) -> Option<&'static str> {
         _ if row.get("iv").map_or(false, |iv| iv.len() != 16) => Some("an initial value has eight bytes"),
         _ if row.get("count").map_or(false, |count| count.len() > 5) => Some("no slice is so long"),
         _ => None,
+    }
+}
+
+/// The status of a slot.
+fn ended(rewrapped: Result<Rewrapped, Error>) -> u8 {
+    match rewrapped {
+        Ok(Rewrapped::Fresh) => 0,
+        Ok(Rewrapped::AlreadyNew) => 1,
+        Err(error) => status_of(error),
     }
 }
 
@@ -226,12 +235,7 @@ fn rewrap(status: u8, row: &Row, kek: &[u8], given: &[u8], last: &mut Vec<u8>) -
         KekSlice::new(kek).rewrap(KekSlice::new(&new), &mut buffer, forms(flags), flags & 8 > 0);
     let is_left = row.get("out").map_or(buffer == given, |out| shows(&buffer, out));
     *last = buffer;
-    is_left
-        && match rewrapped {
-            Ok(Rewrapped::Fresh) => status == 0 && !row.contains_key("already"),
-            Ok(Rewrapped::AlreadyNew) => status == 0 && row.contains_key("already"),
-            Err(error) => status == status_of(error),
-        }
+    is_left && ended(rewrapped) == if row.contains_key("already") { 1 } else { status }
 }
 
 /// The slots with their content, and the length of the longest content.
@@ -262,29 +266,40 @@ fn many(call: &str, status: u8, row: &Row, kek: &[u8]) -> bool {
     let mut lens = vec![77; number(row, "lens_count", count)];
     let mut padded = vec![77; number(row, "forms_count", count)];
     let mut scratch = vec![77; number(row, "room", room(slot))];
+    // What the call returns of each slot: the status, and the key or the kind.
+    let mut each: Vec<(u8, Vec<u8>)> = vec![];
+    let refused = |error| (status_of(error), vec![]);
     let done = match call {
         "wrap_many" => kek.wrap_many(form(flags == 2), &mut slots, key_len, &mut statuses),
-        "unwrap_many" => {
-            kek.unwrap_many(form(flags == 1), &mut slots, &mut lens, &mut statuses).map(|_| ())
-        }
+        "unwrap_many" => kek
+            .unwrap_many(form(flags == 1), &mut slots, &mut lens, &mut statuses)
+            .map(|keys| each.extend(keys.map(|key| key.map_or_else(refused, |key| (0, key.to_vec()))))),
         "rewrap_many" => kek
             .rewrap_many(new, &mut slots, forms(flags), flags & 8 > 0, &mut statuses)
-            .map(|_| ()),
+            .map(|all| each.extend(all.map(|one| (ended(one), vec![])))),
         _ => kek
             .kind_many(&slots, &mut scratch, &mut padded, &mut lens, &mut statuses)
-            .map(|_| ()),
+            .map(|kinds| {
+                let shown = |kind: Kind| (0, vec![kind.form as u8, kind.key_len as u8]);
+                each.extend(kinds.map(|kind| kind.map_or_else(refused, shown)))
+            }),
     };
     if let Err(error) = done {
         let is_left = slots == before && lens.iter().chain(&scratch_of(&scratch)).all(|len| *len == 77);
         return status == status_of(error) && is_left;
     }
     let list = |name: &str| row.get(name).map(|texts| texts.split(',').collect::<Vec<_>>());
-    let ended = |status: &Status| match status.rewrapped() {
-        Ok(Rewrapped::Fresh) => 0,
-        Ok(Rewrapped::AlreadyNew) => 1,
-        Err(error) => status_of(error),
-    };
-    let statuses: Vec<String> = statuses.iter().map(|one| ended(one).to_string()).collect();
+    let statuses: Vec<u8> = statuses.iter().map(|one| ended(one.rewrapped())).collect();
+    let right_each = statuses.iter().zip(&each).enumerate().all(|(i, (status, (ended, found)))| {
+        status == ended
+            && match call {
+                _ if *status != 0 => found.is_empty(),
+                "unwrap_many" => shows(found, list("out").unwrap()[i]),
+                "kind_many" => *found == [padded[i], lens[i] as u8],
+                _ => true,
+            }
+    });
+    let statuses: Vec<String> = statuses.iter().map(u8::to_string).collect();
     let lens: Vec<String> = lens.iter().map(usize::to_string).collect();
     let padded: Vec<String> = padded.iter().map(u8::to_string).collect();
     let right_out = list("out").map_or(slots == before, |outs| {
@@ -299,6 +314,7 @@ fn many(call: &str, status: u8, row: &Row, kek: &[u8]) -> bool {
     });
     status == 0
         && list("statuses").unwrap() == statuses
+        && (call == "wrap_many" || each.len() == count && right_each)
         && list("lens").map_or(true, |due| due == lens)
         && list("forms").map_or(true, |due| due == padded)
         && right_out
