@@ -1,6 +1,7 @@
 #!/usr/bin/env bash
 # Runs what takes too long for the gate, before a release. For each line of tests/evidence.txt it writes
-# docs/evidence/NAME: what was tried, with its SHA-256, and the end of the output. The first failure ends it.
+# docs/evidence/NAME: what was tried, with its SHA-256, and the end of the output, without lines of progress ([..). The
+# first failure ends it.
 #
 # usage: scripts/evidence.sh [NAME..]        only these lines, if one is named
 #        scripts/evidence.sh --stale         runs nothing, and prints the names of which something was changed since
@@ -18,6 +19,10 @@ tried() {
     done
 }
 
+all_inputs() { python3 -B dist/check/all_inputs/check.py "$1" full; }
+export -f all_inputs
+export KEYWRAP_ALL=1 KEYWRAP_EVIDENCE=1
+
 stale=
 [ "${1:-}" != --stale ] || { stale=yes && shift; }
 while IFS='|' read -r name paths command <&3; do
@@ -31,5 +36,5 @@ while IFS='|' read -r name paths command <&3; do
     echo "$name: $command"
     said=$(bash -c "$command" 2>&1) || { echo "$said" && echo "evidence: $name failed" && exit 1; }
     mkdir -p docs/evidence
-    printf '%s\n\n%s\n\n%s\n' "$sums" "$command" "$(tail -n 5 <<<"$said")" >"docs/evidence/$name"
+    printf '%s\n\n%s\n\n%s\n' "$sums" "$command" "$(sed '/^\[/d' <<<"$said" | tail -n 120)" >"docs/evidence/$name"
 done 3< <(sed -n 's/ *| */|/g; /^[^#]/p' tests/evidence.txt)

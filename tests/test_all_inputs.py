@@ -92,10 +92,18 @@ def test_short_list():
     assert passed == listed and int(passed) > 40
 
 
-@evidence
-@pytest.mark.parametrize("name", OBJECTS[1:])
+@pytest.mark.parametrize("name", all_of(OBJECTS[1:], [], in_gate=["keywrap.c by gcc", "libkeywrap", "libkeywrap_hw"]))
 def test_short_list_of_each_object(made, name):
     check(made(name))
+
+
+@pytest.mark.needs("git")
+@pytest.mark.parametrize("name", ["all-inputs", "all-inputs-c"])
+def test_evidence_is_of_this_object(name):
+    """docs/evidence/NAME has the SHA-256 of the object in the tree, if the full list has run."""
+    if not (ROOT / "docs/evidence" / name).exists():
+        pytest.skip(f"make evidence has not run: docs/evidence/{name}")
+    assert run(ROOT / "scripts/evidence.sh", "--stale", name) == ""
 
 
 @evidence

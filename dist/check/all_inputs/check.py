@@ -10,6 +10,7 @@ calls pass, 1 if a call is refused, and 2 if the arguments are wrong."""
 import hashlib
 import inspect
 import sys
+import textwrap
 import time
 
 import lists
@@ -31,6 +32,17 @@ def show(name, numbers):
     return ' '.join([name, *(f'{key}={n}' for key, n in zip(names, numbers))])
 
 
+def show_all(name, calls):
+    """Returns which numbers each number of these calls is, for (its numbers, its paths) of each call."""
+    texts = []
+    for i, key in enumerate(list(inspect.signature(CALLS[name]).parameters)[1:]):
+        values = sorted({numbers[i] for numbers, _ in calls if i < len(numbers)})
+        if values:
+            shown = ' '.join(map(str, values)) if len(values) < 9 else f'{values[0]} to {values[-1]}'
+            texts.append(f'{key} {shown}')
+    return f'{name}: {len(calls)} calls, {sum(paths for _, paths in calls)} paths; {", ".join(texts)}'
+
+
 def main(args):
     which = args[1] if len(args) > 1 else 'short'
     if not args or which not in lists.LISTS and which not in CALLS:
@@ -43,7 +55,7 @@ def main(args):
     listed = list(lists.LISTS[which]()) if which in lists.LISTS else [(which, *map(int, args[2:]))]
     missing = sorted({name for name, *_ in listed if not is_exported(module, name)})
     todo = [(call, gap) for call in listed for gap in GAPS.get(which, (16, 0)) if call[0] not in missing]
-    begun, paths, bad, places = time.time(), 0, 0, {}
+    begun, bad, places, passed = time.time(), 0, {}, {}
     for i, ((name, *numbers), gap) in enumerate(todo, 1):
         line, since = f'[{i}/{len(todo)}] {show(name, numbers)}' + ' side by side' * (gap == 0), time.time()
         if sys.stderr.isatty():
@@ -58,15 +70,17 @@ def main(args):
         forks = sorted({place for _, forks in result.paths for place in forks})
         for place in forks:
             places.setdefault(place, set()).add(name)
-        paths += len(result.paths)
+        passed.setdefault(name, []).append((numbers, len(result.paths)))
         print(f'{line}: passes, status {statuses}, {len(result.paths)} paths, branches: {"; ".join(forks) or "none"}; '
               f'{result.lookups} look-ups in tables, {result.steps} instructions, {result.stack} bytes of stack, '
               f'{time.time() - since:.1f} s', flush=True)
-    print(f'{len(todo) - bad} of {len(todo)} calls pass, {paths} paths, {time.time() - begun:.0f} s')
+    paths = sum(paths for calls in passed.values() for _, paths in calls)
+    lines = [f'{len(todo) - bad} of {len(todo)} calls pass, {paths} paths, {time.time() - begun:.0f} s']
+    lines += [show_all(name, calls) for name, calls in passed.items()]
     if missing:
-        print('not exported:', ', '.join(missing))
-    print('branches that depend on input bytes:', *(
-        f'\n    {place}: in {", ".join(sorted(names))}' for place, names in sorted(places.items())))
+        lines.append(f'not exported: {", ".join(missing)}')
+    lines += [f'branch on input bytes at {place}: {", ".join(sorted(places[place]))}' for place in sorted(places)]
+    print('\n'.join(textwrap.fill(line, 118, subsequent_indent='    ', break_long_words=False) for line in lines))
     return int(bad > 0)
 
 
