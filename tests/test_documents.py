@@ -193,14 +193,14 @@ class TestRepeatedFacts:
 
     @pytest.mark.needs("rt")
     def test_kit(self):
-        """README names the logic of the kit in use, and only dist/ names the kit that it is made by."""
+        """README names the logic of the kit in use. Only dist/ and TRUST name the kit that they are made by."""
         used = re.search(r"logic (\w+)", subprocess.run(["rt", "version"], capture_output=True, text=True).stdout)[1]
         named, = re.findall(r"`logic (\w+)`", text_of("README.md"))
         assert used == named, (f"this kit has logic {used}: with it all proofs are made again, and may fail. Run `make "
                                f"proofs`. If it passes, write {used} into README instead of {named}")
         search = ["git", "-C", ROOT, "grep", "-lE", f"rattle-kit-[0-9]|{named}"]
         assert subprocess.run(search, capture_output=True, text=True).stdout == (
-            "README.md\ndist/command/program.c\ndist/keywrap.c\n")
+            "README.md\ndist/command/program.c\ndist/keywrap.c\ndocs/TRUST.md\n")
 
     def test_calls_since_1_1(self):
         """The header and the changes have the calls of keywrap.map's second version."""
