@@ -9,7 +9,6 @@ an exception or a report. `rewrap_all` and `replace` are for stores of any other
 from __future__ import annotations
 
 import argparse
-import os
 import sys
 from typing import Dict, Mapping
 
@@ -26,8 +25,8 @@ __all__ = ["EqualKeks", "Keks", "Refused", "WrongKeks", "challenges", "main", "r
 def challenges() -> Keks:
     """Reads the KEKs of the files that `KEYWRAP_KEK` and `KEYWRAP_NEW_KEK` name. Returns these names and a challenge: by
     it another machine sees whether its KEKs are the same. Raises `WrongKeks`, as `EqualKeks`."""
-    words = dict.fromkeys(("kek", "keks", "new_keks", "verify", "raw_kek"))
-    return keks_of(argparse.Namespace(**words, new_kek=os.environ.get("KEYWRAP_NEW_KEK"))).challenged()
+    none = dict.fromkeys(("kek", "new_kek", "keks", "new_keks", "verify", "raw_kek"))
+    return keks_of(argparse.Namespace(**none)).challenged()
 
 
 def rewrap_all(keys: Mapping[str, bytes], keks: Keks) -> Dict[str, bytes]:

@@ -13,6 +13,7 @@ from .found import Found, Refused
 from .keks import Rings
 from .keys import LONGEST, Notation, Text, renewed
 from .replacing import BLOCK
+from .rows import some
 
 
 class Record(NamedTuple):
@@ -39,18 +40,6 @@ def _lines(descriptor: int) -> Iterator[str]:
         yield rest.decode("utf-8", "surrogateescape")
 
 
-def _some(records: Iterator[Record]) -> List[Record]:
-    """Takes records until they are long."""
-    taken: List[Record] = []
-    size = 0
-    for record in records:
-        taken.append(record)
-        size += len(record.content)
-        if size >= BLOCK:
-            break
-    return taken
-
-
 def _text(value: str) -> bytes:
     return value.strip().encode("utf-8", "surrogateescape")
 
@@ -65,17 +54,18 @@ class Fields:
 
     def __init__(self, is_csv: bool, name: str, notation: Notation, kek_name: Optional[str] = None) -> None:
         self.is_csv, self.name, self.notation, self.kek_name = is_csv, name, notation, kek_name
-        self.no_key = f"no key in the column {name!r}" if is_csv else f"no line has the member {name!r}"
 
     def renewed(self, descriptor: int, rings: Rings, found: Found) -> Iterator[Tuple[bytes, bytes]]:
         lines = _lines(descriptor)
         records = self._csv(lines) if self.is_csv else self._json(lines)
-        while batch := _some(records):
+        while batch := some(records, lambda record: record.content, BLOCK):
             texts = renewed(rings, self.notation, [record.text for record in batch], found,
                             lambda at: f"line {batch[at].line}", [record.name for record in batch])  # fmt: skip
             content = "".join(record.content for record in batch).encode("utf-8", "surrogateescape")
             fresh = (_with(record, texts[at]) if at in texts else record.content for at, record in enumerate(batch))
             yield content, "".join(fresh).encode("utf-8", "surrogateescape") if texts else content
+        if not found.keys:
+            raise Refused(f"no {'key in the column' if self.is_csv else 'line has the member'} {self.name!r}")
 
     def _csv(self, lines: Iterator[str]) -> Iterator[Record]:
         csv.field_size_limit(2 * LONGEST)

@@ -3,6 +3,7 @@
 from __future__ import annotations
 
 import contextlib
+import hashlib
 import io
 import os
 from typing import Callable, ContextManager, Iterable, Iterator, NamedTuple, Optional, Protocol, Tuple
@@ -12,10 +13,7 @@ from .found import Changed, Found, Gone, Refused
 from .keks import Rings
 from .keys import BLANKS, LONGEST, Notation, all_renewed, renewed
 from .listing import Listing, Names, Unit
-from .replacing import BLOCK, Successor, has_name, identity, new_digest, opened, refuse_long, short
-
-def _nothing() -> Tuple[Iterable[Unit], int]:
-    return (), 0
+from .replacing import BLOCK, Successor, has_name, identity, opened, refuse_long, short
 
 
 class Listed(NamedTuple):
@@ -29,7 +27,7 @@ class Listed(NamedTuple):
     is_quiet: Callable[[Found], bool]
     #: Takes what was found in a unit; lists again: the units that are there and were not read, and their number.
     take: Callable[[Unit, Found], None] = lambda unit, found: None
-    rest: Callable[[], Tuple[Iterable[Unit], int]] = _nothing
+    rest: Callable[[], Tuple[Iterable[Unit], int]] = lambda: ((), 0)
     #: How many units other shards have.
     others: int = 0
 
@@ -46,17 +44,12 @@ class Store(Protocol):
 
 
 class Format(Protocol):
-    #: What a file is called that has none.
-    no_key: str
-
     def renewed(self, descriptor: int, rings: Rings, found: Found) -> Iterator[Tuple[bytes, bytes]]:
         """Reads a file from its start. Yields each part of it, and what that becomes: itself if nothing changes."""
 
 
 class Lines:
     """One key on each line. A line that stays is kept to the byte; a new one ends with LF."""
-
-    no_key = "no key"
 
     def __init__(self, notation: Notation) -> None:
         self.notation = notation
@@ -91,8 +84,6 @@ class Lines:
 class OneKey:
     """The file is one key, which may span lines."""
 
-    no_key = "no key"
-
     def __init__(self, notation: Notation) -> None:
         self.notation = notation
 
@@ -122,7 +113,7 @@ class Files:
                      listing.take, listing.rest, listing.others)  # fmt: skip
 
     def do(self, unit: Unit, rings: Rings, may_write: bool) -> Found:
-        path, found, digest, length = os.fsencode(unit.place), Found(), new_digest(), 0
+        path, found, digest, length = os.fsencode(unit.place), Found(), hashlib.blake2b(), 0
         new: Optional[Successor] = None
         is_rotation = any(ring.old for ring in rings.values())
         try:
@@ -142,7 +133,7 @@ class Files:
                         new.write(fresh)
                     signs.beat(len(content))
                 if not found.keys:
-                    raise Refused(self.format.no_key)
+                    raise Refused("no key")
                 if new is not None:
                     before = new.replace(descriptor, short(digest), quiesced=self.quiesced)
                 elif not has_name(path, before):

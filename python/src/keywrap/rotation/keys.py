@@ -17,6 +17,7 @@ BLANKS = b" \t\r\n"
 LONGEST_KEY = 1048584
 LONGEST = 2 * LONGEST_KEY + 1024
 _FLAGS = _flags(False, False, True, False)
+NOT_READ = "not in the notation of the store"
 #: A key as it is written in a store; why a place has something else; or `None` for a place without a key.
 Text = Union[bytes, str, None]
 Result = TypeVar("Result")
@@ -77,14 +78,8 @@ def _under(kek: bytes, keys: Mapping[int, bytes]) -> Dict[int, bool]:
 
 def _rewrapped(old: bytes, new: bytes, keys: Mapping[int, bytes]) -> Dict[int, bytes]:
     """Rewraps the keys that are under the KEK, each in its form."""
-
-    def call(some: List[bytes]) -> Sequence[Union[bytes, keywrap.KeywrapError]]:
-        try:
-            return keywrap.rewrap_many(old, new, some, keep_form=True)
-        except keywrap.BadLength as error:
-            return [error] * len(some)
-
-    return {place: key for place, key in _by_length(call, keys).items() if isinstance(key, bytes)}
+    done = _by_length(lambda some: keywrap.rewrap_many(old, new, some, keep_form=True), keys)
+    return {place: key for place, key in done.items() if isinstance(key, bytes)}
 
 
 def renewed(rings: Rings, notation: Notation, texts: Sequence[Text], found: Found, place: Callable[[int], str],
@@ -118,13 +113,13 @@ def _renewed(ring: Ring, notation: Notation, texts: Mapping[int, Text], found: F
             if isinstance(text, str) or not text:
                 raise Refused(text or "blank")
             key, is_new = notation.read(text)
-            if not key:
-                raise ValueError
+            if len(key) % 8 or not 16 <= len(key) <= LONGEST_KEY:
+                raise Refused("bad length" if key else NOT_READ)
             keys[at] = key
             if not is_new:
                 stale.add(at)
         except (ValueError, Refused) as error:
-            found.refuse(place(at), str(error) if type(error) is Refused else "not in the notation of the store")
+            found.refuse(place(at), str(error) if type(error) is Refused else NOT_READ)
     fresh: Dict[int, bytes] = {}
     left: Dict[int, bytes] = {}
     for at, is_new in _under(ring.new, keys).items():
@@ -144,7 +139,7 @@ def _renewed(ring: Ring, notation: Notation, texts: Mapping[int, Text], found: F
         left = {at: key for at, key in left.items() if at not in some}
     why = "under no KEK of this rotation" if ring.old else "not under the new KEK"
     for at in sorted(left):
-        found.refuse(place(at), "bad length" if len(left[at]) % 8 or not 16 <= len(left[at]) <= LONGEST_KEY else why)
+        found.refuse(place(at), why)
     assert found.keys == found.new + sum(found.old.values()) + found.refused
     new_texts = {at: notation.write(key) for at, key in fresh.items()}
     if not all(_under(ring.new, {at: notation.read(text)[0] for at, text in new_texts.items()}).values()):
@@ -174,9 +169,8 @@ def all_renewed(rings: Rings, content: bytes, found: Found) -> Optional[bytes]:
     except ValueError:
         return None
     # Python skips blanks: there are no others than the ends of the lines if the keys have all other digits.
-    if size < 33 or length % 8 or content[size - 1 :: size] != b"\n" * count or len(keys) != length * count:
-        return None
-    if len(content) != size * count:
+    if (size < 33 or length % 8 or len(content) != size * count or content[size - 1 :: size] != b"\n" * count
+            or len(keys) != length * count):  # fmt: skip
         return None
     if _are_under(ring.new, keys, length):
         found.keys, found.new = found.keys + count, found.new + count

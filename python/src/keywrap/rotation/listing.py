@@ -29,10 +29,6 @@ class Names(NamedTuple):
     list_of_files: Optional[str] = None
     shard: Tuple[int, int] = (1, 1)
 
-    def __reduce__(self) -> Any:
-        """Whoever does units needs no names."""
-        return Names, ((),)
-
     def has(self, name: bytes) -> bool:
         """Whether the shard has this name, whatever else is in the store."""
         number, total = self.shard
@@ -54,7 +50,6 @@ class Names(NamedTuple):
 #: The path of a file, its size, its identity, and the time of its last change, which a rename changes. A directory, and a
 #: named file that is not there, have neither size nor identity.
 Row = Tuple[bytes, Optional[int], Optional[str], int]
-_FIRST, _LAST = "first", "last"
 
 
 class Listing:
@@ -63,11 +58,11 @@ class Listing:
     def __init__(self, names: Names, *, may_write: bool, skip: Callable[[bytes], bool] = lambda path: False) -> None:
         self.names, self.may_write, self.skip = names, may_write, skip
         self._database = sqlite3.connect("", isolation_level=None)
-        for table in (_FIRST, _LAST):
+        for table in ("first", "last"):
             self._database.execute(f"CREATE TABLE {table} (name BLOB PRIMARY KEY, size, identity, changed) WITHOUT ROWID")
         self._database.execute("CREATE TABLE read (identity PRIMARY KEY) WITHOUT ROWID")
         self._database.execute("BEGIN")
-        self.found = self._list(_FIRST)
+        self.found = self._list("first")
         self._at_end = Found()
         self.count, self.weight = self._database.execute("SELECT count(size), total(size) FROM first").fetchone()
 
@@ -93,13 +88,12 @@ class Listing:
         if found.identity is not None:
             self._database.execute("INSERT OR IGNORE INTO read VALUES (?)", (found.identity,))
         elif not found.moved:
-            for table in (_FIRST, _LAST):
-                there = f"SELECT identity FROM {table} WHERE name = ?"
-                self._database.execute(f"INSERT OR IGNORE INTO read {there}", (os.fsencode(unit.place),))
+            self._database.execute("INSERT OR IGNORE INTO read SELECT identity FROM first WHERE name = ?1 "
+                                   "UNION SELECT identity FROM last WHERE name = ?1", (os.fsencode(unit.place),))  # fmt: skip
 
     def rest(self) -> Tuple[Iterator[Unit], int]:
         """Lists again. Returns the files that are there now and that this pass did not read, and their number."""
-        self._at_end = self._list(_LAST)
+        self._at_end = self._list("last")
         unread = "FROM last WHERE size NOTNULL AND identity NOT IN read"
         (count,) = self._database.execute(f"SELECT count(*) {unread}").fetchone()
         return self._units(f"SELECT name, size {unread} ORDER BY name"), count
@@ -107,7 +101,7 @@ class Listing:
     def is_quiet(self, columns: str = "name, identity, changed") -> bool:
         """Whether the last listing is as the first one: names, files, and the times of files and directories."""
         differences = (f"SELECT {columns} FROM {one} EXCEPT SELECT {columns} FROM {other}"
-                       for one, other in ((_FIRST, _LAST), (_LAST, _FIRST)))  # fmt: skip
+                       for one, other in (("first", "last"), ("last", "first")))  # fmt: skip
         differs = any(self._database.execute(select + " LIMIT 1").fetchone() for select in differences)
         return not (differs or self._at_end.moved or self._at_end.lost)
 

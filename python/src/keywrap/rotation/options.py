@@ -56,9 +56,9 @@ def _parser() -> argparse.ArgumentParser:
     parser = argparse.ArgumentParser("python -m keywrap.rotate", usage="%(prog)s [OPTION].. [FILE]..", allow_abbrev=False,
                                      description=DESCRIPTION, epilog=EPILOG, add_help=False,
                                      formatter_class=lambda prog: argparse.HelpFormatter(prog, max_help_position=23))
-    add, env = parser.add_argument, os.environ.get
+    add = parser.add_argument
     add("--kek", metavar="F", action="append", help="file of a KEK, in hex (default: $KEYWRAP_KEK)")
-    add("--new-kek", metavar="F", default=env("KEYWRAP_NEW_KEK"), help="its successor (default: $KEYWRAP_NEW_KEK)")
+    add("--new-kek", metavar="F", help="its successor (default: $KEYWRAP_NEW_KEK)")
     add("--raw-kek", action="store_true", help="KEK files are raw bytes")
     add("--keks", metavar="F", help="table of KEKs: each line is NAME=FILE")
     add("--new-keks", metavar="F", help="table of new KEKs, with the same names")
@@ -102,11 +102,9 @@ def _parser() -> argparse.ArgumentParser:
 
 def _reason(options: argparse.Namespace) -> Optional[str]:
     """Why these options do not go together."""
-    is_table = options.table is not None or options.postgresql is not None
-    is_file = not is_table and options.get is None
-    rotates = not (options.verify or options.dry_run)
+    kinds = ("csv", "json", "table", "postgresql", "get")
+    kind = next((kind for kind in kinds if getattr(options, kind) is not None), None)
     has_tables = options.keks is not None or options.new_keks is not None
-    has_names = is_table or options.csv is not None or options.json is not None
     prefixes = [prefix.encode() for prefix in (*options.prefix, options.new_prefix)]
     wrong = {
         "a FILE, or --files-from, is required": options.postgresql is None
@@ -115,15 +113,15 @@ def _reason(options: argparse.Namespace) -> Optional[str]:
             and (options.files or options.files_from or options.exclude or options.shard != (1, 1)),
         "--get, --put and --files-from go together, without FILE": bool(options.get) != bool(options.put)
             or options.get and (options.files or not options.files_from),
-        "--quiesced goes with files only": options.quiesced and not is_file,
+        "--quiesced goes with files only": options.quiesced and kind in kinds[2:],
         "--raw goes with neither --csv, --json nor a prefix": options.notation == "raw"
-            and (options.csv is not None or options.json is not None or options.prefix),
+            and (kind in ("csv", "json") or options.prefix),
         "--record and --verify-record go with --verify": (options.record or options.verify_record) and not options.verify,
-        "--rate goes with a rotation only": options.rate is not None and not rotates,
-        "--kek-name goes with --csv, --json, --table and --postgresql": options.kek_name is not None and not has_names,
+        "--rate goes with a rotation only": options.rate is not None and (options.verify or options.dry_run),
+        "--kek-name goes with --csv, --json, --table and --postgresql": options.kek_name is not None and kind in (None, "get"),
         "--kek-name and --keks, or --new-keks, go together": (options.kek_name is not None) != has_tables,
         "--keks goes without --kek, and --new-keks without --new-kek": options.keks is not None
-            and options.kek is not None or options.new_keks is not None and "--new-kek" in options.given,
+            and options.kek is not None or options.new_keks is not None and options.new_kek is not None,
         "--new-keks needs --keks": options.new_keks is not None and options.keks is None and not options.verify,
         "--new-challenge and --make-challenges go without --keks and --new-keks": has_tables
             and (options.new_challenge is not None or options.make_challenges),
@@ -138,12 +136,12 @@ def _reason(options: argparse.Namespace) -> Optional[str]:
 
 def parse(words: Optional[Sequence[str]]) -> argparse.Namespace:
     words = sys.argv[1:] if words is None else list(words)
-    given = [word.partition("=")[0] for word in itertools.takewhile(lambda word: word != "--", words)]
     parser = _parser()
-    for name in given:
+    for word in itertools.takewhile(lambda word: word != "--", words):
+        name = word.partition("=")[0]
         if name in GONE:
             parser.error(f"{name} is gone: {GONE[name]}")
-    options = parser.parse_args(words, argparse.Namespace(given=given))
+    options = parser.parse_args(words)
     wrong = _reason(options)
     if wrong is not None:
         parser.error(wrong)
@@ -156,7 +154,7 @@ def keks_of(options: argparse.Namespace) -> Keks:
 
     variables = itertools.chain(["KEYWRAP_KEK"], (f"KEYWRAP_KEK_{number}" for number in itertools.count(2)))
     old = options.kek or [os.environ[name] for name in itertools.takewhile(os.environ.__contains__, variables)]
-    new = None if options.new_keks is not None else options.new_kek
+    new = None if options.new_keks is not None else options.new_kek or os.environ.get("KEYWRAP_NEW_KEK")
     table = None if options.verify else options.keks
     if not (new or options.new_keks) or not (old or table or options.verify):
         raise WrongKeks("give --kek and --new-kek, or set KEYWRAP_KEK and KEYWRAP_NEW_KEK")

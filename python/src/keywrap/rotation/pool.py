@@ -1,7 +1,7 @@
 """Units go to processes of this machine, or to the workers of Dask. No wait is without an end.
 
-Processes share nothing but signs of life: each has a socket, whose end is its end. The queues of an executor of
-`concurrent.futures` have locks: a process that is killed while it holds one keeps the others, and so the executor, for ever.
+Processes share nothing but signs of life: each has a socket, whose end is its end. An executor of `concurrent.futures`
+has queues with locks: a process that is killed while it holds one keeps the others, and so the executor, for ever.
 """
 
 from __future__ import annotations
@@ -168,11 +168,12 @@ class Pool:
         self._may_begin = 0.0
 
     def __call__(self, work: Work, units: Iterable[Unit], count: int) -> Iterator[Tuple[Unit, Found]]:
-        """Yields what was found in each unit, in any order. A unit whose process died is tried again, alone: so the unit
-        that ends its process is known."""
+        """Yields what was found in each unit, in any order. A unit whose process died is tried again, alone: so it is
+        known which unit ends its process."""
         crew: Crew = (Workers(work, self.dask, self.timeout) if self.dask is not None
                       else Processes(work, min(self.jobs, max(count, 1)), self.timeout))  # fmt: skip
-        waiting, tries = self._batches(units, count, crew.size), collections.Counter()  # type: ignore[var-annotated]
+        waiting = self._batches(units, count, crew.size)
+        tries: Counter[str] = collections.Counter()
         again: Deque[List[Unit]] = collections.deque()
         try:
             while self._hand_out(crew, again, waiting):

@@ -4,7 +4,7 @@ from __future__ import annotations
 
 import contextlib
 import importlib
-from typing import Any, Iterator, List, Optional
+from typing import Any, Iterator, Optional
 
 from . import signs
 from .files import Listed
@@ -12,7 +12,7 @@ from .found import Found, Refused, Unanswered
 from .keks import Rings
 from .keys import Notation
 from .listing import Unit
-from .rows import KEY, Row, digest_of, number_of, renewed_rows
+from .rows import KEY, digest_of, key_of, number_of, renewed_rows, some
 
 #: How many blocks a unit has, and how long a statement waits for a lock.
 BLOCKS, LOCK = 64, "60s"
@@ -107,10 +107,12 @@ class Postgresql:
             reader.execute(f"SET TRANSACTION SNAPSHOT '{snapshot}'")
             type = self._type(self.composer(reader))
             end = "" if last is None else f" AND {{name}}.ctid < '({last},0)'"
-            self.composer(reader, type)("DECLARE rows CURSOR FOR SELECT {name}.ctid::text, " + KEY + " FROM {table}"
+            cursor, writer = stack.enter_context(reader.cursor("rows")), None
+            cursor.itersize = 250
+            self.composer(cursor, type)("SELECT {name}.ctid::text, " + KEY + " FROM {table}"
                                         f" WHERE {{name}}.ctid >= '({first},0)'{end}")  # fmt: skip
-            writer: Any = None
-            while rows := self._some(reader):
+            each = iter(cursor)
+            while rows := some(each, key_of):
                 found.nulls += sum(is_null for _, _, is_null, _ in rows)
                 digest += number_of(rows)
                 writes = renewed_rows(rings, self.notation, rows, found, lambda row: f"row {row}")
@@ -123,13 +125,3 @@ class Postgresql:
             reader.rollback()
         found.digest = digest_of(digest)
         return found
-
-    def _some(self, reader: Any) -> List[Row]:
-        """Takes rows until they are many or long."""
-        taken: List[Row] = []
-        while len(taken) < 1000 and sum(len(row[1] or b"") for row in taken) < 1 << 20:
-            more = reader.execute("FETCH 250 FROM rows").fetchall()
-            taken += more
-            if not more:
-                break
-        return taken

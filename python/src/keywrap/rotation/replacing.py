@@ -41,16 +41,12 @@ def exchange(one: bytes, other: bytes) -> None:
     raise OSError(ctypes.get_errno(), os.strerror(ctypes.get_errno()))
 
 
-def new_digest() -> Any:
-    return hashlib.blake2b()
-
-
 def short(digest: Any) -> str:
     return str(digest.hexdigest()[:_DIGITS])
 
 
 def _digest_of(descriptor: int) -> str:
-    digest, offset = new_digest(), 0
+    digest, offset = hashlib.blake2b(), 0
     while block := os.pread(descriptor, BLOCK, offset):
         digest.update(block)
         offset += len(block)
@@ -127,7 +123,7 @@ class Successor:
     """A new file that takes the place of another one."""
 
     def __init__(self, path: bytes, before: os.stat_result) -> None:
-        self.path, self.before, self.digest = path, before, new_digest()
+        self.path, self.before, self.digest = path, before, hashlib.blake2b()
         self.directory, self.base = os.path.dirname(path) or b".", os.path.basename(path)
         refuse_long(path)
         self.name: Optional[bytes] = self._temporary("0" * _DIGITS, "0" * _DIGITS)
@@ -146,7 +142,7 @@ class Successor:
 
     def copy(self, descriptor: int, length: int, digest: str) -> None:
         """Copies the begin of the old file, which had this digest when it was read. Raises `Changed`."""
-        copied, offset = new_digest(), 0
+        copied, offset = hashlib.blake2b(), 0
         while offset < length and (block := os.pread(descriptor, min(BLOCK, length - offset), offset)):
             copied.update(block)
             self.write(block)
@@ -224,9 +220,7 @@ def replace(path: str, new_bytes: bytes, *, old_bytes: bytes) -> None:
         raise Refused("the new content is empty")
     try:
         with opened(os.fsencode(path)) as (old, before):
-            digest = new_digest()
-            digest.update(old_bytes)
-            read = short(digest)
+            read = short(hashlib.blake2b(old_bytes))
             if _digest_of(old) != read:
                 raise Changed
             successor = Successor(os.fsencode(path), before)

@@ -1,9 +1,10 @@
-"""What tables of all databases share: some rows are read, and each new key is written only in the place of its old one."""
+"""What tables and files of records share: some are read at once. What tables of all databases share: each new key is
+written only in the place of its old one."""
 
 from __future__ import annotations
 
 import hashlib
-from typing import Any, Callable, List, Sequence, Tuple
+from typing import Any, Callable, Iterator, List, Sequence, Tuple, TypeVar
 
 from .found import Found
 from .keks import Rings
@@ -11,22 +12,26 @@ from .keys import BLANKS, LONGEST, Notation, Text, renewed
 
 #: How many rows, and about how many bytes, are read and written at once.
 ROWS, BYTES = 2000, 1 << 20
+Item = TypeVar("Item")
 #: A row, its key, whether that is NULL, and the name of its KEK. A key longer than any is not read.
 Row = Tuple[Any, Any, bool, Any]
 #: What each database reads of a key.
 KEY = "CASE WHEN {octets}({key}) <= " + str(LONGEST) + " THEN {key} END, {key} IS NULL, {kek}"
 
 
-def some(rows: Any) -> List[Row]:
-    """Takes rows until they are many or long."""
-    taken: List[Row] = []
+def some(items: Iterator[Item], text: Callable[[Item], Any], most: int = BYTES) -> List[Item]:
+    """Takes rows or records until they are many, or their texts are long."""
+    taken: List[Item] = []
     size = 0
-    for row in rows:
-        taken.append(row)
-        size += len(row[1]) if isinstance(row[1], (bytes, str)) else 0
-        if len(taken) == ROWS or size > BYTES:
-            break
+    while len(taken) < ROWS and size < most and (item := next(items, None)) is not None:
+        taken.append(item)
+        size += len(text(item) or b"")
     return taken
+
+
+def key_of(row: Row) -> Any:
+    """The key of a row, if it has a length."""
+    return row[1] if isinstance(row[1], (bytes, str)) else None
 
 
 def _text(value: Any, is_null: bool, of: type) -> Text:

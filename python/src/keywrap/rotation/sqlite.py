@@ -17,7 +17,7 @@ from .found import Found, Gone, Refused, Unanswered
 from .keks import Rings
 from .keys import Notation
 from .listing import Listing, Names, Unit
-from .rows import KEY, digest_of, number_of, renewed_rows, some
+from .rows import KEY, digest_of, key_of, number_of, renewed_rows, some
 
 LOCK_SECONDS = 60.0
 #: How SQLite's texts begin, and our words.
@@ -122,7 +122,8 @@ class Sqlite:
         while True:
             where = "TRUE" if last is None else "({row}) > ({places})".format(**names)
             cursor = database.execute(select(where=where, **names), last or ())
-            rows = some((row[:width], *row[width:]) for row in cursor)
+            each: Any = ((row[:width], *row[width:]) for row in cursor)
+            rows = some(each, key_of)
             cursor.close()
             if not rows:
                 break
