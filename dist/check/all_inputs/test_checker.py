@@ -191,6 +191,11 @@ def older_atoms():
     p = at({('x', 0): 1 ^ 7, ('y', 0): 2, ('z', 0): 1})
     assert value(before, p) == value(after, p)
     assert Known.now.rewritten(terms.xor(before, x)) == terms.xor(after, Known.now.reduced(x))
+    # If T(x + 5) = z + 3, then S(z + 3) = x + 5.
+    Known.now = Known()
+    before = terms.substituted('T', terms.xor(terms.substituted('S', terms.xor(z, 3)), y))
+    Known.now = Known().with_zero(terms.xor(terms.substituted('T', terms.xor(x, 5)), terms.xor(z, 3)))
+    assert Known.now.rewritten(before) == terms.substituted('T', terms.xor(terms.xor(x, 5), y))
     Known.now = Known()
 
 
