@@ -143,6 +143,13 @@ def words(library, built):
 
 
 @pytest.fixture(scope="session")
+def prefix(once, words):
+    """The prefix where the library is installed."""
+    return once("library-installed", lambda directory: run(
+        "make", "-s", "-C", ROOT, "install-library", *words, f"PREFIX={directory}"))
+
+
+@pytest.fixture(scope="session")
 def dist(once, words, built, python, pytestconfig):
     """The directory of `make dist` for this machine."""
     def build(directory):

@@ -18,7 +18,8 @@ import pytest
 
 pytest.register_assert_rewrite("checks")
 
-from builds import built, debs, dist, in_c, library, once, portable, python, thing, words  # noqa: F401
+import counting
+from builds import built, debs, dist, in_c, library, once, portable, prefix, python, thing, words  # noqa: F401
 from commands import FILES, LARGE
 from program import SLOW, Ended, Program, shared, wait_for
 from tools import need
@@ -27,12 +28,13 @@ ROOT = pathlib.Path(__file__).resolve().parent.parent
 # When a test began, in seconds of processor of this process and of those that have ended.
 BEFORE = pytest.StashKey()
 # The files of long tests.
-LONG = ("test_portable", "test_python", "test_dist", "test_debian", "test_handed_out",
-        "test_provider", "test_facts", "test_go", "test_java", "test_js")
+LONG = ("test_shell", "test_secrets", "test_hardware", "test_library", "test_arm64", "test_portable", "test_python",
+        "test_dist", "test_debian", "test_handed_out", "test_provider", "test_facts", "test_go", "test_java", "test_js")
 
 
 def pytest_addoption(parser):
     parser.addoption("--reversed", action="store_true", help="run the tests in the opposite order")
+    parser.addoption("--skipped", help="a file for the reasons of what is skipped")
 
 
 def pytest_configure(config):
@@ -77,26 +79,24 @@ def pytest_runtest_teardown(item):
 
 
 def pytest_unconfigure(config):
-    """The last lines: what was skipped and why, and the counts, to which scripts/tests.sh adds the scripts' counts."""
+    """The last lines: the counts, and what was skipped and why, which --skipped=FILE has instead."""
     reporter = config.pluginmanager.get_plugin("terminalreporter")
     if reporter and not config.getoption("collectonly"):
-        kinds = "passed", "failed", "error", "skipped"
-        passed, failed, errors, skipped = (reporter.stats.get(kind, []) for kind in kinds)
-        reasons = [report.longrepr[2].removeprefix("Skipped: ") for report in skipped]
-        # A test that runs other tests has a property for each that was skipped.
-        reasons += [reason for report in passed for name, reason in report.user_properties if name == "skipped"]
-        left = reasons.count(SLOW)
-        for reason in sorted({*reasons} - {SLOW}):
-            print("SKIPPED:", reason)
+        passed, failed, errors, skipped = (
+            reporter.stats.get(kind, []) for kind in ("passed", "failed", "error", "skipped"))
+        passed, failed, reasons = counting.of_reports(passed, failed + errors, skipped)
+        named = [f"{reason}\n" for reason in sorted({*reasons} - {SLOW})]
+        if file := config.getoption("skipped"):
+            pathlib.Path(file).write_text("".join(named))
+        else:
+            print(end="".join(f"SKIPPED: {reason}" for reason in named))
         seconds = collections.Counter()
         for report in reporter.stats.get("", []):
             seconds[report.nodeid.partition("::")[0]] += dict(report.user_properties).get("processor", 0)
         for file, spent in seconds.most_common():
             if spent > 60:
                 print(f"{file}: {spent:.0f} s of processor")
-        if left:
-            print("SLOW:", left, SLOW)
-        print(f"{len(passed)} passed, {len(failed + errors)} failed, {len(reasons) - left} skipped")
+        print(counting.summary(passed, failed, reasons))
 
 
 def pytest_make_parametrize_id(val):

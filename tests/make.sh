@@ -12,21 +12,16 @@ set -u
 mkdir "$workdir/temporary"
 export TMPDIR=$workdir/temporary
 
-# script NAME COUNTS STATUS: a fake tests/NAME.sh. It records its arguments.
-script() {
-    cat >"tests/$1.sh" <<END_OF_SCRIPT
-echo "$1: \${KEYWRAP_ARCHIVES:+over \$(cat \$KEYWRAP_ARCHIVES | wc -l) lines}\${TESTS:+the programs of \$TESTS}\
-\${KEYWRAP_ALL:+, all rows}\${KEYWRAP_FRESH:+in a minimal Debian}" >>"\$tree/notes"
-echo '$2'
-exit $3
-END_OF_SCRIPT
-}
-# scripts: those that are there, which pass.
-scripts() {
-    rm -f tests/*.sh
-    script command '2 passed, 0 failed, 1 skipped' 0
-    script library '40 passed, 0 failed, 0 skipped' 0
-}
+# The tests are those of a fake pytest, which records its arguments.
+touch tests/test_{command,shell}.py tests/make.sh
+install -m 755 /dev/stdin bin/tester <<'END_OF_TESTER'
+#!/bin/bash
+[ "$1" != -c ] || { [ "$2" != "import ${lacks:-}" ]; exit; }
+echo "${*:2}${TESTS:+, the programs of $TESTS}${KEYWRAP_ALL:+, all rows}" >>"$tree/notes"
+echo "${counts:-42 passed, 0 failed, 1 skipped}"
+exit "${test_status:-0}"
+END_OF_TESTER
+export PYTHON=$PWD/bin/tester
 # ends STATUS LAST COMMAND..: the command ends so, and its output with this line (any, if LAST is empty).
 ends() {
     local status wanted=$1 last=$2
@@ -45,65 +40,35 @@ does() {
     verdict "$name: what is done" "$(diff <(sort notes) <([ $# = 1 ] || printf '%s\n' "${@:2}" | sort))"
 }
 
-archives=('keywrap_c: lib --jobs 4 --backend rattle' 'ends keywrap_c' 'keywrap_c: lib --jobs 4' 'ends keywrap_c')
-over='over 8 lines'
-
 ### make test
 
-scripts; fresh
-does 'make test, the first use' 0 '42 passed, 0 failed, 1 skipped' make test -- \
-    "${steps[@]}" "${archives[@]}" 'command: ' "library: $over"
-does 'make test over what is built' 0 '42 passed, 0 failed, 1 skipped' make test -- \
-    "${archives[@]}" 'command: ' "library: $over"
-does 'one script' 0 '2 passed, 0 failed, 1 skipped' scripts/tests.sh command -- 'command: '
-while IFS=: read -r counts ending good bad left; do
-    script command "$counts" "$ending"
-    does "a script that says '$counts' and ends with status $ending" 2 \
-        "$((40 + good)) passed, $bad failed, $left skipped" make test -- "${archives[@]}" 'command: ' "library: $over"
-    does "'$counts' and status $ending by itself" 1 "$good passed, $bad failed, $left skipped" \
-        scripts/tests.sh command -- 'command: '
-done <<'END_OF_SCRIPTS'
-7 passed, 1 failed, 0 skipped:1:7:1:0
-7 passed, 3 failed, 2 skipped:1:7:3:2
-7 passed, 0 failed, 0 skipped:1:7:1:0
-7 passed, 1 failed, 0 skipped:0:7:2:0
-no counts:0:0:1:0
-END_OF_SCRIPTS
-script command $'SLOW: 7 left to KEYWRAP_ALL=1\n1 passed, 0 failed, 0 skipped' 0
-script library $'SLOW: 4 left to KEYWRAP_ALL=1\n2 passed, 0 failed, 0 skipped' 0
-does 'slow rows' 0 '3 passed, 0 failed, 0 skipped, 11 slow left to KEYWRAP_ALL=1 make test' scripts/tests.sh -- \
-    "${archives[@]}" 'command: ' "library: $over"
-KEYWRAP_ALL=1 does 'rows that the gate leaves out' 0 '3 passed, 0 failed, 0 skipped, 11 slow left to make evidence' \
-    scripts/tests.sh -- "${archives[@]}" 'command: , all rows' "library: $over, all rows"
-scripts
-does 'a script that is not there' 1 '2 passed, 1 failed, 1 skipped' scripts/tests.sh command missing -- 'command: '
+tests='pytest -n 4 --skipped out/skipped'
+of_all="$tests tests/test_command.py tests/test_shell.py"
+fresh
+does 'make test, the first use' 0 '42 passed, 0 failed, 1 skipped' make test -- "${steps[@]}" "$of_all"
+does 'one file' 0 '42 passed, 0 failed, 1 skipped' scripts/tests.sh command -- "$tests tests/test_command.py"
+does 'one script' 0 '42 passed, 0 failed, 1 skipped' scripts/tests.sh tests/make.sh -- \
+    "$tests tests/test_shell.py::test_rows[make]"
+lacks=xdist does 'without pytest-xdist' 0 '42 passed, 0 failed, 1 skipped' scripts/tests.sh command -- \
+    'pytest --skipped out/skipped tests/test_command.py'
+counts='41 passed, 1 failed, 0 skipped' test_status=1 does 'a row that fails' 2 '41 passed, 1 failed, 0 skipped' \
+    make test -- "$of_all"
 fresh
 at=aes_block event='exit 1' does 'make test, where a crate is not proved' 2 '' make test -- "${steps[@]:0:3}"
-at=aes_block event='exit 1' does 'the scripts, where a crate is not proved' 70 '' scripts/tests.sh -- \
-    "${steps[2]}"
-./keywrap --version >/dev/null 2>&1
-at=keywrap_c event='exit 1' does 'no archive is built' 0 '42 passed, 0 failed, 1 skipped' make test -- \
-    "${archives[0]}" 'command: ' 'library: '
-at=keywrap_c event='[[ "$*" =~ rattle ]] || exit 1' \
-    does 'the second archive is not built' 0 '42 passed, 0 failed, 1 skipped' make test -- \
-    "${archives[@]:0:3}" 'command: ' 'library: '
-at=keywrap_c event='[[ ! "$*" =~ rattle ]] || exit 1' \
-    does 'the first archive is not built, over an old one' 0 '42 passed, 0 failed, 1 skipped' make test -- \
-    "${archives[0]}" 'command: ' 'library: '
+at=aes_block event='exit 1' does 'the tests, where a crate is not proved' 70 '' scripts/tests.sh -- "${steps[2]}"
 
 ### make gate, and what CI runs
 
 # The fake rt builds the program as rt ci does.
 ci='cd crates/keywrap'
-in_gate=('a tree: ci' 'ends a tree' "${archives[@]}" 'command: the programs of crates, all rows'
-    "library: ${over}the programs of crates, all rows")
-scripts; fresh
+in_gate=('a tree: ci' 'ends a tree' "$of_all, the programs of crates, all rows")
+fresh
 at='a tree' event=$ci does 'make gate' 0 '42 passed, 0 failed, 1 skipped' make gate -- "${in_gate[@]}"
 same 'the gate comes first' 'a tree: ci' "$(head -n 1 notes)"
 does 'the program after the gate' 5 '' ./keywrap --
 verdict 'the program is by the compiler of the first use' "$(tail -n 1 $program | grep -v 'by the other compiler$')"
-script command '1 passed, 1 failed, 0 skipped' 1
-at='a tree' event=$ci does 'a gate whose script fails' 2 '41 passed, 1 failed, 0 skipped' make gate -- "${in_gate[@]}"
+counts='41 passed, 1 failed, 0 skipped' test_status=1 at='a tree' event=$ci does 'a gate whose tests fail' 2 \
+    '41 passed, 1 failed, 0 skipped' make gate -- "${in_gate[@]}"
 fresh
 built="($ci && install -D ../../bin/nproc out/keywrap)"
 at='a tree' event="$built; exit 1" does 'a gate that fails' 2 '' make gate -- 'a tree: ci'
@@ -123,14 +88,13 @@ installs='apt-get: install -y --no-install-recommends --no-upgrade'
 cp packaging/sysroot.sh tmp/kept
 printf '#!/bin/sh\necho "sysroot: $*" >>"$tree/notes"\n' >packaging/sysroot.sh
 unpacks='sysroot: '
-# fresh.sh does nothing among the other scripts.
-scripts
-minimal='fresh: in a minimal Debian'
-script fresh '0 passed, 1 failed, 0 skipped' 1
-does 'CI, where a row fails in a minimal Debian' 1 '0 passed, 1 failed, 0 skipped' .ci/run -- "$minimal"
-script fresh '0 passed, 0 failed, 0 skipped' 0
-sed -i '1i [ -n "${KEYWRAP_FRESH:-}" ] || { echo "0 passed, 0 failed, 0 skipped"; exit; }\
-install -D /dev/null "$KEYWRAP_FRESH/built/keywrap_c/out/proved"' tests/fresh.sh
+minimal='in a minimal Debian'
+cat >tests/fresh.sh <<'END_OF_FRESH'
+echo "in a minimal Debian" >>"$tree/notes"
+install -D /dev/null "$KEYWRAP_FRESH/built/keywrap_c/out/proved"
+exit ${minimal_fails:-0}
+END_OF_FRESH
+minimal_fails=1 does 'CI, where a row fails in a minimal Debian' 1 '' .ci/run -- "$minimal"
 at='a tree' event='exit 1' does 'CI, where a proof fails' 2 '' .ci/run -- "$minimal" 'a tree: ci'
 installed=('apt-get: update' "$installs one two" "$unpacks")
 at='a tree' event=$ci does 'CI' 0 '42 passed, 0 failed, 1 skipped' .ci/run -- "$minimal" "${in_gate[@]}" \
@@ -139,10 +103,11 @@ at='a tree' event=$ci takes=5 does 'CI, where a package is missing' 0 '42 passed
     "$minimal" "${in_gate[@]}" "${installed[@]}" "$installs one" "$installs two"
 at='a tree' event=$ci uid=1 does 'CI without the right to install' 0 '42 passed, 0 failed, 1 skipped' .ci/run -- \
     "$minimal" "${in_gate[@]}"
-script command '2 passed, 1 failed, 1 skipped' 1
+export counts='42 passed, 1 failed, 1 skipped' test_status=1
 at='a tree' event=$ci does 'CI, where a test fails' 2 '42 passed, 1 failed, 1 skipped' .ci/run -- "$minimal" \
     "${in_gate[@]}" "${installed[@]}"
 row 'CI: what was proved in a minimal Debian is there' test -e crates/keywrap_c/out/proved
+unset counts test_status PYTHON
 rm bin/id bin/apt-get
 cp tmp/kept packaging/sysroot.sh
 

@@ -5,8 +5,12 @@
 # usage: tests/shells.sh        (KEYWRAP=PATH tries another program)
 
 set -u
-# shellcheck source=tests/lib/program.sh
-. "${BASH_SOURCE[0]%/*}/lib/program.sh"
+# shellcheck source=tests/lib/workdir.sh
+. "${BASH_SOURCE[0]%/*}/lib/workdir.sh"
+# The built program starts faster than ./keywrap.
+[[ ${KEYWRAP:-/} = /* ]] || KEYWRAP=$OLDPWD/$KEYWRAP
+program=${KEYWRAP:-$root/crates/keywrap/out/keywrap}
+"${KEYWRAP:-$root/keywrap}" --version >/dev/null || { failed=1; finish; exit; }
 
 ### The options in the help
 
@@ -139,7 +143,7 @@ fi
 
 ### make install, make uninstall
 
-# A small archive instead of the real one, which tests/library.sh installs.
+# A small archive instead of the real one, which tests/test_library.py installs.
 made() {
     make -s --no-print-directory -o build -C "$root" "$@" PROGRAM="$program" \
         LIBRARY="$workdir/library" ARCHIVE="$workdir/library.a"

@@ -6,17 +6,11 @@ import re
 import pytest
 
 from builds import ROOT, run
+from machines import nodes
 
 FIRST = ROOT / "tests/library/1.0.0"
 TODAY = ROOT / "c/include"
 pytestmark = pytest.mark.needs("cc")
-
-
-def names(path):
-    """The nodes of a linker map, each with its names."""
-    text = re.sub(r"/\*.*?\*/", "", path.read_text(), flags=re.S)
-    nodes = re.findall(r"(KEYWRAP_[\d.]+) \{(.*?)\}", text, re.S)
-    return {node: re.findall(r"keywrap_\w+", listed) for node, listed in nodes}
 
 
 def stubs(directory, header, map_file):
@@ -51,11 +45,11 @@ def test_numbers_and_lengths_of_1_0_0_stay():
 
 
 def test_each_name_is_in_the_node_of_its_version():
-    first, today = names(FIRST / "keywrap.map"), names(TODAY / "keywrap.map")
+    first, today = nodes(FIRST / "keywrap.map"), nodes(TODAY / "keywrap.map")
     assert list(first) == ["KEYWRAP_1"] and list(today) == ["KEYWRAP_1", "KEYWRAP_1.1", "KEYWRAP_1.2"]
     assert today["KEYWRAP_1"] == first["KEYWRAP_1"]
     headers = (TODAY / "keywrap.h").read_text() + (TODAY / "keywrap_steps.h").read_text()
-    assert {name for node in today.values() for name in node} == set(re.findall(r"\b(keywrap_\w+)\(", headers))
+    assert {name for names in today.values() for name in names} == set(re.findall(r"\b(keywrap_\w+)\(", headers))
 
 
 @pytest.mark.needs("abidiff")

@@ -170,8 +170,8 @@ class TestSources:
         assert f"in ranges of {blocks} blocks" in words_of("docs/ROTATION.md")
 
     def test_lengths_under_qemu(self):
-        """SECURITY.md has the longest key with which tests/arm64.sh looks for branches on secrets."""
-        length, = re.findall(r"tests/secrets\.sh\" (\d+) >", text_of("tests/arm64.sh"))
+        """SECURITY.md has the longest key with which test_secrets.py looks for branches under qemu."""
+        length, = re.findall(r"^LONGEST.* (\d+)$", text_of("tests/test_secrets.py"), re.M)
         assert f"under qemu, with keys of up to {length} bytes" in words_of("SECURITY.md")
 
     def test_vectors(self, keywrap):

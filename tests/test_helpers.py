@@ -46,9 +46,7 @@ def test_fault(keywrap, tmp_path_factory, line, content, comparison, args):
         comparison(Program(path), *args)
 
 
-@pytest.mark.parametrize("line", ["row name false", "verdict name problem", "same name 'a b' b",
-                                  "KEYWRAP_ALL=1 slow row name false", "KEYWRAP_EVIDENCE=1 evidence row name false",
-                                  "KEYWRAP_ALL=1 evidence slow row left true; row name false", "needs name nonesuch"])
+@pytest.mark.parametrize("line", ["row name false", "verdict name problem", "same name 'a b' b", "needs name nonesuch"])
 def test_failed_row_of_a_script(line):
     """The scripts' rows report a command that fails, and so does the script's status."""
     lib = pathlib.Path(__file__).resolve().parent / "lib"

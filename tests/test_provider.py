@@ -11,8 +11,8 @@ import pytest
 
 import published
 from builds import NAMES, ROOT, run
+from machines import SANITIZED, STRICT, WITH_SSE41, WITHOUT_SSE41
 from program import all_of
-from test_python import WITH_SSE41, WITHOUT_SSE41
 from tools import need
 from vectors import KEK32, KEY16, WRAPPED32, raw
 
@@ -21,8 +21,6 @@ pytestmark = pytest.mark.needs("cc", "<openssl/evp.h>")
 OWN = ROOT / "tests/provider"
 REACH = OWN / "reach"
 PAGE = (ROOT / "docs/OPENSSL.md").read_text()
-STRICT = ["-std=c99", "-Wall", "-Wextra", "-pedantic", "-Werror", f"-I{ROOT}/c/include"]
-SANITIZE = ["-fsanitize=address,undefined", "-fno-sanitize-recover=all"]
 RESERVED = "initial value reserved for the padded form"
 NEW_READER = ("openssl req -x509 -newkey ec -pkeyopt ec_paramgen_curve:P-256 -nodes -keyout key.pem -out cert.pem"
               " -subj /CN=reader")
@@ -59,8 +57,8 @@ def module(directory, library, *options):
 @pytest.fixture(scope="session")
 def sanitized(once, library):
     def build(directory):
-        module(directory, library, *SANITIZE)
-        programs(directory, *SANITIZE)
+        module(directory, library, *SANITIZED)
+        programs(directory, *SANITIZED)
 
     return once("provider-sanitized", build)
 

@@ -12,16 +12,14 @@ import pytest
 
 import published
 from builds import NAMES, ROOT, alone, run
+from machines import WITH_SSE41, WITHOUT_SSE41
 from program import SLOW, all_of, evidence, slow
 from tools import need
-from vectors import WRAPPED32
+from vectors import WRAPPED16, WRAPPED32
 
 TESTS = ROOT / "python/tests"
 # The lines of the page: an environment, the package over portable C, its use, and the wheel.
 LINES = re.findall(r"^    ((?:python3 -m venv|env/bin/).*)", (ROOT / "python/README.md").read_text(), re.M)
-# A processor that lacks what the library needs, and one that has only that.
-WITHOUT_SSE41 = ["qemu-x86_64", "-cpu", "qemu64,-ssse3,-sse4.1,-sse4.2,-popcnt"]
-WITH_SSE41 = ["qemu-x86_64", "-cpu", "qemu64,+ssse3,+sse4.1,-sse4.2,-popcnt"]
 
 
 def test_make_wheel_without_build(python):
@@ -115,7 +113,7 @@ def test_processor_without_sse41(installed):
     ended = subprocess.run([*WITHOUT_SSE41, installed, "-c", call], capture_output=True, text=True)
     assert ended.returncode != 0
     assert ended.stderr.splitlines()[-1] == "ImportError: this processor lacks SSSE3 or SSE4.1, which keywrap needs"
-    assert run(*WITH_SSE41, installed, "-c", call).startswith("1fa68b0a8112b447")
+    assert run(*WITH_SSE41, installed, "-c", call) == f"{WRAPPED16}\n"
 
 
 @pytest.fixture

@@ -48,7 +48,7 @@ def follow(keywrap, files, script):
 
 
 # Two kinds are tested elsewhere: recipes with the Python package in python/tests/rotation, the recipe that
-# compiles a program with the C library in tests/hardware.sh.
+# compiles a program with the C library in tests/test_hardware.py.
 @pytest.mark.parametrize("name", [name for name, section in SECTIONS.items()
                                   if not re.search(r"-m keywrap\.|pkg-config", typed_and_shown(section)[0])])
 def test_recipe(keywrap, files, name):

@@ -1,16 +1,12 @@
 """The rows of rows.txt say what keywrap.h and OpenSSL's AES say; so do published cases, by which the rules of rows.py
-are tested. The rows run over each face of the library: here and in library.sh over C, in hardware.sh, test_portable.py,
-test_python.py, test_js.py, test_go.py, test_rust.py, test_java.py and test_provider.py over the others."""
-
-import os
+are tested. The rows run over each face of the library, in test_library.py, test_hardware.py, test_portable.py,
+test_python.py, test_js.py, test_go.py, test_rust.py, test_java.py and test_provider.py."""
 
 import pytest
 
 import published
 import rows
-from builds import ROOT, run
 from program import slow
-from tools import need
 
 LONG = str(rows.MAX_KEY)[:-1]
 
@@ -38,16 +34,3 @@ class TestRules:
             assert rows.wrapped(rows.PADDED, kek, key) == pyca.aes_key_wrap_with_padding(kek, key)
             if rows.is_key(rows.PLAIN, length):
                 assert rows.wrapped(rows.PLAIN, kek, key) == pyca.aes_key_wrap(kek, key)
-
-
-@pytest.mark.parametrize("compiler", ["gcc", "clang"])
-@pytest.mark.parametrize("options", [["-O1"], ["-O1", "-fsanitize=address,undefined", "-fno-sanitize-recover=all"]],
-                         ids=["", "sanitized"])
-def test_library(library, compiler, options):
-    """libkeywrap.a under the calls of each row, and of those that are not kept."""
-    need(compiler, *[f"sanitizers of {compiler}"] * (len(options) > 1))
-    run(compiler, "-std=c99", "-g", "-Wall", "-Wextra", "-pedantic", "-Werror", *options, f"-I{ROOT}/c/include",
-        ROOT / "tests/rows.c", library / "libkeywrap.a", "-o", "program")
-    for name in ("rows", "foreign", "more"):
-        text = published.table(name)
-        assert published.all_right(run(f"{os.getcwd()}/program", input=text), text) == {}

@@ -1,4 +1,4 @@
-"""Plants the bugs of bugs/*.edit in the C of c/hardware/, one at a time in a copy. The programs of tests/hardware.sh
+"""Plants the bugs of bugs/*.edit in the C of c/hardware/, one at a time in a copy. The programs of test_hardware.py
 must catch each bug, and must pass without one. Prints which program caught which bug.
 
 usage: bugs.py ARCHIVE        (ARCHIVE: the C library, for x86-64)"""

@@ -1,6 +1,6 @@
 /* secrets.c: what valgrind's memcheck reports of the steps if registers, block and first word are
  * marked as undefined. The block permutation is the caller's: here an exchange of bytes without a
- * branch. A branch or an address that depends on an undefined byte is a report. tests/hardware.sh
+ * branch. A branch or an address that depends on an undefined byte is a report. tests/test_hardware.py
  * runs it. */
 
 #include <keywrap_steps.h>

@@ -2,7 +2,7 @@
 # Counts the rows of the scripts of tests/. Each row prints a line if it fails or
 # cannot run here. `finish` is the last call of a script.
 
-passed=0 failed=0 skipped=0 omitted=0
+passed=0 failed=0 skipped=0
 
 # verdict NAME PROBLEM: counts a row, and prints the start of the problem, if there is one.
 verdict() {
@@ -15,7 +15,6 @@ verdict() {
 
 # row NAME COMMAND..: the command must succeed. If it fails, the start of its output is shown.
 row() {
-    [ -z "${is_omitted:-}" ] || { omitted=$((omitted + 1)) && return; }
     if "${@:2}" >"$workdir/row.log" 2>&1; then passed=$((passed + 1)) && return; fi
     failed=$((failed + 1))
     echo "FAILED: $1"
@@ -23,46 +22,15 @@ row() {
     return 1
 }
 
-# slow COMMAND..: runs the rows of the command if KEYWRAP_ALL=1 is set, as `make gate` does. Otherwise only counts them.
-slow() {
-    local is_omitted=${is_omitted:-}
-    [ "${KEYWRAP_ALL:-}" = 1 ] || is_omitted=yes
-    "$@"
-}
-
-# evidence COMMAND..: the same for KEYWRAP_EVIDENCE=1, which `make evidence` sets.
-evidence() {
-    local is_omitted=${is_omitted:-}
-    [ "${KEYWRAP_EVIDENCE:-}" = 1 ] || is_omitted=yes
-    "$@"
-}
-
-# skip PART REASON: the part cannot run here.
-skip() {
-    skipped=$((skipped + 1))
-    echo "SKIPPED: $1: $2"
-}
-
 # needs PART TOOL..: whether these tools of tests/packages.txt are here. If not, the part is skipped.
 needs() {
     local missing
     missing=$(lacks "${@:2}") || { verdict "$1" "$missing"; return 1; }
-    [ -z "$missing" ] || { skip "$1" "$missing" && false; }
-}
-
-# needs_python PART MODULE..: the same for modules of Python. Sets $python to a Python that has them, which need not be
-# the first on the PATH.
-needs_python() {
-    local modules=("${@:2}")
-    for python in "${PYTHON:-python3}" /usr/bin/python3; do
-        [ -n "$(lacks "${modules[@]/#/import }")" ] || return 0
-    done
-    needs "$1" "${modules[@]/#/import }"
+    [ -z "$missing" ] || { skipped=$((skipped + 1)) && echo "SKIPPED: $missing" && false; }
 }
 
 # finish: prints the counts, and is the status of the script.
 finish() {
-    [ $omitted = 0 ] || echo "SLOW: $omitted left to KEYWRAP_ALL=1"
     echo "$passed passed, $failed failed, $skipped skipped"
     [ "$failed" = 0 ]
 }

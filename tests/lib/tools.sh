@@ -45,10 +45,10 @@ overlays() {
         mount -t overlay overlay -o lowerdir=/,upperdir=upper,workdir=work merged'
 }
 
-# is_here TOOL: a header is for $cc, and a module for $python, or else for the first Python or Debian's.
+# is_here TOOL: a module is for $python, or else for the first Python or Debian's.
 is_here() (
     case $1 in
-    '<'*) set -- "${1#<}" && compiles "${cc:-cc}" "${1%>}" ;;
+    '<'*) set -- "${1#<}" && compiles cc "${1%>}" ;;
     'import '*) "${python:-${PYTHON:-python3}}" -c "$1" || { [ -z "${python:-}" ] && /usr/bin/python3 -c "$1"; } ;;
     *) eval "${found_by[$1]:-command -v "'$1'"}" ;;
     esac

@@ -5,7 +5,7 @@
 #
 # usage: tests/library/build.sh DIRECTORY [arm64] [keywrap.wasm]
 
-# of_arm DIRECTORY: tests/arm64.sh says why, if this fails.
+# of_arm DIRECTORY: tests that need it say why, if this fails.
 of_arm() {
     command -v aarch64-linux-gnu-gcc || return 0
     make -s -C ../.. library TARGET=aarch64-unknown-linux-gnu LIBRARY="$1" || rm -rf "$1"

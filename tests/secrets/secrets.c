@@ -1,6 +1,6 @@
 /* secrets.c: runs each call of the C library under valgrind's memcheck, with the KEK, the key and
  * the wrapped key marked as undefined. A branch or an address that depends on an undefined byte is
- * a report. tests/secrets.sh compiles it, runs it and reads what it prints: a line for each call
+ * a report. tests/test_secrets.py compiles it, runs it and reads what it prints: a line for each call
  * with the reports that no suppression took, over all KEK sizes and lengths of key. */
 
 #include <keywrap.h>

@@ -1,4 +1,4 @@
-/* calls.cc: links only if the library has every call, whose names tests/library.sh writes to names.h.
+/* calls.cc: links only if the library has every call, whose names tests/test_library.py writes to names.h.
  * Prints the wrapped key of RFC 3394, 4.1. */
 
 #include <cstdio>

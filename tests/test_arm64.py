@@ -1,0 +1,146 @@
+"""The C library and the Python package for aarch64, by Debian's cross compiler, under qemu: the library's names and
+instructions, its rows, what is packed, the package's tests. test_secrets.py and test_hardware.py run over it, too."""
+
+import os
+import re
+import subprocess
+import sys
+import zipfile
+
+import pytest
+
+import published
+from builds import NAMES, ROOT, run, unpacked
+from machines import (ARCHIVED, ARM, MACHINES, NAMES as CALLS, STRICT, SYSROOT, check_glibc, check_hardened,
+                      check_needs, check_versions, need_sysroot, shown)
+from program import evidence, slow
+from vectors import WRAPPED24
+
+pytestmark = pytest.mark.needs("aarch64-linux-gnu-gcc", "qemu-aarch64")
+CC, TOOLS, RUNS, _ = MACHINES["aarch64"]
+PYTHON = ["qemu-aarch64", "-L", SYSROOT, f"{SYSROOT}/usr/bin/python3", "-B"]
+PACKED = f"keywrap-library-{NAMES['VERSION']}-aarch64-linux"
+WHEEL = f"keywrap-{NAMES['PYTHON']}-cp39-abi3-manylinux_2_17_aarch64.whl"
+
+
+@pytest.fixture
+def library(built):
+    return built("arm64")
+
+
+@pytest.fixture(scope="session")
+def making(once, built):
+    """making("dist") is the directory with what this goal of make packs."""
+    def made(goal):
+        words = [*ARM, f"ARCHIVE={built('arm64')}/libkeywrap.a", f"PYTHON={sys.executable}"]
+        return once(f"arm64-{goal}", lambda directory: run(
+            "make", "-s", "-C", ROOT, goal, *words, f"LIBRARY={directory}.library", f"DIST={directory}"))
+
+    return made
+
+
+@pytest.fixture
+def packed(making, tmp_path):
+    return unpacked(making("dist-library") / f"{PACKED}.tar.gz", tmp_path / "unpacked")
+
+
+@pytest.fixture(scope="session")
+def dist(making, python):
+    """What `make dist` packs."""
+    need_sysroot()
+    return making("dist")
+
+
+@pytest.fixture(scope="session")
+def site(once, dist):
+    """The directory of the unpacked wheel."""
+    def build(directory):
+        with zipfile.ZipFile(dist / WHEEL) as files:
+            files.extractall(directory)
+
+    return once("arm64-site", build)
+
+
+def are_arm(*files):
+    """All objects in these files are for aarch64."""
+    listed = run("readelf", "-h", *files, env={**os.environ, "LC_ALL": "C"})
+    return set(re.findall(r"^ *Machine: *(.*)", listed, re.M)) == {"AArch64"}
+
+
+class TestLibrary:
+    def test_names_and_needs(self, library):
+        archive, shared = library / "libkeywrap.a", library / "libkeywrap.so.1"
+        assert are_arm(archive, shared)
+        assert shown(archive, "-g", tools=TOOLS) == ARCHIVED
+        assert shown(shared, "-D", "--without-symbol-versions", tools=TOOLS) == CALLS
+        check_needs(archive, TOOLS)
+        check_versions(shared, TOOLS)
+        check_hardened(shared, "libkeywrap")
+
+    def test_instructions(self, library):
+        """It has the processor's byte shuffles, and no instruction that a processor may lack."""
+        code = run(f"{TOOLS}objdump", "-d", "--no-show-raw-insn", library / "libkeywrap.a")
+        used = [line.split()[1] for line in code.splitlines() if len(line.split()) > 1]
+        assert used.count("tbl") > 100
+        assert [name for name in used if re.fullmatch("aes.*|sha.*|pmull2?|tbx|sdot|udot", name)] == []
+
+    @evidence
+    def test_rows(self, library):
+        """Over the shared object, on an early processor."""
+        run(CC, *STRICT, "-O2", ROOT / "tests/rows.c", library / "libkeywrap.so.1", "-o", "program")
+        text = published.table("rows")
+        early = [*RUNS, "-cpu", "cortex-a53", "-E", f"LD_LIBRARY_PATH={library}"]
+        assert published.all_right(run(*early, "./program", input=text), text) == {}
+
+
+class TestPacked:
+    def test_files(self, packed):
+        names = {str(path.relative_to(packed)) for path in packed.rglob("*") if not path.is_dir() or path.is_symlink()}
+        shared = "lib/libkeywrap.so"
+        assert {name for name in names if not name.startswith("share/")} == {
+            "README", "include/keywrap.h", "include/keywrap_steps.h", "lib/libkeywrap.a", shared, f"{shared}.1",
+            f"{shared}.{NAMES['DEBIAN']}", "lib/pkgconfig/keywrap.pc", "lib/cmake/keywrap/keywrap-config.cmake",
+            "lib/cmake/keywrap/keywrap-config-version.cmake"}
+        assert (packed / "share/doc/keywrap/C_LIBRARY.md").stat().st_size
+        assert are_arm(packed / "lib/libkeywrap.a", packed / shared)
+        assert "Linux on aarch64" in (packed / "README").read_text()
+
+    @pytest.mark.needs("pkg-config")
+    def test_c_example(self, packed):
+        flags = run("pkg-config", "--cflags", "--libs", "keywrap",
+                    env={**os.environ, "PKG_CONFIG_PATH": f"{packed}/lib/pkgconfig"}).split()
+        run(CC, "-std=c99", ROOT / "c/examples/c/wrap.c", *flags, "-o", "example")
+        assert WRAPPED24 in run(*RUNS, "-E", f"LD_LIBRARY_PATH={packed}/lib", "./example")
+
+
+class TestDist:
+    def test_files(self, dist):
+        version = NAMES["VERSION"]
+        assert {path.name for path in dist.iterdir()} == {
+            "SHA256SUMS", WHEEL, f"keywrap-{version}.cdx.json", f"{PACKED}.tar.gz",
+            f"keywrap-{version}-aarch64-linux-static.tar.gz"}
+        run("sha256sum", "-c", "--strict", "SHA256SUMS", cwd=dist)
+        run(sys.executable, ROOT / "scripts/trust.py", "--check-hashes", dist / "SHA256SUMS")
+
+    def test_extension(self, site):
+        extension = site / "keywrap/_ffi.abi3.so"
+        assert are_arm(extension) and shown(extension, "-D", tools=TOOLS) == ["PyInit__ffi"]
+        check_glibc(extension, TOOLS)
+
+    def test_python_takes_the_wheel(self, dist):
+        """It accepts the tags in the wheel's name."""
+        run(*PYTHON, "-c", "import sys; from packaging import tags, utils\n"
+            "assert utils.parse_wheel_filename(sys.argv[1])[3] & set(tags.sys_tags())", WHEEL)
+
+    @slow
+    def test_of_the_package(self, site):
+        """No test of the package fails or is skipped. Tests of threads are left out, and tests that start other
+        programs, which qemu cannot: one_exception, keywrap.rotate, keywrap.vectors and install(). The memory of an
+        emulator is not that of the calls."""
+        left_out = "not thread and not one_exception and not pyca_installed and not take_no_memory"
+        ended = subprocess.run(
+            [*PYTHON, "-m", "pytest", "-q", "-p", "no:cacheprovider", "-k", left_out,
+             *sorted((ROOT / "python/tests").glob("test_[!rv]*.py"))],
+            capture_output=True, text=True, env={**os.environ, "PYTHONPATH": str(site), "KEYWRAP_CALLS": "10000"})
+        counts = re.findall(r"^[0-9]+ passed.*", ended.stdout, re.M)
+        assert counts and not re.search("skipped|failed|error", counts[-1]), ended.stdout

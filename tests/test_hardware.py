@@ -1,0 +1,294 @@
+"""libkeywrap_hw, with and without the processor's AES, on x86-64 and aarch64: its names, the rows of rows.txt, NIST's
+cases, the provider's comparisons, threads, what depends on secrets, planted bugs. And the steps of the C library around
+OpenSSL's AES and a token's."""
+
+import os
+import re
+import subprocess
+import sys
+
+import pytest
+
+import published
+from builds import NAMES, ROOT, run
+from machines import ARM, MACHINES, NAMES as CALLS, SANITIZED, STRICT, SYSROOT
+from machines import check_hardened, check_needs, check_versions, shown
+from program import ALL, SLOW, evidence, slow
+from test_secrets import DECISION, left_on_the_stack, reports
+from tools import missing, need
+from vectors import WRAPPED16
+
+pytestmark = pytest.mark.needs("cc")
+OWN, HARDWARE = ROOT / "tests/hardware", ROOT / "c/hardware"
+INCLUDED = [f"-I{ROOT}/c/include", f"-I{ROOT}/c/reference"]
+OPTIONS = [*STRICT, "-O2", *INCLUDED]
+AES = [HARDWARE / f"{name}.c" for name in ("aes", "x86_64", "aarch64")]
+COMPARING = [path for path in sorted((ROOT / "tests/provider").glob("*.c")) if path.name != "direct.c"]
+OF_DEBIAN = [word for part in ("", "/aarch64-linux-gnu") for word in ("-idirafter", f"{SYSROOT}/usr/include{part}")]
+HAS_OPENSSL = (SYSROOT / "usr/include/openssl").is_dir()
+
+
+@pytest.fixture(scope="session")
+def hardware(once, built):
+    """The directory of `make library HARDWARE=1`."""
+    def build(directory):
+        run("make", "-s", "-C", ROOT, "library", "HARDWARE=1", f"LIBRARY={directory}", f"ARCHIVE={built('llvm.a')}")
+
+    return once("hardware", build)
+
+
+@pytest.fixture(scope="session")
+def arm_hardware(once, built):
+    def build(directory):
+        run("make", "-s", "-C", ROOT, "library", "HARDWARE=1", *ARM, f"LIBRARY={directory}",
+            f"ARCHIVE={built('arm64')}/libkeywrap.a")
+
+    return once("hardware-arm", build)
+
+
+@pytest.fixture
+def proved(library):
+    """The archive of the proved calls, by the names that c/hardware gives them."""
+    run("objcopy", f"--redefine-syms={HARDWARE}/names", library / "libkeywrap.a", "proved.a")
+    return "proved.a"
+
+
+def right(command, *names):
+    """The program finds no fault in these tables of rows."""
+    text = "".join(map(published.table, names))
+    assert published.all_right(run(*command, input=text), text) == {}
+
+
+def kept():
+    return ["rows", "foreign", *(() if missing("import cryptography_vectors") else ("nist",))]
+
+
+class TestFiles:
+    def test_names_and_needs(self, hardware):
+        archive, shared = hardware / "libkeywrap_hw.a", hardware / "libkeywrap_hw.so.1"
+        assert shown(archive, "-g") == shown(shared, "-D", "--without-symbol-versions") == CALLS
+        check_versions(shared)
+        check_needs(archive)
+        check_hardened(shared, "libkeywrap_hw")
+
+    def test_installed(self, thing):
+        found = {(path.name, oct(path.lstat().st_mode)[-3:], os.readlink(path) if path.is_symlink() else "")
+                 for path in (thing("hardware") / "lib").glob("*_hw*")}
+        shared = "libkeywrap_hw.so"
+        assert found == {("libkeywrap_hw.a", "644", ""), (f"{shared}.{NAMES['DEBIAN']}", "644", ""),
+                         (f"{shared}.1", "777", f"{shared}.{NAMES['DEBIAN']}"), (shared, "777", f"{shared}.1")}
+
+    def test_with_lto(self, built):
+        """Built by these flags, in a directory with a blank in its name."""
+        run("make", "-s", "-C", ROOT, "library", "HARDWARE=1", "CC=cc", "CFLAGS=-O2 -flto",
+            f"LIBRARY={os.getcwd()}/with lto", f"ARCHIVE={built('llvm.a')}")
+        run("cc", "-flto", *OPTIONS, ROOT / "tests/rows.c", "with lto/libkeywrap_hw.a", "-o", "program")
+        right(["./program"], "rows")
+
+    @pytest.mark.parametrize("compiler, standard", [("cc", "c89"), ("cc", "c99"), ("cc", "c11"), ("c++", "c++11")])
+    def test_header_of_steps(self, compiler, standard):
+        need(compiler)
+        run(compiler, f"-std={standard}", *STRICT[1:], "-fsyntax-only", "-x", "c++" if compiler == "c++" else "c", "-",
+            input="#include <keywrap_steps.h>\n")
+
+
+class TestSteps:
+    @pytest.mark.needs("<openssl/evp.h>")
+    @pytest.mark.parametrize("name", ["keywrap", "keywrap_hw"])
+    def test_around_openssl(self, hardware, library, name):
+        """With the numbers of steps that the header has."""
+        sentence = r"There are (\d+) steps for each 8 bytes of the registers, or (\d+) if they are 8 bytes long"
+        steps, = re.findall(sentence, (ROOT / "c/include/keywrap_steps.h").read_text())
+        numbers = [f"-DSTEPS_OF_WORD={steps[0]}", f"-DSTEPS_OF_ONE_WORD={steps[1]}"]
+        archive = (library if name == "keywrap" else hardware) / f"lib{name}.a"
+        run("cc", *OPTIONS, *numbers, OWN / "steps.c", archive, "-lcrypto", "-o", "steps")
+        assert " passed, 0 failed" in run("./steps")
+
+    @pytest.mark.needs("<openssl/evp.h>")
+    def test_example_of_openssl(self, library):
+        run("cc", *OPTIONS, ROOT / "c/examples/c/evp.c", library / "libkeywrap.a", "-lcrypto", "-o", "evp")
+        assert WRAPPED16 in run("./evp")
+
+    @pytest.mark.needs("openssl", "softhsm2-util", "pkcs11.h of p11-kit", "pkg-config")
+    def test_recipe_of_a_token(self, prefix):
+        """Over the library as it is installed."""
+        flags = run("pkg-config", "--cflags", "p11-kit-1").split()
+        run("cc", *OPTIONS, *flags, "-c", ROOT / "c/examples/c/token.c", "-o", "token.o")
+        section, = re.findall(r"^## A KEK that never leaves a token\n(.*?)^## ", (ROOT / "docs/RECIPES.md").read_text(),
+                              re.M | re.S)
+        recipe = re.findall("^    (.*\n)", section, re.M)
+        os.mkdir("token")
+        ended = subprocess.run(
+            ["bash", "-c", "".join(line[2:] for line in recipe if line.startswith("$ "))], cwd="token", text=True,
+            stdout=subprocess.PIPE, stderr=subprocess.STDOUT,
+            env={**os.environ, "EXAMPLES": f"{prefix}/share/doc/keywrap/examples", "LD_LIBRARY_PATH": f"{prefix}/lib",
+                 "PKG_CONFIG_PATH": f"{prefix}/lib/pkgconfig"})
+        assert ended.stdout == "".join(line for line in recipe if not line.startswith("$ "))
+
+
+class TestSecrets:
+    @pytest.mark.needs("valgrind", "<valgrind/memcheck.h>")
+    def test_steps(self, library):
+        """No report, but at the decision that the end of an unwrap makes, which memcheck sees."""
+        run("cc", *OPTIONS, "-g", OWN / "secrets.c", library / "libkeywrap.a", "-o", "secrets")
+        memcheck = ["valgrind", "-q", "--error-limit=no", "--log-file=valgrind.log"]
+        names = "wraps", "steps of an unwrap", "ends of an unwrap"
+        assert run(*memcheck, DECISION, "./secrets") == "".join(f"{name}: 0\n" for name in names)
+        assert re.search(r"^ends of an unwrap: [1-9]", run(*memcheck, "./secrets"), re.M)
+
+    @slow
+    @pytest.mark.needs("valgrind", "<valgrind/memcheck.h>")
+    def test_calls(self, hardware):
+        run("cc", *OPTIONS, "-O1", "-g", ROOT / "tests/secrets/secrets.c", ROOT / "c/reference/one_table.c",
+            hardware / "libkeywrap_hw.a", "-o", "secrets")
+        found = reports(["valgrind"], 264, DECISION)
+        assert ("keywrap_kind", 0) in found
+        assert {call.partition(",")[0] for call, count in found if count} == {"tables"}, found
+
+    def test_stack(self, hardware):
+        """No call leaves more than a block of the wrapped key, except the first, which makes the known-answer test."""
+        for words in left_on_the_stack(MACHINES["here"], hardware / "libkeywrap_hw.a")[1:]:
+            assert max(map(int, words[3:6])) <= 16, words
+
+
+class TestHere:
+    """As this processor runs it."""
+
+    def test_rows(self, hardware):
+        run("cc", *OPTIONS, ROOT / "tests/rows.c", hardware / "libkeywrap_hw.a", "-o", "program")
+        right(["./program"], *kept(), "more")
+
+    def test_own(self, hardware):
+        run("cc", *OPTIONS, ROOT / "tests/library/own.c", hardware / "libkeywrap_hw.a", "-o", "program")
+        assert run("./program").endswith(" passed, 0 failed\n")
+
+    @slow
+    @pytest.mark.needs("sanitizers of cc")
+    @pytest.mark.parametrize("names", [kept(), pytest.param(["more"], marks=evidence)], ids=["kept", "more"])
+    def test_sanitized(self, proved, names):
+        sources = [ROOT / "tests/rows.c", *sorted(HARDWARE.glob("*.c"))]
+        run("cc", *OPTIONS, "-g", *SANITIZED, *sources, proved, "-o", "program")
+        right(["./program"], *names)
+
+    @pytest.mark.needs("the processor's AES")
+    def test_aes_of_each_call(self, proved):
+        sources = [HARDWARE / f"{name}.c" for name in ("keywrap", "many", "aes")]
+        run("cc", *OPTIONS, OWN / "uses.c", OWN / "wrong_aes.c", *sources, proved, "-o", "uses")
+        assert run("./uses") == "".join(f"software for a KEK of {length} bytes:\n" for length in (16, 24, 32))
+
+    @pytest.mark.parametrize("name", ["keywrap", "keywrap_hw", "sanitized"])
+    def test_threads(self, hardware, library, name, request):
+        threads = ["cc", *OPTIONS, "-g", "-pthread", OWN / "threads.c", "-o", "threads"]
+        if name == "sanitized":
+            need("thread sanitizer of cc")
+            run(*threads, "-fsanitize=thread", *sorted(HARDWARE.glob("*.c")), request.getfixturevalue("proved"))
+        else:
+            run(*threads, (library if name == "keywrap" else hardware) / f"lib{name}.a")
+        assert " passed, 0 failed" in run("./threads")
+
+    @slow
+    def test_provider(self, hardware):
+        """The other tests of the provider."""
+        given = {**os.environ, "KEYWRAP_ARCHIVES": str(hardware / "libkeywrap_hw.a")}
+        run(sys.executable, "-m", "pytest", "-p", "no:xdist", "-p", "no:cacheprovider", ROOT / "tests/test_provider.py",
+            env=given)
+
+    @evidence
+    @pytest.mark.needs("qemu-x86_64")
+    def test_planted_bugs(self, library):
+        run(sys.executable, OWN / "bugs.py", library / "libkeywrap.a")
+
+
+@pytest.fixture(scope="session")
+def programs(once, request):
+    """programs("here") is the directory of the programs of a build, over its libkeywrap_hw.so.1."""
+    def compile_all(directory, library, compiler, openssl, *more):
+        sources = {"rows": [ROOT / "tests/rows.c"], "own": [ROOT / "tests/library/own.c"]}
+        for name, files in sources.items():
+            run(*compiler, *OPTIONS, *files, library / "libkeywrap_hw.so.1", *more, "-o", directory / name)
+        run(*compiler, *OPTIONS, OWN / "chosen.c", *AES, *more, "-o", directory / "chosen")
+        if openssl:
+            run(*compiler, *OPTIONS, *openssl[1:], *COMPARING, openssl[0], *more, "-o", directory / "compared")
+
+    def provider(directory, library, archive, *words):
+        run("make", "-s", "-C", ROOT, "provider", "HARDWARE=1", f"LIBRARY={library}", f"ARCHIVE={archive}",
+            f"PROVIDER={directory}", *words)
+
+    def here(directory):
+        library = request.getfixturevalue("hardware")
+        has_openssl = not missing("<openssl/evp.h>")
+        compile_all(directory, library, ["cc"], ["-lcrypto"] * has_openssl)
+        if has_openssl:
+            provider(directory, library, request.getfixturevalue("built")("llvm.a"))
+            assert re.search(r"\baes_set_encrypt\b", run("nm", directory / "keywrap.so"))
+
+    def of_arm(*more):
+        def build(directory):
+            library = request.getfixturevalue("arm_hardware")
+            openssl = [SYSROOT / "usr/lib/aarch64-linux-gnu/libcrypto.so", *OF_DEBIAN] * HAS_OPENSSL
+            compile_all(directory, library, ["aarch64-linux-gnu-gcc"], openssl, *more)
+            if HAS_OPENSSL:
+                archive = request.getfixturevalue("built")("arm64") / "libkeywrap.a"
+                provider(directory, library, archive, *ARM, f"CPPFLAGS={' '.join(OF_DEBIAN)}")
+
+        return build
+
+    # Every processor of qemu has the instructions, so these programs replace getauxval.
+    builds = {"here": here, "arm": of_arm(), "arm-without": of_arm("-rdynamic", OWN / "no_aes.c")}
+    return lambda name: once(f"hardware-programs-{name}", builds[name])
+
+
+# An early processor of aarch64.
+ON_ARM = ["qemu-aarch64", "-L", SYSROOT if HAS_OPENSSL else "/usr/aarch64-linux-gnu", "-cpu", "cortex-a53"]
+# The programs for each processor, how they run here, and the AES that they choose.
+PROCESSORS = {
+    "x86-64 with AES": ("here", ["qemu-x86_64", "-cpu", "max"], "instructions"),
+    "x86-64 without AES": ("here", ["qemu-x86_64", "-cpu", "Nehalem"], "software"),
+    "aarch64 with AES": ("arm", ON_ARM, "instructions"),
+    "aarch64 without AES": ("arm-without", ON_ARM, "software"),
+}
+
+
+@pytest.fixture
+def on(programs, hardware, request, monkeypatch):
+    """on("x86-64 with AES", "rows", ..) runs this program there. Skips if it cannot be built."""
+    def found(processor, name, *words):
+        built, runs, _ = PROCESSORS[processor]
+        need(runs[0], *["aarch64-linux-gnu-gcc"] * (built != "here"))
+        library = hardware if built == "here" else request.getfixturevalue("arm_hardware")
+        monkeypatch.setenv("KEYWRAP_VERSION", NAMES["VERSION"])
+        directory = programs(built)
+        if name == "compared":
+            if built == "here":
+                need("<openssl/evp.h>")
+            elif not HAS_OPENSSL:
+                pytest.skip(f"no OpenSSL in {SYSROOT} (packaging/sysroot.sh '{SYSROOT}')")
+            words = [directory, *words]
+        return [*runs, "-E", f"LD_LIBRARY_PATH={library}", directory / name, *words]
+
+    return found
+
+
+@pytest.mark.parametrize("processor", [
+    pytest.param(name, marks=evidence) if name == "aarch64 without AES" else name for name in PROCESSORS])
+class TestEachProcessor:
+    def test_aes(self, on, processor):
+        assert PROCESSORS[processor][2] in run(*on(processor, "chosen"))
+
+    def test_rows(self, on, processor):
+        if PROCESSORS[processor][2] == "software" and not ALL:
+            pytest.skip(SLOW)
+        right(on(processor, "rows"), *kept())
+
+    @evidence
+    def test_more(self, on, processor):
+        right(on(processor, "rows"), "more")
+
+    @slow
+    def test_own(self, on, processor):
+        assert run(*on(processor, "own")).endswith(" passed, 0 failed\n")
+
+    @pytest.mark.parametrize("part", ["parameters", *[pytest.param(part, marks=slow) for part in (
+        "lengths", "sequences 1000", "refusals few")]])
+    def test_provider(self, on, processor, part):
+        run(*on(processor, "compared", *part.split()))

@@ -1,0 +1,372 @@
+"""The C library as users have it: its header by each compiler; its files by both compilers of the toolchain, rows.txt
+and own.c over them; installed, from C, C++ and CMake; what it needs of the processor; its refusals beside the
+command's."""
+
+import os
+import re
+import shutil
+import subprocess
+import sys
+
+import pytest
+
+import published
+from builds import NAMES, ROOT, run
+from machines import (ARCHIVED, EXPORTS, NAMES as CALLS, SANITIZED, STRICT, WITH_SSE41, WITHOUT_SSE41, check_hardened,
+                      check_needs, check_versions, shown)
+from program import evidence, slow
+from tools import need
+from vectors import WRAPPED16, WRAPPED24
+
+pytestmark = pytest.mark.needs("cc")
+COMPILERS = ["gcc", "clang"]
+INSTALLED = ROOT / "tests/library/installed"
+EXAMPLE = ROOT / "c/examples/c/wrap.c"
+VERSION, DEBIAN = NAMES["VERSION"], NAMES["DEBIAN"]
+NUMBER = VERSION.removesuffix("-dev")
+
+### The header
+
+
+@pytest.mark.parametrize("compiler, standard", [
+    (compiler, standard) for compilers, standards in [
+        (COMPILERS, ["c89", "c99", "c11", "c17", "c2x"]), (["g++", "clang++"], ["c++11", "c++17", "c++20"])]
+    for compiler in compilers for standard in standards])
+def test_header(compiler, standard):
+    need(compiler)
+    language = "c++" if compiler.endswith("++") else "c"
+    run(compiler, f"-std={standard}", *STRICT[1:], "-fsyntax-only", "-x", language, "-", input="#include <keywrap.h>\n")
+
+
+def preprocessed(*options):
+    return run("cc", "-std=c99", STRICT[-1], *options, "-E", "-", input="#include <keywrap.h>\n")
+
+
+def test_macros():
+    """KEYWRAP_H and those of the page. A release has no KEYWRAP_PRERELEASE. A compiler unlike GCC sees restrict."""
+    defined = set(re.findall(r"^#define KEYWRAP_([A-Z_]*)", preprocessed("-dM"), re.M))
+    assert defined == {
+        "ALREADY_NEW", "CPU_SUPPORTED", "H", "KEEP_FORM", "MAX_KEY", "MAX_TEXT", "NEW_PADDED", "OLD_PADDED",
+        "PADDED_TEXT_LEN", "PASS_NEW", "ROOM", "TEXT_LEN", "VERSION", "VERSION_MAJOR", "VERSION_MINOR", "VERSION_PATCH",
+        *["PRERELEASE"] * VERSION.endswith("-dev")}
+    assert "*restrict wrapped" in preprocessed("-U__GNUC__")
+
+
+# Each call that returns a status: its buffers with their lengths, all of different sizes, what it writes last, and what
+# follows.
+TABLE = """
+keywrap_wrap kek:32,key:16,wrapped:24
+keywrap_unwrap kek:32,wrapped:24,key:16
+keywrap_wrap_with kek:32,iv:8,key:16,wrapped:24
+keywrap_unwrap_with kek:32,iv:8,wrapped:24,key:16
+keywrap_wrap_padded kek:32,key:16,wrapped:24
+keywrap_unwrap_padded kek:32,wrapped:24,key:16 &len
+keywrap_wrap_in_place kek:32,wrapped:24
+keywrap_unwrap_in_place kek:32,wrapped:24
+keywrap_wrap_padded_in_place kek:32,wrapped:24 16
+keywrap_unwrap_padded_in_place kek:32,wrapped:24 &len
+keywrap_kind kek:32,wrapped:24,key:16 &form,&len
+keywrap_unwrap_any kek:32,wrapped:24,key:16 &form,&len
+keywrap_rewrap kek:32,new_kek:16,wrapped:24 0,&form
+keywrap_rewrap_in_place kek:32,new_kek:16,wrapped:24 0
+keywrap_rewrap_many kek:32,new_kek:16,texts:48 0,statuses,2
+keywrap_wrap_many kek:32,texts:48 16,0,statuses,2
+keywrap_unwrap_many kek:32,texts:48 0,key_lens,2,statuses,2
+keywrap_kind_many kek:32,texts:48,scratch:16 forms,2,key_lens,2,statuses,2
+"""
+LOCALS = {"&len": "size_t len;", "&form": "uint32_t form;", "key_lens": "size_t key_lens[2];",
+          "forms": "uint8_t forms[2];", "statuses": "uint8_t statuses[2];"}
+
+
+class Call:
+    def __init__(self, line):
+        self.name, buffers, more = (line + " ").split(" ", 2)
+        self.buffers = [(name, int(size)) for name, size in re.findall(r"(\w+):(\d+)", buffers)]
+        self.more = [word for word in more.strip().split(",") if word]
+        self.arguments = [str(word) for buffer in self.buffers for word in buffer] + self.more
+        self.last = self.buffers[-1][0]
+        # The call takes what is in the last buffer.
+        self.changes = re.search("_in_place|rewrap$|(?<!kind)_many", self.name)
+
+    def function(self, short="", unset="", arguments=None, unused=False):
+        """A line of C that makes the call, with buffers of their sizes but one, which is a byte short. What the call
+        only writes is not set before, nor is `unset`."""
+        declared = [
+            f"uint8_t {name}[{size - (name == short)}]{'' if name == unset or is_only_written else ' = {1}'};"
+            for name, size in self.buffers for is_only_written in [name == self.last and not self.changes]]
+        declared += [LOCALS[word] for word in self.more if word in LOCALS]
+        made = f"{self.name}({', '.join(arguments or self.arguments)});"
+        made = f"{made} return 0;" if unused else f"int32_t s = {made} return s;"
+        return f"int32_t f(void) {{ {' '.join(declared)} {made} }}"
+
+    def without(self, word, other):
+        """The arguments with another one in the place of the last that is this."""
+        at = len(self.arguments) - 1 - self.arguments[::-1].index(word)
+        return [*self.arguments[:at], other, *self.arguments[at + 1:]]
+
+
+TABLE = [Call(line) for line in TABLE.split("\n")[1:-1]]
+TEXT = "void f(void) {{ char text[{}]; keywrap_status_text(0, {}, 8); }}".format
+# A function for each place in each call that can have one of this kind.
+CALLERS = {
+    "right": [call.function() for call in TABLE] + [TEXT(8, "text")],
+    "unused status": [call.function(unused=True) for call in TABLE],
+    "NULL": [call.function(arguments=call.without(word, "NULL")) for call in TABLE
+             for word in call.arguments if word in LOCALS or word in dict(call.buffers)] + [TEXT(8, "NULL")],
+    "overlap": [call.function(arguments=call.without(call.last, "kek")) for call in TABLE],
+    "short": [call.function(short=name) for call in TABLE for name, _ in call.buffers] + [TEXT(7, "text")],
+    "short in place": [call.function(short=call.last) for call in TABLE if call.changes],
+    "unset": [call.function(unset=name) for call in TABLE for name, _ in call.buffers
+              if name != call.last or call.changes],
+}
+
+
+def test_calls_of_the_table():
+    assert sorted(call.name for call in TABLE) == [name for name in EXPORTS if name != "keywrap_self_test"]
+
+
+@pytest.mark.parametrize("kind, compiler, warnings", [
+    (kind, compiler, warnings) for compiler in COMPILERS for kind, warnings in [
+        ("right", "-Wall -Wextra -pedantic"), ("unused status", "-Wunused-result"), ("NULL", "-Wnonnull")]] + [
+    ("overlap", "gcc", "-Wrestrict"), ("short", "gcc", ""), ("short in place", "gcc", "-Wno-stringop-overread"),
+    ("unset", "gcc", "-Wuninitialized -Wmaybe-uninitialized")])
+def test_warnings(kind, compiler, warnings):
+    """The compiler warns of every caller of this kind, but not of the right ones."""
+    need(compiler)
+    lines = [line.replace(" f(", f" f{number}(") for number, line in enumerate(CALLERS[kind])]
+    program = "\n".join(["#include <keywrap.h>", *lines, ""])
+    ended = subprocess.run([compiler, "-O2", "-std=c99", *warnings.split(), STRICT[-1], "-x", "c", "-c", "-", "-o",
+                            "callers.o"], input=program, capture_output=True, text=True)
+    warned = {int(number) - 2 for number in re.findall(r"^<stdin>:(\d+):.*warning:", ended.stderr, re.M)}
+    assert [line for number, line in enumerate(lines) if (number in warned) == (kind == "right")] == [], ended.stderr
+
+
+### The library, by both compilers of the toolchain
+
+
+@pytest.fixture(scope="session", params=["llvm", "rattle"])
+def of_toolchain(request, once, built):
+    """The name of a compiler, and the directory of its library."""
+    name = request.param
+    if name == "llvm":
+        return name, request.getfixturevalue("library")
+    return name, once(f"library-{name}", lambda directory: run(
+        "make", "-s", "-C", ROOT, "library", f"LIBRARY={directory}", f"ARCHIVE={built(f'{name}.a')}"))
+
+
+class TestFiles:
+    def test_names_and_needs(self, of_toolchain):
+        archive, shared = of_toolchain[1] / "libkeywrap.a", of_toolchain[1] / "libkeywrap.so.1"
+        assert shown(archive, "-g") == ARCHIVED
+        assert shown(shared, "-D", "--without-symbol-versions") == CALLS
+        check_needs(archive)
+        check_versions(shared)
+        check_hardened(shared, "libkeywrap")
+
+    def test_self_test_sees_a_changed_byte(self, of_toolchain):
+        name, directory = of_toolchain
+        run(sys.executable, ROOT / "tests/library/patched.py", directory / "libkeywrap.so.1",
+            *["decryption"] * (name != "rattle"))
+
+
+@pytest.mark.parametrize("compiler", COMPILERS)
+@pytest.mark.parametrize("linked, options", [
+    ("static", []), ("shared", []), ("static", SANITIZED), pytest.param("shared", SANITIZED, marks=slow)],
+    ids=["static", "shared", "static, sanitized", "shared, sanitized"])
+@pytest.mark.parametrize("of_toolchain", ["llvm", pytest.param("rattle", marks=evidence)], indirect=True)
+class TestCalls:
+    @pytest.fixture
+    def program(self, of_toolchain, compiler, linked, options):
+        """program("rows.c") is the command of this program of tests/, linked with the library."""
+        need(compiler, *[f"sanitizers of {compiler}"] * bool(options))
+        _, directory = of_toolchain
+        library = directory / ("libkeywrap.a" if linked == "static" else "libkeywrap.so.1")
+
+        def build(source):
+            run(compiler, *STRICT, "-O1", "-g", *options, ROOT / "tests" / source, library, "-o", "program")
+            return ["env", f"LD_LIBRARY_PATH={directory}", "./program"]
+
+        return build
+
+    def test_rows(self, program, compiler, linked, options):
+        """Those that are not kept run over one build."""
+        command = program("rows.c")
+        for name in "rows", "foreign", *["more"] * ((compiler, linked, options) == ("gcc", "static", [])):
+            text = published.table(name)
+            assert published.all_right(run(*command, input=text), text) == {}
+
+    @evidence
+    def test_more(self, program):
+        text = published.table("more")
+        assert published.all_right(run(*program("rows.c"), input=text), text) == {}
+
+    def test_own(self, program):
+        assert run(*program("library/own.c")).endswith(" passed, 0 failed\n")
+
+
+### Installed
+
+
+@pytest.fixture
+def flags(prefix, monkeypatch):
+    """The words of a compiler, by keywrap.pc."""
+    need("pkg-config")
+    monkeypatch.setenv("PKG_CONFIG_PATH", f"{prefix}/lib/pkgconfig")
+    monkeypatch.setenv("LD_LIBRARY_PATH", f"{prefix}/lib")
+    return run("pkg-config", "--cflags", "--libs", "keywrap").split()
+
+
+def files_under(directory):
+    return {str(path.relative_to(directory)) for path in directory.rglob("*")
+            if (path.is_symlink() or not path.is_dir()) and "doc" not in path.relative_to(directory).parts}
+
+
+def files_of(include, lib):
+    """What an install makes, except documents."""
+    names = ["libkeywrap.a", "libkeywrap.so", "libkeywrap.so.1", f"libkeywrap.so.{DEBIAN}", "pkgconfig/keywrap.pc",
+             "cmake/keywrap/keywrap-config.cmake", "cmake/keywrap/keywrap-config-version.cmake"]
+    return {f"{include}/keywrap.h", f"{include}/keywrap_steps.h", *(f"{lib}/{name}" for name in names)}
+
+
+class TestInstalled:
+    def test_one_version(self, prefix):
+        """The header's, and with ~dev for -dev keywrap.pc's and the shared object's."""
+        header = (prefix / "include/keywrap.h").read_text()
+        assert ".".join(re.findall(r"^#define KEYWRAP_VERSION_[A-Z]* (\d+)$", header, re.M)) == NUMBER
+        assert f"\nVersion: {DEBIAN}\n" in (prefix / "lib/pkgconfig/keywrap.pc").read_text()
+        shared = (prefix / "lib/libkeywrap.so").resolve()
+        assert (shared.name, shared.stat().st_mode & 0o777) == (f"libkeywrap.so.{DEBIAN}", 0o644)
+
+    def test_before_the_release(self, flags):
+        """pkg-config and dpkg take what is not released for older than the release."""
+        def is_at_least(version):
+            return not subprocess.run(["pkg-config", f"--atleast-version={version}", "keywrap"]).returncode
+
+        assert is_at_least(1) and is_at_least(NUMBER.rpartition(".")[0])
+        assert is_at_least(NUMBER) == (VERSION == NUMBER)
+        if VERSION != NUMBER and shutil.which("dpkg"):
+            run("dpkg", "--compare-versions", DEBIAN, "lt", NUMBER)
+
+    def test_c_example(self, flags):
+        """It names a refused value, and finds a library that accepts a damaged wrapped key."""
+        run("cc", *STRICT, EXAMPLE, *flags, "-o", "example")
+        said = run("./example")
+        assert WRAPPED24 in said and "reserved value: initial value is not 8 bytes" in said
+        accepting = """
+            #include <keywrap.h>
+            int32_t accepts(const uint8_t *k, size_t k_len, const uint8_t *t, size_t t_len, uint8_t *out, size_t room) {
+                int32_t status = keywrap_unwrap(k, k_len, t, t_len, out, room);
+                return status == KEYWRAP_INTEGRITY ? KEYWRAP_OK : status;
+            }"""
+        run("cc", "-std=c99", "-c", "-x", "c", "-", "-o", "accepts.o", *flags[:1], STRICT[-1], input=accepting)
+        run("cc", "-std=c99", "-Dkeywrap_unwrap=accepts", EXAMPLE, "accepts.o", *flags, "-o", "wrong")
+        assert subprocess.run(["./wrong"], capture_output=True).returncode
+
+    @pytest.mark.parametrize("compiler", ["g++", "clang++"])
+    def test_cpp(self, flags, compiler):
+        """It links only if the library has every call."""
+        need(compiler)
+        with open("names.h", "w") as names:
+            names.writelines(f"reinterpret_cast<void *>({name}),\n" for name in CALLS)
+        run(compiler, "-std=c++11", *STRICT[1:5], "-I.", INSTALLED / "calls.cc", *flags, "-o", "example")
+        assert WRAPPED16 in run("./example")
+
+    @pytest.mark.parametrize("variables, include, lib, begin", [
+        ("prefix=/usr libdir=/usr/lib64", "usr/include", "usr/lib64", "/usr ${prefix}/lib64 ${prefix}/include"),
+        ("PREFIX=/usr LIBDIR=/usr/lib64", "usr/include", "usr/lib64", "/usr ${prefix}/lib64 ${prefix}/include"),
+        ("prefix=/a libdir=/b/lib includedir=/c docdir=/d/doc", "c", "b/lib", "/a /b/lib /c"),
+        ("prefix= STRIP=1", "include", "lib", None)])
+    def test_directories(self, words, tmp_path, variables, include, lib, begin):
+        """The files, the first lines of keywrap.pc, and that `make uninstall-library` removes all. With STRIP=1 the
+        shared object has only the names that it exports, and the archive has all."""
+        stage = tmp_path / "stage"
+        given = [*words, f"DESTDIR={stage}", *variables.split()]
+        run("make", "-s", "-C", ROOT, "install-library", *given)
+        assert files_under(stage) == files_of(include, lib)
+        pages = {str(path.parent.relative_to(stage)) for path in stage.rglob("C_LIBRARY.md")}
+        assert len(pages) == 1 and ("docdir" not in variables or pages == {"d/doc"})
+        if begin:
+            first = (stage / lib / "pkgconfig/keywrap.pc").read_text().splitlines()[:3]
+            names = "prefix", "libdir", "includedir"
+            assert first == [f"{name}={value}" for name, value in zip(names, begin.split())]
+        else:
+            shared = stage / "lib/libkeywrap.so"
+            assert "no symbols" in subprocess.run(["nm", shared], capture_output=True, text=True).stderr
+            assert shown(shared, "-D", "--without-symbol-versions") == CALLS
+            assert shown(stage / "lib/libkeywrap.a", "-g") == ARCHIVED
+        run("make", "-s", "-C", ROOT, "uninstall-library", *given)
+        assert [path for path in stage.rglob("*") if not path.is_dir()] == []
+        assert [path for path in ROOT.rglob("libkeywrap*") if path.is_symlink()] == []
+
+    @pytest.mark.needs("cmake")
+    @pytest.mark.parametrize("elsewhere", [False, True])
+    def test_cmake(self, prefix, words, tmp_path, elsewhere):
+        """The example by the package file, both ways. A version that is not there is refused."""
+        lib = prefix / "lib"
+        if elsewhere:
+            lib = tmp_path / "b/lib"
+            run("make", "-s", "-C", ROOT, "install-library", *words, f"DESTDIR={tmp_path}", "prefix=/a",
+                "libdir=/b/lib", "includedir=/c", "docdir=/d")
+
+        def configured(version):
+            shutil.rmtree("made", ignore_errors=True)
+            return subprocess.run(
+                ["cmake", "-S", INSTALLED, "-B", "made", f"-Dasked={version}", f"-Dexample={EXAMPLE}",
+                 f"-Dkeywrap_DIR={lib}/cmake/keywrap"], capture_output=True).returncode == 0
+
+        assert not configured("1.99") and not configured("2") and configured(1 if elsewhere else NUMBER)
+        run("cmake", "--build", "made")
+        assert WRAPPED24 in run("made/static")
+        assert WRAPPED24 in run("made/shared", env={**os.environ, "LD_LIBRARY_PATH": str(lib)})
+
+
+### What it needs of the processor
+
+
+@pytest.mark.needs("qemu-x86_64")
+class TestProcessor:
+    def test_instructions(self, library):
+        """None of SSE4.2, POPCNT, AES or AVX, which the header does not check for."""
+        code = run("objdump", "-d", "--no-show-raw-insn", library / "libkeywrap.a")
+        used = {line.split("\t")[1].split()[0] for line in code.splitlines() if line.count("\t")}
+        beyond = "popcnt|crc32.*|pcmpgtq|pcmp.str.|aes.*|pclmul.*|v[a-z].*|[lt]zcnt|bextr|pdep|pext"
+        assert "pshufb" in used and [name for name in used if re.fullmatch(beyond, name)] == []
+
+    @pytest.mark.parametrize("compiler", COMPILERS)
+    def test_supported(self, compiler):
+        """KEYWRAP_CPU_SUPPORTED is 0 without SSE4.1, and with SSSE3 only."""
+        need(compiler)
+        run(compiler, *STRICT, "-x", "c", "-", "-o", "supported",
+            input="#include <keywrap.h>\nint main(void) { return KEYWRAP_CPU_SUPPORTED() ? 0 : 7; }\n")
+        ssse3 = ["qemu-x86_64", "-cpu", "qemu64,+ssse3,-sse4.1,-sse4.2,-popcnt"]
+        assert [subprocess.run([*runs, "./supported"]).returncode for runs in (WITHOUT_SSE41, ssse3, WITH_SSE41)] == [
+            7, 7, 0]
+
+    def test_c_example(self, library):
+        run("cc", STRICT[-1], EXAMPLE, library / "libkeywrap.a", "-o", "example")
+        assert WRAPPED24 in run(*WITH_SSE41, "./example")
+
+
+### Beside the command
+
+
+class TestBesideTheCommand:
+    @pytest.mark.parametrize("value", "a6a6a6a6a6a6a6a6 0123456789abcdef a65959a700000010 a65959a600000010"
+                             " a65959a6ffffffff".split())
+    def test_initial_value(self, keywrap, flags, value):
+        """Both wrap alike, or refuse by the same status."""
+        run("cc", *STRICT, INSTALLED / "agreed.c", *flags, "-o", "agreed")
+        ours = subprocess.run(["./agreed", value], stdout=subprocess.PIPE, text=True)
+        theirs = keywrap(f"wrap --iv {value} --kek kek16.hex", stdin=bytes(range(16)).hex())
+        assert (ours.returncode, ours.stdout) == theirs[:2]
+
+    def test_refusals(self, keywrap, flags):
+        """The command refuses in the words of the library."""
+        run("cc", *STRICT, INSTALLED / "text.c", *flags, "-o", "text")
+        with open("short.hex", "w") as short:
+            short.write("00\n")
+        key = bytes(range(16)).hex()
+        for status, args in [(3, "wrap --kek short.hex"), (4, "unwrap --kek kek16.hex"),
+                             (5, "unwrap --padded --kek kek16.hex")]:
+            ended = keywrap(args, stdin=key)
+            assert (ended.status, ended.stderr) == (status, "keywrap: " + run("./text", str(status)))
