@@ -1,8 +1,7 @@
 #!/usr/bin/env bash
 # Runs the tests of tests/ by pytest, in parallel if pytest-xdist is installed; test_shell.py there runs those of *.sh.
-# The last line counts what passed, failed and was skipped, and out/skipped has what was skipped, and why. Slow rows are
-# left to KEYWRAP_ALL=1, which `make gate` sets, and some of them to KEYWRAP_EVIDENCE=1 beside it, which `make evidence`
-# sets.
+# The last line counts what passed, failed and was skipped; out/skipped has what was skipped, and why. `make gate` sets
+# KEYWRAP_ALL=1, which adds slow rows, and `make evidence` KEYWRAP_EVIDENCE=1 beside it, which adds all of them.
 #
 # usage: scripts/tests.sh [NAME..]        tests/test_NAME.py or tests/NAME.sh; all of them, if none is named
 #        (KEYWRAP=PATH tries another program; KEYWRAP_BUILT=DIRECTORY takes the archives there, and builds missing ones)

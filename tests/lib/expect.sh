@@ -44,9 +44,6 @@ same() {
 # until_true COMMAND..: waits until the command is true, for at most 300 seconds.
 until_true() {
     local tries
-    for ((tries = 0; tries < 6000; tries++)); do
-        ! "$@" || return 0
-        sleep 0.05
-    done
+    for ((tries = 0; tries < 6000; tries++)); do ! "$@" || return 0 && sleep 0.05; done
     return 1
 }

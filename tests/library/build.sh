@@ -11,9 +11,6 @@ of_arm() {
     make -s -C ../.. library TARGET=aarch64-unknown-linux-gnu LIBRARY="$1" || rm -rf "$1"
 }
 
-# module FILE: makes it complete or not at all.
-module() { ../../scripts/module.sh "$1.new" && mv "$1.new" "$1"; }
-
 exec 9>"$1/lock" && flock 9 || exit
 jobs=$(nproc) && [ "$jobs" -le 4 ] || jobs=4
 cd "$(dirname "${BASH_SOURCE[0]}")/../../crates/keywrap_c" || exit
@@ -23,5 +20,5 @@ if [ ! -e "$1/llvm.a" ]; then
         rt lib --jobs "$jobs" && cp out/libkeywrap_c.a "$1/llvm.a" || exit
 fi
 [[ " $* " != *' arm64 '* ]] || [ -e "$1/arm64/built_from-aarch64-unknown-linux-gnu" ] || of_arm "$1/arm64"
-[[ " $* " != *' keywrap.wasm '* ]] || [ -e "$1/keywrap.wasm" ] || module "$1/keywrap.wasm" ||
-    rm -f "$1/keywrap.wasm.new"
+[[ " $* " != *' keywrap.wasm '* ]] || [ -e "$1/keywrap.wasm" ] ||
+    { ../../scripts/module.sh "$1/new.wasm" && mv "$1/new.wasm" "$1/keywrap.wasm"; } || rm -f "$1/new.wasm"
