@@ -486,7 +486,7 @@ class TestProcesses:
         "from keywrap.rotation import files; files.BLOCK = 1000\n" + SLOWLY[-1].split("from keywrap.rotate")[0],
         "def slow(*words, real=os.pread): time.sleep(0.05); return real(*words)\nos.pread = slow\n"
         "from keywrap.rotation import replacing; replacing.BLOCK = 4000",
-        "def slow(descriptor, real=os.fsync): time.sleep(3), real(descriptor)\nos.fsync = slow"], ids=["file", "read", "disk"])
+        "def slow(disk, real=os.fsync): time.sleep(3), real(disk)\nos.fsync = slow"], ids=["file", "read", "disk"])
     def test_what_is_slow_is_not_given_up(self, store, slowly):
         """Each block is a sign of life, also when it is compared, and so is a wait for the disk."""
         (store / "large").write_bytes(lines_under(KEK, [KEYS[0][1]] * 3000))

@@ -129,9 +129,9 @@ class TestKeys:
             line = found[at]
             digit = source.randrange(len(line) - 1)
             found[at] = source.choice([
-                wrap(NEW_KEK, source.randbytes(length)).hex().encode() + b"\n", wrap(bytes(16), bytes(length)).hex().encode(),
-                wrap(NEW_KEK, bytes(length)).hex().upper().encode() + b"\n", line.upper(), line[:-1] + b"\r\n", b" " + line,
-                line[:-1] + b" \n", b"\n", b" \n", line[2:], line[1:], line + line[:2] + b"\n", line[:-1],
+                wrap(NEW_KEK, source.randbytes(length)).hex().encode() + b"\n", line.upper(), b" " + line, b"\n", b" \n",
+                wrap(NEW_KEK, bytes(length)).hex().upper().encode() + b"\n", line[:-1] + b" \n", line[2:], line[1:],
+                wrap(bytes(16), bytes(length)).hex().encode(), line[:-1] + b"\r\n", line + line[:2] + b"\n", line[:-1],
                 *(line[:digit] + other + line[digit + 1 :] for other in (
                     b"\n", b" ", b"g", b"\xff", b"%x" % (int(line[digit : digit + 1], 16) ^ 1)))])
         if len(found) > 2 and source.randrange(3) == 0:  # As long together as they were, with LF in other places.

@@ -217,7 +217,7 @@ class TestNames:
         assert read("store") == [new[0], new[1], moved, *new[3:]]
 
     @pytest.mark.parametrize("table, lines, why", [
-        ("table", ["a=table0.hex", "b c"], "line 2 is not NAME="), ("table", ["=table0.hex"], "line 1 is not NAME=FILE"),
+        ("table", ["a=table0.hex", "b c"], "line 2 is not NAME="), ("table", ["=table0.hex"], "line 1 is not NAME="),
         ("table", ["a=table0.hex", "a=table1.hex"], "line 2 has a name that an earlier line has"),
         ("table", [], "it has no line"),
         ("table", ["a=none.hex", "b c=table1.hex", "ü=table2.hex"], "none.hex: No such file or directory"),
@@ -292,7 +292,7 @@ class TestPrefixes:
         assert rotated(*PREFIX, "store") == 0
         assert read("store") == prefixed(NEW_KEK, 4)
 
-    @pytest.mark.parametrize("line", ["vault:v3", "vault:v3:", "vault:w3:AAAA", "", "vault:vé:AAAA", "other:v3:{}", "{}"])
+    @pytest.mark.parametrize("line", ["vault:v3", "vault:v3:", "vault:w3:AAAA", "", "vault:é:AA", "other:v3:{}", "{}"])
     def test_refuses_what_has_no_prefix(self, line):
         line = line.format(prefixed(KEK, 3)[0].split(":")[2])
         write_lines("store", [line, *prefixed(KEK, 3)])

@@ -94,7 +94,7 @@ class TestObjects:
         assert held() == {**under(NEW_KEK), "a": under(KEK)["a"]}
 
     @pytest.mark.parametrize("call", ["get", "put"])
-    @pytest.mark.parametrize("how, said", [("sys.exit(255)", "with status 255"), ("os.kill(os.getpid(), 9)", "status -9"),
+    @pytest.mark.parametrize("how, said", [("sys.exit(255)", "status 255"), ("os.kill(os.getpid(), 9)", "status -9"),
                                            ("time.sleep(100)", "did not end in 6 seconds")])
     def test_a_failed_call_leaves_its_object(self, call, how, said):
         """And all others are rotated."""
