@@ -79,7 +79,7 @@ openssl list -providers -provider keywrap | grep -F 'keywrap: AES Key Wrap, prov
 python3 -c 'import keywrap; print(keywrap.wrap(bytes(range(16)), bytes(range(0, 256, 17))).hex())' >>found
 cc /usr/share/doc/libkeywrap-dev/examples/c/wrap.c $(pkg-config --cflags --libs keywrap) -o wrap
 ./wrap | grep '^wrap: done: ' >>found
-python3 -m keywrap.rotate --version | grep '^keywrap.rotate 1' >>log
+keywrap-rotate --version | grep '^keywrap.rotate 1' >>log
 zsh -fc 'autoload -U compinit && compinit -D -u && print -r -- $_comps[keywrap]' >>found
 """, example="\n".join(typed) + "\n")
     answers = [line for line in lines if line and not line.startswith("$ ")]

@@ -30,8 +30,9 @@ def test_packages(built, pytestconfig, tmp_path):
     assert wanted.keys() <= installed
     # Beside them only the directories of documents.
     assert all(any(name.startswith(f"{extra}/") for name in wanted) for extra in installed - wanted.keys())
+    assert "/usr/bin/keywrap-rotate" in listed["python3-keywrap"]
     modules = {name.partition("-packages/")[2] for name in listed["python3-keywrap"]}
-    # The command is in a package of its own.
+    # The command keywrap is in a package of its own.
     assert {name for name in expected("files of wheel") if ".data/" not in name} <= modules
     assert {pathlib.Path(name).name for name in listed["keywrap-openssl-provider"]} == {
         "keywrap.so", "keywrap-openssl-provider", "OPENSSL.md", "openssl.cnf"}
