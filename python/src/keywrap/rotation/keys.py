@@ -169,7 +169,7 @@ def all_renewed(rings: Rings, content: bytes, found: Found) -> Optional[bytes]:
     except ValueError:
         return None
     # Python skips blanks: there are no others than the ends of the lines if the keys have all other digits.
-    if (size < 33 or length % 8 or len(content) != size * count or content[size - 1 :: size] != b"\n" * count
+    if (size < 33 or (size - 1) % 16 or len(content) != size * count or content[size - 1 :: size] != b"\n" * count
             or len(keys) != length * count):  # fmt: skip
         return None
     if _are_under(ring.new, keys, length):
