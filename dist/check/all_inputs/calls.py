@@ -440,7 +440,7 @@ def little_number(path, content):
 # Many keys. With `only`, all slots but this one are fixed, and so are the KEKs: genuine, refused, new already.
 
 def fixed(name, n):
-    return [(37 * i + 11 * len(name) + 5) % 256 for i in range(n)]
+    return [(37 * i + 11 * ord(name[0]) + 5) % 256 for i in range(n)]     # no KEK begins with another one
 
 
 def texts_of(name, text_len, count, only, flags, kek, new_kek=None):
