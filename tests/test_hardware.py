@@ -189,9 +189,9 @@ class TestHere:
     @slow
     def test_provider(self, hardware):
         """The other tests of the provider."""
-        given = {**os.environ, "KEYWRAP_ARCHIVES": str(hardware / "libkeywrap_hw.a")}
+        given = {name: value for name, value in os.environ.items() if not name.startswith("PYTEST_")}
         run(sys.executable, "-m", "pytest", "-p", "no:xdist", "-p", "no:cacheprovider", ROOT / "tests/test_provider.py",
-            env=given)
+            env={**given, "KEYWRAP_ARCHIVES": str(hardware / "libkeywrap_hw.a")})
 
     @evidence
     @pytest.mark.needs("qemu-x86_64")
