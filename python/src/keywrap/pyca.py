@@ -124,7 +124,8 @@ def _exchange(pairs: list[tuple[Any, Any]]) -> None:
 
 
 def install() -> None:
-    """Makes pyca's functions these, also in the modules that have imported them by name.
+    """Makes pyca's functions these, also in the modules that have imported them by name. An attribute of an object, a
+    default argument or a `functools.partial` keeps pyca's function.
 
     Raises `ImportError` without `cryptography`. A second call replaces what other code has put there since.
     """
