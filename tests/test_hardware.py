@@ -176,6 +176,14 @@ class TestHere:
         run("cc", *OPTIONS, OWN / "uses.c", OWN / "wrong_aes.c", *sources, proved, "-o", "uses")
         assert run("./uses") == "".join(f"software for a KEK of {length} bytes:\n" for length in (16, 24, 32))
 
+    @pytest.mark.needs("the processor's AES")
+    def test_wrong_aes_is_not_chosen(self):
+        """Each way of the processor's AES is tested, with each length of a KEK."""
+        sources = [OWN / "chosen.c", OWN / "wrong_aes.c", HARDWARE / "aes.c"]
+        run("cc", *OPTIONS, *sources, "-o", "chosen")
+        places = ["", *(f"{way}{rounds}" for way in "edEDFC" for rounds in (10, 12, 14))]
+        assert [run("env", f"WRONG={place}", "./chosen") for place in places] == ["instructions\n"] + 18 * ["software\n"]
+
     @pytest.mark.parametrize("name", ["keywrap", "keywrap_hw", "sanitized"])
     def test_threads(self, hardware, library, name, request):
         threads = ["cc", *OPTIONS, "-g", "-pthread", OWN / "threads.c", "-o", "threads"]

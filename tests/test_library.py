@@ -314,7 +314,8 @@ class TestInstalled:
                 ["cmake", "-S", INSTALLED, "-B", "made", f"-Dasked={version}", f"-Dexample={EXAMPLE}",
                  f"-Dkeywrap_DIR={lib}/cmake/keywrap"], capture_output=True).returncode == 0
 
-        assert not configured("1.99") and not configured("2") and configured(1 if elsewhere else NUMBER)
+        assert not any(map(configured, ["1.99", "2", "1.1.0;EXACT"])) and configured(f"{NUMBER};EXACT")
+        assert configured(1 if elsewhere else NUMBER)
         run("cmake", "--build", "made")
         assert WRAPPED24 in run("made/static")
         assert WRAPPED24 in run("made/shared", env={**os.environ, "LD_LIBRARY_PATH": str(lib)})
