@@ -395,10 +395,11 @@ def test_a_rate(store):
 
 
 def started(*words, stop="rewrap_slots", more="", jobs=2):
-    """A run each of whose processes waits at its first key until the test makes the file `go`."""
-    running = start("--jobs", jobs, *words, program=patched(f"""from keywrap import _many
+    """Each process waits at its first key until the test makes `go`. Its link has the answer of PR_GET_DUMPABLE."""
+    running = start("--jobs", jobs, *words, program=patched(f"""import ctypes
+from keywrap import _many
 def held(*words, real=_many.{stop}):
-    open(f"at {{os.getpid()}}", "w").close()
+    os.path.lexists(at := f"at {{os.getpid()}}") or os.symlink(f"{{ctypes.CDLL(None).prctl(3, 0, 0, 0, 0)}}", at)
     while not os.path.exists("go"):
         time.sleep(0.01)
     return real(*words)
@@ -437,8 +438,7 @@ class TestProcesses:
         workers = children(running)
         for pid in [running.pid, *workers]:
             assert resource.prlimit(pid, resource.RLIMIT_CORE) == (0, 0)
-            if os.geteuid() != 0:  # The owner of these files is root if a process is not dumpable.
-                assert os.stat(f"/proc/{pid}/mem").st_uid == 0
+        assert {os.readlink(f"at {pid}") for pid in workers} == {"0"}
         running.kill()
         running.communicate(timeout=60)
         wait_for(lambda: not any(map(is_alive, workers)))
