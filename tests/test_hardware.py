@@ -182,7 +182,8 @@ class TestHere:
         sources = [OWN / "chosen.c", OWN / "wrong_aes.c", HARDWARE / "aes.c"]
         run("cc", *OPTIONS, *sources, "-o", "chosen")
         places = ["", *(f"{way}{rounds}" for way in "edEDFC" for rounds in (10, 12, 14))]
-        assert [run("env", f"WRONG={place}", "./chosen") for place in places] == ["instructions\n"] + 18 * ["software\n"]
+        chosen = [run("env", f"WRONG={place}", "./chosen") for place in places]
+        assert chosen == ["instructions\n"] + 18 * ["software\n"]
 
     @pytest.mark.parametrize("name", ["keywrap", "keywrap_hw", "sanitized"])
     def test_threads(self, hardware, library, name, request):
