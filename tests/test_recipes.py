@@ -14,7 +14,7 @@ RECIPES = (ROOT / "docs/RECIPES.md").read_text()
 SECTIONS = dict(section.split("\n", 1) for section in re.split("^## ", RECIPES, flags=re.M)[1:])
 PARTS = re.split("^#: after ", (ROOT / "tests/lib/recipes.sh").read_text(), flags=re.M)[1:]
 PARTS = dict(part.split("\n", 1) for part in PARTS)
-TOOLS = "openssl", "xxd", "softhsm2-util", "pkcs11-tool", "jq"
+TOOLS = "openssl", "xxd", "jq"
 
 
 def typed_and_shown(section):

@@ -60,7 +60,6 @@ for name in ada bob; do
 done
 mv keks/-new keks/new
 { echo tenant,key; wrapped 1920 keks/ada.hex | sed s/^/ada,/; wrapped 1280 keks/bob.hex | sed s/^/bob,/; } > keys.csv
-wrapped 3200 | while read -r key; do echo "vault:v3:$(echo $key | xxd -r -p | base64 -w 0)"; done > versions
 """,
     "Rotate a store of your own": r"""
 wrapped 3200 | while read -r key; do echo $key | xxd -r -p | base64 -w 0; echo; done |
