@@ -1,5 +1,5 @@
-"""The suites of bash, whose rows are counted with the others: make.sh, launcher.sh, shells.sh, and what hidden.sh and
-fresh.sh run if they are asked to."""
+"""The suites of bash, whose rows are counted with the others: make.sh, launcher.sh, shells.sh, and what
+fresh.sh runs if it is asked to."""
 
 import os
 import pathlib
