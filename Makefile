@@ -88,31 +88,29 @@ evidence:
 	scripts/evidence.sh
 
 dist-sources:
-	$(needs_kit)$(PYTHON) scripts/portable.py --needs
-	scripts/module.sh out/keywrap.wasm
-	$(PYTHON) scripts/portable.py out/keywrap.wasm dist
+	$(needs_kit)$(PYTHON) generate/portable.py --needs
+	generate/module.sh out/keywrap.wasm
+	$(PYTHON) generate/portable.py out/keywrap.wasm dist
 	$(MAKE) --no-print-directory dist-command-sources
 
 dist-command-sources:
-	$(needs_kit)scripts/command_module.sh out/command.wasm
-	$(PYTHON) scripts/command.py out/command.wasm dist/command
+	$(needs_kit)generate/command_module.sh out/command.wasm
+	$(PYTHON) generate/command.py out/command.wasm dist/command
 
 # With BENCH=DIRECTORY it also writes DIRECTORY/*.csv; `make bench BENCH=docs/pictures` renews the data of the plots.
 export BENCH := $(abspath $(BENCH))
 bench: build library library-hardware provider wheel js
-	bench/wrap '$(LIBRARY)/libkeywrap.a' '$(PROVIDER)/keywrap.so'
-	bench/record java bench/java '$(LIBRARY)'
-	bench/record lines $(PYTHON) bench/lines '$(PROGRAM)'
-	$(MAKE) -C dist keywrap
-	bench/record command $(PYTHON) bench/command.py native='$(PROGRAM)' c=dist/keywrap
-	bench/record python $(PYTHON) bench/python '$(wheel)'
-	bench/record js bench/js.mjs '$(JS)'
-	bench/record stores $(PYTHON) bench/rotation '$(wheel)'
+	bench/wrap.sh '$(LIBRARY)/libkeywrap.a' '$(PROVIDER)/keywrap.so'
+	bench/record.sh java openjdk-17-jre-headless bench/java.sh '$(LIBRARY)'
+	bench/record.sh lines python3-cryptography $(PYTHON) bench/lines.py '$(PROGRAM)'
+	bench/record.sh python python3-cryptography $(PYTHON) bench/python.py '$(wheel)'
+	bench/record.sh js 'chromium firefox-esr libwebkit2gtk-4.1-0' bench/js.mjs '$(JS)'
+	bench/record.sh stores postgresql $(PYTHON) bench/rotation.py '$(wheel)'
 
 pictures:
-	scripts/plots.py
-	scripts/facts.py
-	scripts/trust.py
+	generate/plots.py
+	generate/facts.py
+	generate/trust.py
 
 clean:
 	rm -rf crates/*/out out

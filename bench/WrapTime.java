@@ -1,5 +1,5 @@
 // Writes a name, and the microseconds that a wrap of 32 bytes takes with a new KEK each time: the best of many rounds.
-// bench/java compiles and runs it. The arguments are the name and the provider.
+// bench/java.sh compiles and runs it. The arguments are the name and the provider.
 
 import java.security.Security;
 import javax.crypto.Cipher;

@@ -8,7 +8,7 @@ import { spawnSync } from 'node:child_process';
 import { mkdtempSync, readFileSync, rmSync } from 'node:fs';
 import { tmpdir } from 'node:os';
 import { basename, join } from 'node:path';
-import { postedBy } from '../scripts/engine.mjs';
+import { postedBy } from '../tests/lib/engine.mjs';
 
 const [, , packed] = process.argv;
 const PAGE = `<!DOCTYPE html><meta charset="utf-8"><title>bench</title><script type="module">

@@ -1,6 +1,6 @@
 /* provider.c: how long a wrap and an unwrap by EVP take, each with a context of its own, by
  * OpenSSL's own provider and by ours, which is keywrap.so in the directory that is given. Both
- * must write the same bytes. The best time of each counts. bench/wrap compiles and runs it.
+ * must write the same bytes. The best time of each counts. bench/wrap.sh compiles and runs it.
  * Writes the times as CSV. */
 
 #include "turns.h"

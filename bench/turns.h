@@ -14,7 +14,7 @@ static double now(void) {
 }
 
 /* Writes the best time of each way, from rounds that take about all_ns. turn(way, calls) returns the
- * nanoseconds per call of a turn, which has so many calls that it takes about TURN_NS. A way with a
+ * nanoseconds per call of a turn. A turn has enough calls to take about TURN_NS. A way with a
  * call longer than LONG_NS only has turns in some of the rounds. */
 static void take_turns(int ways, double (*turn)(int way, unsigned calls), double all_ns,
                        double *best) {

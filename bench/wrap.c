@@ -1,6 +1,6 @@
 /* wrap.c: measures how long the library takes, beside other libraries and the same algorithm in C:
  * for a wrap and an unwrap, each with its key schedule, and for a rewrap, where nettle keeps its
- * schedules. First all must return the same bytes. Then the best time of each counts. bench/wrap
+ * schedules. First all must return the same bytes. Then the best time of each counts. bench/wrap.sh
  * compiles and runs it. Writes CSV.
  *
  * usage: wrap [SECONDS]       (SECONDS for wraps and unwraps; without it, rewraps) */
@@ -33,7 +33,7 @@ static uint8_t kek[KEK_LEN], new_kek[KEK_LEN], key[KEYWRAP_MAX_KEY], answer[KEYW
                  uint8_t *out, size_t out_len)
 typedef CALL(wrap_call);
 
-/* Of other builds of the library, as bench/wrap renames them. */
+/* Of other builds of the library, as bench/wrap.sh renames them. */
 wrap_call portable_wrap, portable_unwrap, portable_hw_wrap, portable_hw_unwrap, hw_wrap, hw_unwrap;
 
 static CALL(openssl_wrap) {

@@ -4,7 +4,7 @@
  *     cc -O2 -c keywrap.c
  *
  * Version 1.2.0-dev. `make dist-sources` of the repository writes this file; do not edit it.
- * By Rattle rattle-kit-13b logic dac8208d650f15bf, binaryen 108, wabt 1.0.32.
+ * By Rattle rattle-kit-13f logic dac8208d650f15bf, binaryen 108, wabt 1.0.32.
  * docs/TRUST.md of the repository says what is proved, what is translated and what is trusted.
  *
  * It has four parts: the runtime; the module, which wasm2c translated from the WebAssembly that the
@@ -51,20 +51,22 @@ typedef uint8_t u8;
 typedef uint16_t u16;
 typedef uint32_t u32;
 typedef uint64_t u64;
+typedef int32_t s32;
 typedef int64_t s64;
 
-/* The bytes of the module's stack that a call takes, and that a step takes; the bytes of its
- * constants, and their address, of all and of those that the steps read. */
+/* The bytes of the module's stack that a call takes, that the steps take, and that one step takes; the
+ * bytes of its constants, and their address, of all and of those that the steps read. */
 #define STACK 2160
 #define STEPS_STACK 80
-#define DATA 3440
+#define STEP_STACK 16
+#define DATA 4088
 #define TOP 65536
 #define STEPS_AT 68780
-#define STEPS_DATA 48
+#define STEPS_DATA 568
 #ifdef KEYWRAP_STEPS_ONLY
 enum { CONSTANTS = STEPS_DATA, CONSTANTS_AT = STEPS_AT };
 static const u8 constants[CONSTANTS] = {
-    0x10, 0x00, 0x00, 0x00, 0x14, 0x00, 0x00, 0x00, 0x20, 0x00, 0x00, 0x00, 0x13, 0x00, 0x00, 0x00, 0x17, 0x00, 0x00, 0x00, 0x23, 0x00, 0x00, 0x00, 0x12, 0x00, 0x00, 0x00, 0x16, 0x00, 0x00, 0x00, 0x22, 0x00, 0x00, 0x00, 0x04, 0x00, 0x00, 0x00, 0x05, 0x00, 0x00, 0x00, 0x08, 0x00, 0x00, 0x00
+    0x10, 0x00, 0x00, 0x00, 0x14, 0x00, 0x00, 0x00, 0x20, 0x00, 0x00, 0x00, 0x13, 0x00, 0x00, 0x00, 0x17, 0x00, 0x00, 0x00, 0x23, 0x00, 0x00, 0x00, 0x12, 0x00, 0x00, 0x00, 0x16, 0x00, 0x00, 0x00, 0x22, 0x00, 0x00, 0x00, 0x01, 0x00, 0x00, 0x00, 0x00, 0x00, 0x00, 0x00, 0x01, 0x00, 0x00, 0x00, 0x00, 0x00, 0x00, 0x00, 0x01, 0x00, 0x00, 0x00, 0x00, 0x00, 0x00, 0x00, 0x01, 0x00, 0x00, 0x00, 0x00, 0x00, 0x00, 0x00, 0x00, 0x00, 0x00, 0x00, 0x00, 0x00, 0x00, 0x00, 0x00, 0x00, 0x00, 0x00, 0x00, 0x00, 0x00, 0x00, 0x00, 0x00, 0x00, 0x00, 0x00, 0x00, 0x00, 0x00, 0x00, 0x00, 0x00, 0x00, 0x00, 0x00, 0x00, 0x00, 0x01, 0x00, 0x00, 0x00, 0x00, 0x00, 0x00, 0x00, 0x01, 0x00, 0x00, 0x00, 0x00, 0x00, 0x00, 0x00, 0x01, 0x00, 0x00, 0x00, 0x00, 0x00, 0x00, 0x00, 0x01, 0x00, 0x00, 0x00, 0x00, 0x00, 0x00, 0x00, 0x00, 0x00, 0x00, 0x00, 0x00, 0x00, 0x00, 0x00, 0x00, 0x00, 0x00, 0x00, 0x00, 0x00, 0x00, 0x00, 0x01, 0x00, 0x00, 0x00, 0x00, 0x00, 0x00, 0x00, 0x00, 0x00, 0x00, 0x00, 0x00, 0x00, 0x00, 0x00, 0x01, 0x00, 0x00, 0x00, 0x00, 0x00, 0x00, 0x00, 0x00, 0x00, 0x00, 0x00, 0x00, 0x00, 0x00, 0x00, 0x00, 0x00, 0x00, 0x00, 0x00, 0x00, 0x00, 0x00, 0x00, 0x00, 0x00, 0x00, 0x00, 0x00, 0x00, 0x00, 0x00, 0x00, 0x00, 0x00, 0x00, 0x00, 0x00, 0x00, 0x00, 0x00, 0x00, 0x00, 0x00, 0x00, 0x00, 0x00, 0x01, 0x00, 0x00, 0x00, 0x00, 0x00, 0x00, 0x00, 0x00, 0x00, 0x00, 0x00, 0x00, 0x00, 0x00, 0x00, 0x01, 0x00, 0x00, 0x00, 0x00, 0x00, 0x00, 0x00, 0x00, 0x00, 0x00, 0x00, 0x00, 0x00, 0x00, 0x00, 0xa6, 0xa6, 0xa6, 0xa6, 0xa6, 0xa6, 0xa6, 0xa6, 0x00, 0x00, 0x00, 0x00, 0x00, 0x00, 0x00, 0x00, 0xa6, 0xa6, 0xa6, 0xa6, 0xa6, 0xa6, 0xa6, 0xa6, 0x00, 0x00, 0x00, 0x00, 0x00, 0x00, 0x00, 0x00, 0x00, 0x00, 0x00, 0x00, 0x00, 0x00, 0x00, 0x00, 0x00, 0x00, 0x00, 0x00, 0x00, 0x00, 0x00, 0x00, 0x00, 0x00, 0x00, 0x00, 0x00, 0x00, 0x00, 0x00, 0x00, 0x00, 0x00, 0x00, 0x00, 0x00, 0x00, 0x00, 0xa6, 0xa6, 0xa6, 0xa6, 0xa6, 0xa6, 0xa6, 0xa6, 0x00, 0x00, 0x00, 0x00, 0x00, 0x00, 0x00, 0x00, 0xa6, 0xa6, 0xa6, 0xa6, 0xa6, 0xa6, 0xa6, 0xa6, 0x00, 0x00, 0x00, 0x00, 0x00, 0x00, 0x00, 0x00, 0x00, 0x00, 0x00, 0x00, 0x00, 0x00, 0x00, 0x00, 0x00, 0x00, 0x00, 0x00, 0x00, 0x00, 0x00, 0x00, 0x00, 0x00, 0x00, 0x00, 0x00, 0x00, 0x00, 0x00, 0x01, 0x00, 0x00, 0x00, 0x00, 0x00, 0x00, 0x00, 0x01, 0x00, 0x00, 0x00, 0x00, 0x00, 0x00, 0x00, 0x00, 0x00, 0x00, 0x00, 0x00, 0x00, 0x00, 0x00, 0x00, 0x00, 0x00, 0x00, 0x00, 0x00, 0x00, 0x00, 0x00, 0x00, 0x00, 0x00, 0x00, 0x00, 0x00, 0x00, 0x00, 0x00, 0x00, 0x00, 0x00, 0x00, 0x00, 0x00, 0x00, 0x00, 0x00, 0x00, 0x00, 0x00, 0x00, 0x00, 0x00, 0x00, 0x00, 0x00, 0x00, 0x00, 0x00, 0x00, 0x01, 0x00, 0x00, 0x00, 0x00, 0x00, 0x00, 0x00, 0x01, 0x00, 0x00, 0x00, 0x00, 0x00, 0x00, 0x00, 0x00, 0x00, 0x00, 0x00, 0x00, 0x00, 0x00, 0x00, 0xa6, 0xa6, 0xa6, 0xa6, 0xa6, 0xa6, 0xa6, 0xa6, 0xa6, 0xa6, 0xa6, 0xa6, 0xa6, 0xa6, 0xa6, 0xa6, 0x00, 0x00, 0x00, 0x00, 0x00, 0x00, 0x00, 0x00, 0x00, 0x00, 0x00, 0x00, 0x00, 0x00, 0x00, 0x00, 0x00, 0x00, 0x00, 0x00, 0x00, 0x00, 0x00, 0x00, 0x00, 0x00, 0x00, 0x00, 0x00, 0x00, 0x00, 0x00, 0x00, 0x00, 0x00, 0x00, 0x00, 0x00, 0x00, 0x00, 0x00, 0x00, 0x00, 0x00, 0x00, 0x00, 0x00, 0x00, 0xa6, 0xa6, 0xa6, 0xa6, 0xa6, 0xa6, 0xa6, 0xa6, 0xa6, 0xa6, 0xa6, 0xa6, 0xa6, 0xa6, 0xa6, 0xa6, 0x00, 0x00, 0x00, 0x00, 0x00, 0x00, 0x00, 0x00, 0x00, 0x00, 0x00, 0x00, 0x00, 0x00, 0x00, 0x00, 0x00, 0x00, 0x00, 0x00, 0x00, 0x00, 0x00, 0x00, 0x04, 0x00, 0x00, 0x00, 0x05, 0x00, 0x00, 0x00, 0x08, 0x00, 0x00, 0x00
 };
 #else
 enum { CONSTANTS = DATA, CONSTANTS_AT = TOP };
@@ -342,8 +344,62 @@ static const u8 constants[CONSTANTS] = {
   0x61, 0x74, 0x75, 0x73, 0x10, 0x00, 0x00, 0x00, 0x14, 0x00, 0x00, 0x00, 
   0x20, 0x00, 0x00, 0x00, 0x13, 0x00, 0x00, 0x00, 0x17, 0x00, 0x00, 0x00, 
   0x23, 0x00, 0x00, 0x00, 0x12, 0x00, 0x00, 0x00, 0x16, 0x00, 0x00, 0x00, 
-  0x22, 0x00, 0x00, 0x00, 0x04, 0x00, 0x00, 0x00, 0x05, 0x00, 0x00, 0x00, 
-  0x08, 0x00, 0x00, 0x00, 0x00, 0x00, 0x00, 0x00, 0x04, 0x00, 0x00, 0x00, 
+  0x22, 0x00, 0x00, 0x00, 0x01, 0x00, 0x00, 0x00, 0x00, 0x00, 0x00, 0x00, 
+  0x01, 0x00, 0x00, 0x00, 0x00, 0x00, 0x00, 0x00, 0x01, 0x00, 0x00, 0x00, 
+  0x00, 0x00, 0x00, 0x00, 0x01, 0x00, 0x00, 0x00, 0x00, 0x00, 0x00, 0x00, 
+  0x00, 0x00, 0x00, 0x00, 0x00, 0x00, 0x00, 0x00, 0x00, 0x00, 0x00, 0x00, 
+  0x00, 0x00, 0x00, 0x00, 0x00, 0x00, 0x00, 0x00, 0x00, 0x00, 0x00, 0x00, 
+  0x00, 0x00, 0x00, 0x00, 0x00, 0x00, 0x00, 0x00, 0x01, 0x00, 0x00, 0x00, 
+  0x00, 0x00, 0x00, 0x00, 0x01, 0x00, 0x00, 0x00, 0x00, 0x00, 0x00, 0x00, 
+  0x01, 0x00, 0x00, 0x00, 0x00, 0x00, 0x00, 0x00, 0x01, 0x00, 0x00, 0x00, 
+  0x00, 0x00, 0x00, 0x00, 0x00, 0x00, 0x00, 0x00, 0x00, 0x00, 0x00, 0x00, 
+  0x00, 0x00, 0x00, 0x00, 0x00, 0x00, 0x00, 0x00, 0x01, 0x00, 0x00, 0x00, 
+  0x00, 0x00, 0x00, 0x00, 0x00, 0x00, 0x00, 0x00, 0x00, 0x00, 0x00, 0x00, 
+  0x01, 0x00, 0x00, 0x00, 0x00, 0x00, 0x00, 0x00, 0x00, 0x00, 0x00, 0x00, 
+  0x00, 0x00, 0x00, 0x00, 0x00, 0x00, 0x00, 0x00, 0x00, 0x00, 0x00, 0x00, 
+  0x00, 0x00, 0x00, 0x00, 0x00, 0x00, 0x00, 0x00, 0x00, 0x00, 0x00, 0x00, 
+  0x00, 0x00, 0x00, 0x00, 0x00, 0x00, 0x00, 0x00, 0x00, 0x00, 0x00, 0x00, 
+  0x01, 0x00, 0x00, 0x00, 0x00, 0x00, 0x00, 0x00, 0x00, 0x00, 0x00, 0x00, 
+  0x00, 0x00, 0x00, 0x00, 0x01, 0x00, 0x00, 0x00, 0x00, 0x00, 0x00, 0x00, 
+  0x00, 0x00, 0x00, 0x00, 0x00, 0x00, 0x00, 0x00, 0xa6, 0xa6, 0xa6, 0xa6, 
+  0xa6, 0xa6, 0xa6, 0xa6, 0x00, 0x00, 0x00, 0x00, 0x00, 0x00, 0x00, 0x00, 
+  0xa6, 0xa6, 0xa6, 0xa6, 0xa6, 0xa6, 0xa6, 0xa6, 0x00, 0x00, 0x00, 0x00, 
+  0x00, 0x00, 0x00, 0x00, 0x00, 0x00, 0x00, 0x00, 0x00, 0x00, 0x00, 0x00, 
+  0x00, 0x00, 0x00, 0x00, 0x00, 0x00, 0x00, 0x00, 0x00, 0x00, 0x00, 0x00, 
+  0x00, 0x00, 0x00, 0x00, 0x00, 0x00, 0x00, 0x00, 0x00, 0x00, 0x00, 0x00, 
+  0xa6, 0xa6, 0xa6, 0xa6, 0xa6, 0xa6, 0xa6, 0xa6, 0x00, 0x00, 0x00, 0x00, 
+  0x00, 0x00, 0x00, 0x00, 0xa6, 0xa6, 0xa6, 0xa6, 0xa6, 0xa6, 0xa6, 0xa6, 
+  0x00, 0x00, 0x00, 0x00, 0x00, 0x00, 0x00, 0x00, 0x00, 0x00, 0x00, 0x00, 
+  0x00, 0x00, 0x00, 0x00, 0x00, 0x00, 0x00, 0x00, 0x00, 0x00, 0x00, 0x00, 
+  0x00, 0x00, 0x00, 0x00, 0x00, 0x00, 0x00, 0x00, 0x01, 0x00, 0x00, 0x00, 
+  0x00, 0x00, 0x00, 0x00, 0x01, 0x00, 0x00, 0x00, 0x00, 0x00, 0x00, 0x00, 
+  0x00, 0x00, 0x00, 0x00, 0x00, 0x00, 0x00, 0x00, 0x00, 0x00, 0x00, 0x00, 
+  0x00, 0x00, 0x00, 0x00, 0x00, 0x00, 0x00, 0x00, 0x00, 0x00, 0x00, 0x00, 
+  0x00, 0x00, 0x00, 0x00, 0x00, 0x00, 0x00, 0x00, 0x00, 0x00, 0x00, 0x00, 
+  0x00, 0x00, 0x00, 0x00, 0x00, 0x00, 0x00, 0x00, 0x00, 0x00, 0x00, 0x00, 
+  0x01, 0x00, 0x00, 0x00, 0x00, 0x00, 0x00, 0x00, 0x01, 0x00, 0x00, 0x00, 
+  0x00, 0x00, 0x00, 0x00, 0x00, 0x00, 0x00, 0x00, 0x00, 0x00, 0x00, 0x00, 
+  0xa6, 0xa6, 0xa6, 0xa6, 0xa6, 0xa6, 0xa6, 0xa6, 0xa6, 0xa6, 0xa6, 0xa6, 
+  0xa6, 0xa6, 0xa6, 0xa6, 0x00, 0x00, 0x00, 0x00, 0x00, 0x00, 0x00, 0x00, 
+  0x00, 0x00, 0x00, 0x00, 0x00, 0x00, 0x00, 0x00, 0x00, 0x00, 0x00, 0x00, 
+  0x00, 0x00, 0x00, 0x00, 0x00, 0x00, 0x00, 0x00, 0x00, 0x00, 0x00, 0x00, 
+  0x00, 0x00, 0x00, 0x00, 0x00, 0x00, 0x00, 0x00, 0x00, 0x00, 0x00, 0x00, 
+  0x00, 0x00, 0x00, 0x00, 0xa6, 0xa6, 0xa6, 0xa6, 0xa6, 0xa6, 0xa6, 0xa6, 
+  0xa6, 0xa6, 0xa6, 0xa6, 0xa6, 0xa6, 0xa6, 0xa6, 0x00, 0x00, 0x00, 0x00, 
+  0x00, 0x00, 0x00, 0x00, 0x00, 0x00, 0x00, 0x00, 0x00, 0x00, 0x00, 0x00, 
+  0x00, 0x00, 0x00, 0x00, 0x00, 0x00, 0x00, 0x00, 0x04, 0x00, 0x00, 0x00, 
+  0x05, 0x00, 0x00, 0x00, 0x08, 0x00, 0x00, 0x00, 0x00, 0x00, 0x00, 0x00, 
+  0x00, 0x00, 0x00, 0x00, 0x00, 0x00, 0x00, 0x00, 0x01, 0x00, 0x00, 0x00, 
+  0x00, 0x00, 0x00, 0x00, 0x00, 0x00, 0x00, 0x00, 0x00, 0x00, 0x00, 0x00, 
+  0x01, 0x00, 0x00, 0x00, 0x00, 0x00, 0x00, 0x00, 0xa6, 0xa6, 0xa6, 0xa6, 
+  0xa6, 0xa6, 0xa6, 0xa6, 0x00, 0x00, 0x00, 0x00, 0x00, 0x00, 0x00, 0x00, 
+  0xa6, 0xa6, 0xa6, 0xa6, 0xa6, 0xa6, 0xa6, 0xa6, 0x00, 0x00, 0x00, 0x00, 
+  0x00, 0x00, 0x00, 0x00, 0x00, 0x00, 0x00, 0x00, 0x00, 0x00, 0x00, 0x00, 
+  0x00, 0x00, 0x00, 0x00, 0x00, 0x00, 0x00, 0x00, 0x01, 0x00, 0x00, 0x00, 
+  0x00, 0x00, 0x00, 0x00, 0x01, 0x00, 0x00, 0x00, 0x00, 0x00, 0x00, 0x00, 
+  0xa6, 0xa6, 0xa6, 0xa6, 0xa6, 0xa6, 0xa6, 0xa6, 0xa6, 0xa6, 0xa6, 0xa6, 
+  0xa6, 0xa6, 0xa6, 0xa6, 0x00, 0x00, 0x00, 0x00, 0x00, 0x00, 0x00, 0x00, 
+  0x00, 0x00, 0x00, 0x00, 0x00, 0x00, 0x00, 0x00, 0x04, 0x00, 0x00, 0x00, 
   0x00, 0x00, 0x00, 0x00, 0x0e, 0x00, 0x00, 0x00, 0x00, 0x00, 0x00, 0x00, 
   0x40, 0x00, 0x00, 0x00, 0x00, 0x00, 0x00, 0x00, 0x24, 0x00, 0x00, 0x00, 
   0x00, 0x00, 0x00, 0x00, 0x0a, 0x00, 0x00, 0x00, 0x00, 0x00, 0x00, 0x00, 
@@ -390,12 +446,12 @@ struct call {
     int count, most_used; /* how many buffers, and the number of one */
     u64 number;           /* an argument that is no buffer */
     u32 flags;            /* and one beside it */
-    const u64 *numbers;   /* or more than these */
+    int begins;           /* whether `steps` and `block` may be undefined before the call */
+    const u64 *numbers;   /* or more numbers than these */
     size_t *key_len;      /* receives the number, if any */
     uint32_t *flag;       /* receives the flag, if any; with steps it is the flag */
     uint64_t *steps;      /* is the number, if any */
     u8 *block;            /* is the block, if any */
-    int begins;           /* whether these two may be undefined before the call */
 };
 
 /* The memory of the module: what a call has of its own, the constants, and the buffers. */
@@ -492,6 +548,9 @@ STORE(i32_store, u32, u32)
 STORE(i64_store, u64, u64)
 STORE(i32_store8, u8, u32)
 STORE(i32_store16, u16, u32)
+STORE(i64_store8, u8, u64)
+STORE(i64_store16, u16, u64)
+STORE(i64_store32, u32, u64)
 LOAD_CONSTANT(i32_load, u32, u32)
 #ifndef KEYWRAP_STEPS_ONLY
 LOAD_CONSTANT(i64_load, u64, u64)
@@ -532,7 +591,7 @@ ALWAYS_INLINE void clear(u64 *words, size_t size) {
 #endif
 }
 
-/* Gives each buffer its address. Between two of them there are addresses of none. */
+/* Gives each buffer its address. It leaves a gap of unused addresses between two. */
 ALWAYS_INLINE void lay_out(struct call *call) {
     u64 address = (u64)TOP + DATA + 16;
     for (int i = call->count - 1; i >= 0; i--) {
@@ -544,7 +603,7 @@ ALWAYS_INLINE void lay_out(struct call *call) {
     }
 }
 
-/* Runs the call with so many bytes of stack. */
+/* Runs the call with this many bytes of stack. */
 ALWAYS_INLINE u64 perform_in(struct call *call, size_t stack) {
     u64 words[OWN / 8], *used = words + (OWN - BESIDE - stack) / 8, status;
     u8 *block = (u8 *)words + OWN - BESIDE + 16;
@@ -575,6 +634,21 @@ ALWAYS_INLINE u64 perform_in(struct call *call, size_t stack) {
 #define ADDRESS(n) call->buffers[n].address
 #define BUFFER(n) ADDRESS(n), call->buffers[n].len
 
+/* A call with buffers: how it is declared, what performs it, its name and parameters; the arguments of
+ * the module's function; what is set in the struct call; and the buffers. */
+#define CALL(declared, performs, name, parameters, given, set, ...)                                \
+    static u64 run_##name(struct instance *module, const struct call *call) {                      \
+        return w2c_keywrap_##name given;                                                           \
+    }                                                                                              \
+    declared(int32_t, keywrap_##name) parameters {                                                 \
+        struct buffer buffers[] = {__VA_ARGS__};                                                   \
+        struct call call = {.run = run_##name, THESE set};                                         \
+        return (int32_t)performs(&call);                                                           \
+    }
+#define THESE(...) __VA_ARGS__
+#define SHOWN(type, name) type name
+#define HIDDEN(type, name) static type name
+
 /*** The module, by wasm2c ***/
 
 static u32 w2c_f0(struct instance *);
@@ -590,12 +664,12 @@ static void w2c_f7(struct instance *, u64, u64, u64, u64, u64, u64, u64, u64);
 static void w2c_f8(struct instance *, u64, u64, u64, u64, u64);
 static void w2c_f9(struct instance *, u64, u64, u32, u64, u64, u64);
 #ifndef KEYWRAP_STEPS_ONLY
-static void w2c_f10(struct instance *, u64, u64, u64, u32, u64, u64);
+static void w2c_f10(struct instance *, u64, u64, u64, u64, u64, u64);
 static void w2c_f11(struct instance *, u64, u64, u64, u64, u64);
 static u32 w2c_f12(struct instance *, u64, u64, u64, u64, u64);
 static void w2c_f13(struct instance *, u64, u64, u64, u64);
 static void w2c_f14(struct instance *, u64, u64, u64);
-static void w2c_f15(struct instance *, u64, u64, u32, u64, u64, u64, u64);
+static void w2c_f15(struct instance *, u64, u64, u64, u64, u64, u64, u64);
 static u32 w2c_f16(struct instance *, u64, u64, u64, u64, u64, u64);
 static u32 w2c_f17(struct instance *, u64, u64, u64);
 static u32 w2c_f18(struct instance *, u64, u64, u64, u64, u64, u64);
@@ -2725,11 +2799,11 @@ static u64 w2c_f6(struct instance *instance, u64 w2c_p0, u64 w2c_p1, u64 w2c_p2,
   return w2c_j0;
 }
 static void w2c_f7(struct instance *instance, u64 w2c_p0, u64 w2c_p1, u64 w2c_p2, u64 w2c_p3, u64 w2c_p4, u64 w2c_p5, u64 w2c_p6, u64 w2c_p7) {
-  u32 w2c_l13 = 0, w2c_l14 = 0, w2c_l15 = 0;
-  u64 w2c_l8 = 0, w2c_l9 = 0, w2c_l10 = 0, w2c_l11 = 0, w2c_l12 = 0;
+  u32 w2c_l14 = 0, w2c_l15 = 0;
+  u64 w2c_l8 = 0, w2c_l9 = 0, w2c_l10 = 0, w2c_l11 = 0, w2c_l12 = 0, w2c_l13 = 0;
   const struct memory memory = instance->w2c_memory;
   (void)memory;
-  u32 w2c_i0, w2c_i1, w2c_i2, w2c_i3;
+  u32 w2c_i0, w2c_i1, w2c_i2;
   u64 w2c_j0, w2c_j1, w2c_j2, w2c_j3, w2c_j4, w2c_j5, w2c_j6;
   w2c_j0 = instance->w2c_g0;
   w2c_j1 = 48ull;
@@ -2814,7 +2888,9 @@ static void w2c_f7(struct instance *instance, u64 w2c_p0, u64 w2c_p1, u64 w2c_p2
     w2c_i0 = !(w2c_i0);
     if (w2c_i0) {goto w2c_B6;}
     w2c_i0 = 2u;
-    w2c_l13 = w2c_i0;
+    w2c_l14 = w2c_i0;
+    w2c_j0 = 0ull;
+    w2c_l13 = w2c_j0;
     w2c_j0 = w2c_l8;
     w2c_i0 = (u32)(w2c_j0);
     w2c_i0 = i32_load8_u(memory, (u64)(w2c_i0) + 25u);
@@ -2822,21 +2898,19 @@ static void w2c_f7(struct instance *instance, u64 w2c_p0, u64 w2c_p1, u64 w2c_p2
     w2c_i0 = w2c_i0 == w2c_i1;
     if (w2c_i0) {goto w2c_B5;}
     w2c_i0 = 4u;
-    w2c_l14 = w2c_i0;
+    w2c_l15 = w2c_i0;
     w2c_i0 = 0u;
-    w2c_l13 = w2c_i0;
-    w2c_j0 = 0ull;
-    w2c_l9 = w2c_j0;
+    w2c_l14 = w2c_i0;
     goto w2c_B4;
     w2c_B6:;
     w2c_j0 = w2c_l8;
     w2c_i0 = (u32)(w2c_j0);
     w2c_j0 = i64_load(memory, (u64)(w2c_i0) + 40u);
-    w2c_l9 = w2c_j0;
+    w2c_l13 = w2c_j0;
     w2c_j0 = w2c_l8;
     w2c_i0 = (u32)(w2c_j0);
     w2c_i0 = i32_load8_u(memory, (u64)(w2c_i0) + 32u);
-    w2c_l13 = w2c_i0;
+    w2c_l14 = w2c_i0;
     w2c_j0 = w2c_l11;
     w2c_i0 = !(w2c_j0);
     if (w2c_i0) {goto w2c_B7;}
@@ -2852,34 +2926,30 @@ static void w2c_f7(struct instance *instance, u64 w2c_p0, u64 w2c_p1, u64 w2c_p2
     w2c_i1 = 0u;
     i32_store8(memory, (u64)(w2c_i0), w2c_i1);
     w2c_B5:;
+    w2c_i0 = w2c_l14;
+    w2c_i1 = 255u;
+    w2c_i0 &= w2c_i1;
+    w2c_i1 = 2u;
+    w2c_i0 = w2c_i0 != w2c_i1;
+    if (w2c_i0) {goto w2c_B8;}
     w2c_i0 = 5u;
-    w2c_i1 = 0u;
-    w2c_i2 = w2c_l13;
-    w2c_i3 = 255u;
-    w2c_i2 &= w2c_i3;
-    w2c_i3 = 2u;
-    w2c_i2 = w2c_i2 == w2c_i3;
-    w2c_l15 = w2c_i2;
-    w2c_i0 = w2c_i2 ? w2c_i0 : w2c_i1;
-    w2c_l14 = w2c_i0;
+    w2c_l15 = w2c_i0;
     w2c_i0 = 0u;
-    w2c_i1 = w2c_l13;
-    w2c_i2 = w2c_l15;
-    w2c_i0 = w2c_i2 ? w2c_i0 : w2c_i1;
-    w2c_l13 = w2c_i0;
-    w2c_j0 = 0ull;
-    w2c_j1 = w2c_l9;
-    w2c_i2 = w2c_l15;
-    w2c_j0 = w2c_i2 ? w2c_j0 : w2c_j1;
+    w2c_l14 = w2c_i0;
+    goto w2c_B4;
+    w2c_B8:;
+    w2c_i0 = 0u;
+    w2c_l15 = w2c_i0;
+    w2c_j0 = w2c_l13;
     w2c_l9 = w2c_j0;
     w2c_B4:;
     w2c_j0 = w2c_p6;
     w2c_i0 = (u32)(w2c_j0);
-    w2c_i1 = w2c_l14;
+    w2c_i1 = w2c_l15;
     i32_store8(memory, (u64)(w2c_i0), w2c_i1);
     w2c_j0 = w2c_p4;
     w2c_i0 = (u32)(w2c_j0);
-    w2c_i1 = w2c_l13;
+    w2c_i1 = w2c_l14;
     i32_store8(memory, (u64)(w2c_i0), w2c_i1);
     w2c_j0 = w2c_p5;
     w2c_i0 = (u32)(w2c_j0);
@@ -2916,20 +2986,20 @@ static void w2c_f7(struct instance *instance, u64 w2c_p0, u64 w2c_p1, u64 w2c_p2
   w2c_j0 = w2c_p7;
   w2c_j1 = 1ull;
   w2c_i0 = w2c_j0 == w2c_j1;
-  if (w2c_i0) {goto w2c_B8;}
+  if (w2c_i0) {goto w2c_B9;}
   w2c_j0 = w2c_p7;
   w2c_j1 = 1ull;
   w2c_j0 &= w2c_j1;
-  w2c_p3 = w2c_j0;
+  w2c_p2 = w2c_j0;
   w2c_j0 = w2c_p7;
   w2c_j1 = 18446744073709551614ull;
   w2c_j0 &= w2c_j1;
-  w2c_p2 = w2c_j0;
+  w2c_l13 = w2c_j0;
   w2c_j0 = w2c_p5;
   w2c_p1 = w2c_j0;
   w2c_j0 = 0ull;
   w2c_l9 = w2c_j0;
-  w2c_L9: 
+  w2c_L10: 
     w2c_j0 = w2c_p6;
     w2c_j1 = w2c_l9;
     w2c_j0 += w2c_j1;
@@ -2970,17 +3040,17 @@ static void w2c_f7(struct instance *instance, u64 w2c_p0, u64 w2c_p1, u64 w2c_p2
     w2c_j1 = 16ull;
     w2c_j0 += w2c_j1;
     w2c_p1 = w2c_j0;
-    w2c_j0 = w2c_p2;
+    w2c_j0 = w2c_l13;
     w2c_j1 = w2c_l9;
     w2c_j2 = 2ull;
     w2c_j1 += w2c_j2;
     w2c_l9 = w2c_j1;
     w2c_i0 = w2c_j0 != w2c_j1;
-    if (w2c_i0) {goto w2c_L9;}
-  w2c_j0 = w2c_p3;
+    if (w2c_i0) {goto w2c_L10;}
+  w2c_j0 = w2c_p2;
   w2c_i0 = !(w2c_j0);
   if (w2c_i0) {goto w2c_B0;}
-  w2c_B8:;
+  w2c_B9:;
   w2c_j0 = w2c_p6;
   w2c_j1 = w2c_l9;
   w2c_j0 += w2c_j1;
@@ -3747,15 +3817,15 @@ static void w2c_f9(struct instance *instance, u64 w2c_p0, u64 w2c_p1, u32 w2c_p2
   w2c_Bfunc:;
 }
 #ifndef KEYWRAP_STEPS_ONLY
-static void w2c_f10(struct instance *instance, u64 w2c_p0, u64 w2c_p1, u64 w2c_p2, u32 w2c_p3, u64 w2c_p4, u64 w2c_p5) {
-  u32 w2c_l12 = 0, w2c_l13 = 0, w2c_l14 = 0, w2c_l15 = 0;
-  u64 w2c_l6 = 0, w2c_l7 = 0, w2c_l8 = 0, w2c_l9 = 0, w2c_l10 = 0, w2c_l11 = 0;
+static void w2c_f10(struct instance *instance, u64 w2c_p0, u64 w2c_p1, u64 w2c_p2, u64 w2c_p3, u64 w2c_p4, u64 w2c_p5) {
+  u32 w2c_l10 = 0, w2c_l11 = 0, w2c_l12 = 0;
+  u64 w2c_l6 = 0, w2c_l7 = 0, w2c_l8 = 0, w2c_l9 = 0;
   const struct memory memory = instance->w2c_memory;
   (void)memory;
-  u32 w2c_i0, w2c_i1, w2c_i2, w2c_i3;
+  u32 w2c_i0, w2c_i1;
   u64 w2c_j0, w2c_j1, w2c_j2, w2c_j3, w2c_j4;
   w2c_j0 = instance->w2c_g0;
-  w2c_j1 = 96ull;
+  w2c_j1 = 64ull;
   w2c_j0 -= w2c_j1;
   w2c_l6 = w2c_j0;
   instance->w2c_g0 = w2c_j0;
@@ -3764,134 +3834,14 @@ static void w2c_f10(struct instance *instance, u64 w2c_p0, u64 w2c_p1, u64 w2c_p
   w2c_j1 = 16ull;
   w2c_i0 = (u64)((s64)w2c_j0 < (s64)w2c_j1);
   if (w2c_i0) {goto w2c_B0;}
-  w2c_i0 = 1u;
-  w2c_l12 = w2c_i0;
-  w2c_i0 = 0u;
-  w2c_l13 = w2c_i0;
-  w2c_i0 = 1u;
-  w2c_l14 = w2c_i0;
+  w2c_j0 = w2c_p3;
+  w2c_j1 = 40ull;
+  w2c_j0 += w2c_j1;
+  w2c_i0 = (u32)(w2c_j0);
+  w2c_i0 = i32_load8_u(memory, (u64)(w2c_i0));
+  w2c_l10 = w2c_i0;
   w2c_j0 = 0ull;
   w2c_l7 = w2c_j0;
-  w2c_i0 = 1u;
-  w2c_l15 = w2c_i0;
-  w2c_j0 = 0ull;
-  w2c_l8 = w2c_j0;
-  w2c_j0 = 0ull;
-  w2c_l9 = w2c_j0;
-  w2c_j0 = 0ull;
-  w2c_l10 = w2c_j0;
-  w2c_j0 = 0ull;
-  w2c_l11 = w2c_j0;
-  w2c_i0 = w2c_p3;
-  switch (w2c_i0) {
-    case 0: goto w2c_B7;
-    case 1: goto w2c_B6;
-    case 2: goto w2c_B5;
-    case 3: goto w2c_B4;
-    case 4: goto w2c_B2;
-    case 5: goto w2c_B1;
-    case 6: goto w2c_B1;
-    case 7: goto w2c_B1;
-    case 8: goto w2c_B7;
-    case 9: goto w2c_B6;
-    case 10: goto w2c_B5;
-    case 11: goto w2c_B4;
-    case 12: goto w2c_B2;
-    default: goto w2c_B1;
-  }
-  w2c_B7:;
-  w2c_j0 = 12008468691120727718ull;
-  w2c_l9 = w2c_j0;
-  w2c_j0 = 1ull;
-  w2c_l7 = w2c_j0;
-  w2c_i0 = 0u;
-  w2c_l14 = w2c_i0;
-  w2c_i0 = 1u;
-  w2c_l15 = w2c_i0;
-  w2c_j0 = 0ull;
-  w2c_l8 = w2c_j0;
-  w2c_j0 = 0ull;
-  w2c_l10 = w2c_j0;
-  w2c_j0 = 12008468691120727718ull;
-  w2c_l11 = w2c_j0;
-  goto w2c_B2;
-  w2c_B6:;
-  w2c_j0 = 12008468691120727718ull;
-  w2c_l11 = w2c_j0;
-  w2c_j0 = 1ull;
-  w2c_l7 = w2c_j0;
-  w2c_i0 = 0u;
-  w2c_l14 = w2c_i0;
-  w2c_i0 = 0u;
-  w2c_l15 = w2c_i0;
-  w2c_j0 = 1ull;
-  w2c_l8 = w2c_j0;
-  w2c_j0 = 0ull;
-  w2c_l9 = w2c_j0;
-  w2c_j0 = 0ull;
-  w2c_l10 = w2c_j0;
-  goto w2c_B2;
-  w2c_B5:;
-  w2c_j0 = 12008468691120727718ull;
-  w2c_l9 = w2c_j0;
-  w2c_j0 = 1ull;
-  w2c_l7 = w2c_j0;
-  w2c_i0 = 0u;
-  w2c_l14 = w2c_i0;
-  w2c_i0 = 1u;
-  w2c_l15 = w2c_i0;
-  w2c_j0 = 0ull;
-  w2c_l8 = w2c_j0;
-  w2c_i0 = 0u;
-  w2c_l12 = w2c_i0;
-  goto w2c_B3;
-  w2c_B4:;
-  w2c_j0 = 1ull;
-  w2c_l7 = w2c_j0;
-  w2c_i0 = 0u;
-  w2c_l12 = w2c_i0;
-  w2c_i0 = 0u;
-  w2c_l14 = w2c_i0;
-  w2c_i0 = 0u;
-  w2c_l15 = w2c_i0;
-  w2c_j0 = 1ull;
-  w2c_l8 = w2c_j0;
-  w2c_j0 = 0ull;
-  w2c_l9 = w2c_j0;
-  w2c_B3:;
-  w2c_j0 = 1ull;
-  w2c_l10 = w2c_j0;
-  w2c_j0 = 0ull;
-  w2c_l11 = w2c_j0;
-  w2c_B2:;
-  w2c_j0 = w2c_l6;
-  w2c_i0 = (u32)(w2c_j0);
-  w2c_j1 = w2c_l11;
-  i64_store(memory, (u64)(w2c_i0) + 32, w2c_j1);
-  w2c_j0 = w2c_l6;
-  w2c_i0 = (u32)(w2c_j0);
-  w2c_j1 = w2c_l10;
-  i64_store(memory, (u64)(w2c_i0) + 24, w2c_j1);
-  w2c_j0 = w2c_l6;
-  w2c_i0 = (u32)(w2c_j0);
-  w2c_j1 = w2c_l9;
-  i64_store(memory, (u64)(w2c_i0) + 16, w2c_j1);
-  w2c_j0 = w2c_l6;
-  w2c_i0 = (u32)(w2c_j0);
-  w2c_j1 = w2c_l8;
-  i64_store(memory, (u64)(w2c_i0) + 8, w2c_j1);
-  w2c_j0 = w2c_l6;
-  w2c_i0 = (u32)(w2c_j0);
-  w2c_j1 = w2c_l7;
-  i64_store(memory, (u64)(w2c_i0), w2c_j1);
-  w2c_j0 = w2c_l6;
-  w2c_i0 = (u32)(w2c_j0);
-  w2c_j1 = 0ull;
-  i64_store(memory, (u64)(w2c_i0) + 80, w2c_j1);
-  w2c_j0 = w2c_l6;
-  w2c_i0 = (u32)(w2c_j0);
-  w2c_j1 = 0ull;
-  i64_store(memory, (u64)(w2c_i0) + 88, w2c_j1);
   w2c_j0 = w2c_l6;
   w2c_i0 = (u32)(w2c_j0);
   w2c_j1 = 0ull;
@@ -3899,181 +3849,231 @@ static void w2c_f10(struct instance *instance, u64 w2c_p0, u64 w2c_p1, u64 w2c_p
   w2c_j0 = w2c_l6;
   w2c_i0 = (u32)(w2c_j0);
   w2c_j1 = 0ull;
-  i64_store(memory, (u64)(w2c_i0) + 40, w2c_j1);
+  i64_store(memory, (u64)(w2c_i0) + 56, w2c_j1);
   w2c_j0 = w2c_l6;
-  w2c_j1 = 40ull;
+  w2c_i0 = (u32)(w2c_j0);
+  w2c_j1 = 0ull;
+  i64_store(memory, (u64)(w2c_i0) + 16, w2c_j1);
+  w2c_j0 = w2c_l6;
+  w2c_i0 = (u32)(w2c_j0);
+  w2c_j1 = 0ull;
+  i64_store(memory, (u64)(w2c_i0) + 8, w2c_j1);
+  w2c_j0 = w2c_l6;
+  w2c_j1 = 8ull;
   w2c_j0 += w2c_j1;
   w2c_j1 = w2c_p1;
-  w2c_j2 = w2c_l6;
+  w2c_j2 = w2c_p3;
   w2c_j3 = w2c_p4;
   w2c_j4 = w2c_p5;
   w2c_f11(instance, w2c_j0, w2c_j1, w2c_j2, w2c_j3, w2c_j4);
   w2c_j0 = w2c_l6;
   w2c_i0 = (u32)(w2c_j0);
-  w2c_i0 = i32_load8_u(memory, (u64)(w2c_i0) + 40u);
-  if (w2c_i0) {goto w2c_B10;}
-  w2c_j0 = 0ull;
-  w2c_l10 = w2c_j0;
+  w2c_i0 = i32_load8_u(memory, (u64)(w2c_i0) + 8u);
+  if (w2c_i0) {goto w2c_B4;}
   w2c_j0 = w2c_l6;
   w2c_i0 = (u32)(w2c_j0);
-  w2c_j0 = i64_load(memory, (u64)(w2c_i0) + 48u);
-  w2c_l7 = w2c_j0;
-  w2c_i0 = w2c_l14;
-  w2c_i0 = !(w2c_i0);
-  if (w2c_i0) {goto w2c_B12;}
-  w2c_j0 = w2c_l7;
+  w2c_j0 = i64_load(memory, (u64)(w2c_i0) + 16u);
   w2c_l8 = w2c_j0;
-  goto w2c_B11;
-  w2c_B12:;
-  w2c_i0 = w2c_l15;
-  w2c_i0 = !(w2c_i0);
-  if (w2c_i0) {goto w2c_B13;}
-  w2c_j0 = w2c_l11;
-  w2c_j1 = w2c_p5;
-  w2c_j2 = 11986710452722728952ull;
-  w2c_j1 += w2c_j2;
-  w2c_i2 = w2c_l12;
-  w2c_j0 = w2c_i2 ? w2c_j0 : w2c_j1;
-  w2c_l8 = w2c_j0;
-  goto w2c_B11;
-  w2c_B13:;
-  w2c_j0 = w2c_l7;
-  w2c_l8 = w2c_j0;
-  w2c_i0 = w2c_l12;
-  w2c_i0 = !(w2c_i0);
-  if (w2c_i0) {goto w2c_B11;}
-  w2c_j0 = w2c_l7;
+  w2c_j0 = w2c_p3;
+  w2c_i0 = (u32)(w2c_j0);
+  w2c_i0 = i32_load8_u(memory, (u64)(w2c_i0));
+  if (w2c_i0) {goto w2c_B6;}
+  w2c_j0 = w2c_l8;
+  w2c_l9 = w2c_j0;
+  goto w2c_B5;
+  w2c_B6:;
+  w2c_j0 = w2c_p3;
+  w2c_j1 = 24ull;
+  w2c_j0 += w2c_j1;
+  w2c_i0 = (u32)(w2c_j0);
+  w2c_i0 = i32_load8_u(memory, (u64)(w2c_i0));
+  w2c_l10 = w2c_i0;
+  w2c_j0 = w2c_p3;
+  w2c_j1 = 8ull;
+  w2c_j0 += w2c_j1;
+  w2c_i0 = (u32)(w2c_j0);
+  w2c_i0 = i32_load8_u(memory, (u64)(w2c_i0));
+  if (w2c_i0) {goto w2c_B7;}
+  w2c_i0 = w2c_l10;
+  w2c_i1 = 255u;
+  w2c_i0 &= w2c_i1;
+  w2c_i1 = 1u;
+  w2c_i0 = w2c_i0 != w2c_i1;
+  if (w2c_i0) {goto w2c_B8;}
+  w2c_j0 = w2c_p5;
+  w2c_j1 = 11986710452722728952ull;
+  w2c_j0 += w2c_j1;
+  w2c_l9 = w2c_j0;
+  goto w2c_B5;
+  w2c_B8:;
+  w2c_j0 = w2c_p3;
+  w2c_j1 = 32ull;
+  w2c_j0 += w2c_j1;
+  w2c_i0 = (u32)(w2c_j0);
+  w2c_j0 = i64_load(memory, (u64)(w2c_i0));
+  w2c_l9 = w2c_j0;
+  goto w2c_B5;
+  w2c_B7:;
+  w2c_j0 = w2c_l8;
+  w2c_l9 = w2c_j0;
+  w2c_i0 = w2c_l10;
+  w2c_i1 = 255u;
+  w2c_i0 &= w2c_i1;
+  if (w2c_i0) {goto w2c_B5;}
+  w2c_j0 = w2c_l8;
   w2c_j1 = 4294967295ull;
   w2c_j0 &= w2c_j1;
   w2c_j1 = w2c_p5;
   w2c_j2 = 18446744073709551608ull;
   w2c_j1 += w2c_j2;
-  w2c_l10 = w2c_j1;
+  w2c_l7 = w2c_j1;
   w2c_j0 ^= w2c_j1;
-  w2c_j1 = w2c_l10;
+  w2c_j1 = w2c_l7;
   w2c_j2 = 8ull;
   w2c_i1 = w2c_j1 == w2c_j2;
   w2c_j1 = (u64)(w2c_i1);
   w2c_j0 |= w2c_j1;
-  w2c_l10 = w2c_j0;
-  w2c_j0 = w2c_l11;
-  w2c_l8 = w2c_j0;
-  w2c_B11:;
+  w2c_l7 = w2c_j0;
+  w2c_j0 = w2c_p3;
+  w2c_j1 = 32ull;
+  w2c_j0 += w2c_j1;
+  w2c_i0 = (u32)(w2c_j0);
+  w2c_j0 = i64_load(memory, (u64)(w2c_i0));
+  w2c_l9 = w2c_j0;
+  w2c_B5:;
   w2c_j0 = w2c_p1;
-  w2c_j1 = w2c_l7;
-  w2c_j2 = w2c_l10;
+  w2c_j1 = w2c_l8;
+  w2c_j2 = w2c_l7;
   w2c_j3 = w2c_p4;
   w2c_j4 = w2c_p5;
   w2c_i0 = w2c_f12(instance, w2c_j0, w2c_j1, w2c_j2, w2c_j3, w2c_j4);
   w2c_i1 = 255u;
   w2c_i0 &= w2c_i1;
-  if (w2c_i0) {goto w2c_B9;}
+  if (w2c_i0) {goto w2c_B3;}
   w2c_j0 = w2c_p2;
-  w2c_j1 = w2c_l8;
+  w2c_j1 = w2c_l9;
   w2c_j2 = w2c_p4;
   w2c_j3 = w2c_p5;
   w2c_f13(instance, w2c_j0, w2c_j1, w2c_j2, w2c_j3);
   w2c_i0 = 0u;
-  w2c_l13 = w2c_i0;
+  w2c_l10 = w2c_i0;
   w2c_i0 = 0u;
-  w2c_l12 = w2c_i0;
+  w2c_l11 = w2c_i0;
   goto w2c_B1;
-  w2c_B10:;
+  w2c_B4:;
+  w2c_i0 = 1u;
+  w2c_l11 = w2c_i0;
   w2c_j0 = w2c_l6;
   w2c_i0 = (u32)(w2c_j0);
-  w2c_i0 = i32_load8_u(memory, (u64)(w2c_i0) + 41u);
-  w2c_l15 = w2c_i0;
-  w2c_i0 = 1u;
+  w2c_i0 = i32_load8_u(memory, (u64)(w2c_i0) + 9u);
   w2c_l12 = w2c_i0;
-  w2c_i0 = w2c_p3;
-  w2c_i1 = 7u;
-  w2c_i0 = w2c_i0 > w2c_i1;
-  if (w2c_i0) {goto w2c_B8;}
-  w2c_i0 = w2c_l15;
-  w2c_l13 = w2c_i0;
+  w2c_i0 = w2c_l10;
+  w2c_i1 = 1u;
+  w2c_i0 &= w2c_i1;
+  if (w2c_i0) {goto w2c_B2;}
+  w2c_i0 = w2c_l12;
+  w2c_l10 = w2c_i0;
   goto w2c_B1;
-  w2c_B9:;
+  w2c_B3:;
   w2c_i0 = 1u;
-  w2c_l12 = w2c_i0;
+  w2c_l11 = w2c_i0;
   w2c_i0 = 2u;
-  w2c_l13 = w2c_i0;
+  w2c_l10 = w2c_i0;
   goto w2c_B1;
-  w2c_B8:;
+  w2c_B2:;
   w2c_i0 = 2u;
-  w2c_l13 = w2c_i0;
-  w2c_i0 = w2c_l15;
+  w2c_l10 = w2c_i0;
+  w2c_i0 = w2c_l12;
   w2c_i1 = 255u;
   w2c_i0 &= w2c_i1;
   w2c_i1 = 2u;
   w2c_i0 = w2c_i0 == w2c_i1;
   if (w2c_i0) {goto w2c_B1;}
+  w2c_j0 = w2c_p3;
+  w2c_i0 = (u32)(w2c_j0);
+  w2c_j0 = i64_load8_u(memory, (u64)(w2c_i0));
+  w2c_l7 = w2c_j0;
+  w2c_i0 = !(w2c_j0);
+  w2c_i0 = !(w2c_i0);
+  if (w2c_i0) {goto w2c_B10;}
+  w2c_j0 = 0ull;
+  w2c_p1 = w2c_j0;
+  w2c_j0 = 0ull;
+  w2c_p3 = w2c_j0;
+  goto w2c_B9;
+  w2c_B10:;
+  w2c_j0 = w2c_p3;
+  w2c_j1 = 24ull;
+  w2c_j0 += w2c_j1;
+  w2c_i0 = (u32)(w2c_j0);
+  w2c_j0 = i64_load8_u(memory, (u64)(w2c_i0));
+  w2c_p1 = w2c_j0;
+  w2c_j0 = w2c_p3;
+  w2c_j1 = 32ull;
+  w2c_j0 += w2c_j1;
+  w2c_i0 = (u32)(w2c_j0);
+  w2c_j0 = i64_load(memory, (u64)(w2c_i0));
+  w2c_p3 = w2c_j0;
+  w2c_B9:;
   w2c_j0 = w2c_l6;
   w2c_i0 = (u32)(w2c_j0);
-  w2c_j1 = w2c_l7;
+  w2c_j1 = w2c_p3;
   i64_store(memory, (u64)(w2c_i0) + 40, w2c_j1);
   w2c_j0 = w2c_l6;
   w2c_i0 = (u32)(w2c_j0);
-  w2c_j1 = 0ull;
-  w2c_j2 = w2c_l11;
-  w2c_i3 = w2c_l14;
-  w2c_j1 = w2c_i3 ? w2c_j1 : w2c_j2;
-  w2c_l11 = w2c_j1;
-  i64_store(memory, (u64)(w2c_i0) + 72, w2c_j1);
+  w2c_j1 = w2c_p1;
+  i64_store(memory, (u64)(w2c_i0) + 32, w2c_j1);
   w2c_j0 = w2c_l6;
   w2c_i0 = (u32)(w2c_j0);
-  w2c_j1 = 0ull;
-  w2c_j2 = w2c_l10;
-  w2c_i3 = w2c_l14;
-  w2c_j1 = w2c_i3 ? w2c_j1 : w2c_j2;
-  w2c_l7 = w2c_j1;
-  i64_store(memory, (u64)(w2c_i0) + 64, w2c_j1);
+  w2c_j1 = w2c_p3;
+  i64_store(memory, (u64)(w2c_i0) + 24, w2c_j1);
   w2c_j0 = w2c_l6;
   w2c_i0 = (u32)(w2c_j0);
-  w2c_j1 = w2c_l11;
-  i64_store(memory, (u64)(w2c_i0) + 56, w2c_j1);
+  w2c_j1 = w2c_p1;
+  i64_store(memory, (u64)(w2c_i0) + 16, w2c_j1);
   w2c_j0 = w2c_l6;
   w2c_i0 = (u32)(w2c_j0);
   w2c_j1 = w2c_l7;
-  i64_store(memory, (u64)(w2c_i0) + 48, w2c_j1);
+  i64_store(memory, (u64)(w2c_i0) + 8, w2c_j1);
   w2c_j0 = w2c_l6;
-  w2c_j1 = 80ull;
+  w2c_j1 = 48ull;
   w2c_j0 += w2c_j1;
   w2c_j1 = w2c_p2;
   w2c_j2 = w2c_l6;
-  w2c_j3 = 40ull;
+  w2c_j3 = 8ull;
   w2c_j2 += w2c_j3;
   w2c_j3 = w2c_p4;
   w2c_j4 = w2c_p5;
   w2c_f11(instance, w2c_j0, w2c_j1, w2c_j2, w2c_j3, w2c_j4);
-  w2c_i0 = w2c_l15;
-  w2c_l13 = w2c_i0;
+  w2c_i0 = w2c_l12;
+  w2c_l10 = w2c_i0;
   w2c_j0 = w2c_l6;
   w2c_i0 = (u32)(w2c_j0);
-  w2c_i0 = i32_load8_u(memory, (u64)(w2c_i0) + 80u);
-  w2c_l12 = w2c_i0;
+  w2c_i0 = i32_load8_u(memory, (u64)(w2c_i0) + 48u);
+  w2c_l11 = w2c_i0;
   if (w2c_i0) {goto w2c_B1;}
   w2c_j0 = w2c_p2;
   w2c_j1 = w2c_l6;
   w2c_i1 = (u32)(w2c_j1);
-  w2c_j1 = i64_load(memory, (u64)(w2c_i1) + 88u);
+  w2c_j1 = i64_load(memory, (u64)(w2c_i1) + 56u);
   w2c_j2 = w2c_p4;
   w2c_j3 = w2c_p5;
   w2c_f13(instance, w2c_j0, w2c_j1, w2c_j2, w2c_j3);
   w2c_i0 = 0u;
-  w2c_l12 = w2c_i0;
+  w2c_l11 = w2c_i0;
   w2c_i0 = 1u;
-  w2c_l13 = w2c_i0;
+  w2c_l10 = w2c_i0;
   w2c_B1:;
   w2c_j0 = w2c_p0;
   w2c_i0 = (u32)(w2c_j0);
-  w2c_i1 = w2c_l13;
+  w2c_i1 = w2c_l10;
   i32_store8(memory, (u64)(w2c_i0) + 1, w2c_i1);
   w2c_j0 = w2c_p0;
   w2c_i0 = (u32)(w2c_j0);
-  w2c_i1 = w2c_l12;
+  w2c_i1 = w2c_l11;
   i32_store8(memory, (u64)(w2c_i0), w2c_i1);
   w2c_j0 = w2c_l6;
-  w2c_j1 = 96ull;
+  w2c_j1 = 64ull;
   w2c_j0 += w2c_j1;
   instance->w2c_g0 = w2c_j0;
   goto w2c_Bfunc;
@@ -5380,12 +5380,12 @@ static void w2c_f14(struct instance *instance, u64 w2c_p0, u64 w2c_p1, u64 w2c_p
   UNREACHABLE;
   w2c_Bfunc:;
 }
-static void w2c_f15(struct instance *instance, u64 w2c_p0, u64 w2c_p1, u32 w2c_p2, u64 w2c_p3, u64 w2c_p4, u64 w2c_p5, u64 w2c_p6) {
+static void w2c_f15(struct instance *instance, u64 w2c_p0, u64 w2c_p1, u64 w2c_p2, u64 w2c_p3, u64 w2c_p4, u64 w2c_p5, u64 w2c_p6) {
   u32 w2c_l8 = 0;
   u64 w2c_l7 = 0;
   const struct memory memory = instance->w2c_memory;
   (void)memory;
-  u32 w2c_i0, w2c_i1, w2c_i2, w2c_i3;
+  u32 w2c_i0, w2c_i1, w2c_i2;
   u64 w2c_j0, w2c_j1, w2c_j2, w2c_j3, w2c_j4, w2c_j5;
   w2c_j0 = instance->w2c_g0;
   w2c_j1 = 48ull;
@@ -5426,10 +5426,10 @@ static void w2c_f15(struct instance *instance, u64 w2c_p0, u64 w2c_p1, u32 w2c_p
     w2c_j2 = w2c_l7;
     w2c_j3 = 16ull;
     w2c_j2 += w2c_j3;
-    w2c_i3 = w2c_p2;
+    w2c_j3 = w2c_p2;
     w2c_j4 = w2c_p4;
     w2c_j5 = w2c_p3;
-    w2c_f10(instance, w2c_j0, w2c_j1, w2c_j2, w2c_i3, w2c_j4, w2c_j5);
+    w2c_f10(instance, w2c_j0, w2c_j1, w2c_j2, w2c_j3, w2c_j4, w2c_j5);
     w2c_j0 = w2c_l7;
     w2c_i0 = (u32)(w2c_j0);
     w2c_i0 = i32_load8_u(memory, (u64)(w2c_i0) + 9u);
@@ -8289,12 +8289,10 @@ static u32 w2c_f20(struct instance *instance, u64 w2c_p0, u64 w2c_p1, u64 w2c_p2
   if (w2c_i0) {goto w2c_B1;}
   w2c_j0 = w2c_p5;
   w2c_j1 = w2c_p3;
-  w2c_j2 = 7ull;
+  w2c_j2 = 15ull;
   w2c_j1 += w2c_j2;
   w2c_j2 = 4194296ull;
   w2c_j1 &= w2c_j2;
-  w2c_j2 = 8ull;
-  w2c_j1 += w2c_j2;
   w2c_i0 = w2c_j0 != w2c_j1;
   if (w2c_i0) {goto w2c_B1;}
   w2c_j0 = w2c_p4;
@@ -8863,10 +8861,10 @@ static u32 w2c_f21(struct instance *instance, u64 w2c_p0, u64 w2c_p1, u64 w2c_p2
   return w2c_i0;
 }
 static void w2c_f22(struct instance *instance, u64 w2c_p0, u32 w2c_p1, u64 w2c_p2, u64 w2c_p3, u64 w2c_p4, u64 w2c_p5, u64 w2c_p6) {
-  u64 w2c_l7 = 0, w2c_l8 = 0, w2c_l9 = 0, w2c_l10 = 0, w2c_l11 = 0, w2c_l12 = 0, w2c_l13 = 0;
+  u64 w2c_l7 = 0, w2c_l8 = 0, w2c_l9 = 0, w2c_l10 = 0, w2c_l11 = 0, w2c_l12 = 0;
   const struct memory memory = instance->w2c_memory;
   (void)memory;
-  u32 w2c_i0, w2c_i1, w2c_i2, w2c_i3;
+  u32 w2c_i0, w2c_i1, w2c_i2, w2c_i3, w2c_i4;
   u64 w2c_j0, w2c_j1, w2c_j2, w2c_j3, w2c_j4, w2c_j5, w2c_j6, w2c_j7;
   w2c_j0 = instance->w2c_g0;
   w2c_j1 = 32ull;
@@ -8877,10 +8875,10 @@ static void w2c_f22(struct instance *instance, u64 w2c_p0, u32 w2c_p1, u64 w2c_p
   w2c_l7 = w2c_j0;
   w2c_j1 = 16ull;
   w2c_i0 = (u64)((s64)w2c_j0 < (s64)w2c_j1);
-  if (w2c_i0) {goto w2c_B0;}
+  if (w2c_i0) {goto w2c_B3;}
   w2c_j0 = w2c_p6;
   w2c_i0 = !(w2c_j0);
-  if (w2c_i0) {goto w2c_B1;}
+  if (w2c_i0) {goto w2c_B0;}
   w2c_j0 = w2c_p2;
   w2c_j1 = 18446744073709551608ull;
   w2c_j0 += w2c_j1;
@@ -8892,20 +8890,20 @@ static void w2c_f22(struct instance *instance, u64 w2c_p0, u32 w2c_p1, u64 w2c_p
   w2c_i0 = w2c_p1;
   w2c_i1 = 255u;
   w2c_i0 &= w2c_i1;
-  if (w2c_i0) {goto w2c_B2;}
+  if (w2c_i0) {goto w2c_B4;}
   w2c_j0 = 0ull;
   w2c_l10 = w2c_j0;
   w2c_j0 = w2c_l9;
   w2c_j1 = 0ull;
   w2c_i0 = w2c_j0 != w2c_j1;
-  if (w2c_i0) {goto w2c_B4;}
+  if (w2c_i0) {goto w2c_B5;}
   w2c_j0 = w2c_p2;
   w2c_j1 = 18446744073709551592ull;
   w2c_j0 += w2c_j1;
   w2c_j1 = 1048560ull;
   w2c_i0 = w2c_j0 <= w2c_j1;
-  if (w2c_i0) {goto w2c_B3;}
-  w2c_B4:;
+  if (w2c_i0) {goto w2c_B2;}
+  w2c_B5:;
   w2c_j0 = w2c_p6;
   w2c_j1 = 3ull;
   w2c_j0 &= w2c_j1;
@@ -8913,7 +8911,7 @@ static void w2c_f22(struct instance *instance, u64 w2c_p0, u32 w2c_p1, u64 w2c_p
   w2c_j0 = w2c_p6;
   w2c_j1 = 4ull;
   w2c_i0 = w2c_j0 < w2c_j1;
-  if (w2c_i0) {goto w2c_B5;}
+  if (w2c_i0) {goto w2c_B6;}
   w2c_j0 = w2c_p6;
   w2c_j1 = 18446744073709551612ull;
   w2c_j0 &= w2c_j1;
@@ -8922,7 +8920,7 @@ static void w2c_f22(struct instance *instance, u64 w2c_p0, u32 w2c_p1, u64 w2c_p
   w2c_p3 = w2c_j0;
   w2c_j0 = 0ull;
   w2c_l10 = w2c_j0;
-  w2c_L6: 
+  w2c_L7: 
     w2c_j0 = w2c_p5;
     w2c_j1 = w2c_l10;
     w2c_j0 += w2c_j1;
@@ -8980,11 +8978,11 @@ static void w2c_f22(struct instance *instance, u64 w2c_p0, u32 w2c_p1, u64 w2c_p
     w2c_j1 += w2c_j2;
     w2c_l10 = w2c_j1;
     w2c_i0 = w2c_j0 != w2c_j1;
-    if (w2c_i0) {goto w2c_L6;}
+    if (w2c_i0) {goto w2c_L7;}
   w2c_j0 = w2c_l8;
   w2c_i0 = !(w2c_j0);
-  if (w2c_i0) {goto w2c_B1;}
-  w2c_B5:;
+  if (w2c_i0) {goto w2c_B0;}
+  w2c_B6:;
   w2c_j0 = w2c_p5;
   w2c_j1 = w2c_l10;
   w2c_j0 += w2c_j1;
@@ -8995,7 +8993,7 @@ static void w2c_f22(struct instance *instance, u64 w2c_p0, u32 w2c_p1, u64 w2c_p
   w2c_j1 <<= (w2c_j2 & 63);
   w2c_j0 += w2c_j1;
   w2c_l9 = w2c_j0;
-  w2c_L7: 
+  w2c_L8: 
     w2c_j0 = w2c_p3;
     w2c_i0 = (u32)(w2c_j0);
     w2c_i1 = 4u;
@@ -9018,11 +9016,142 @@ static void w2c_f22(struct instance *instance, u64 w2c_p0, u32 w2c_p1, u64 w2c_p
     w2c_l8 = w2c_j0;
     w2c_i0 = !(w2c_j0);
     w2c_i0 = !(w2c_i0);
-    if (w2c_i0) {goto w2c_L7;}
-    goto w2c_B1;
+    if (w2c_i0) {goto w2c_L8;}
+    goto w2c_B0;
+  UNREACHABLE;
+  w2c_B4:;
+  w2c_j0 = 0ull;
+  w2c_l10 = w2c_j0;
+  w2c_j0 = w2c_l9;
+  w2c_j1 = 0ull;
+  w2c_i0 = w2c_j0 != w2c_j1;
+  if (w2c_i0) {goto w2c_B9;}
+  w2c_j0 = w2c_p2;
+  w2c_j1 = 18446744073709551600ull;
+  w2c_j0 += w2c_j1;
+  w2c_j1 = 1048568ull;
+  w2c_i0 = w2c_j0 <= w2c_j1;
+  if (w2c_i0) {goto w2c_B1;}
+  w2c_B9:;
+  w2c_j0 = w2c_p6;
+  w2c_j1 = 3ull;
+  w2c_j0 &= w2c_j1;
+  w2c_l8 = w2c_j0;
+  w2c_j0 = w2c_p6;
+  w2c_j1 = 4ull;
+  w2c_i0 = w2c_j0 < w2c_j1;
+  if (w2c_i0) {goto w2c_B10;}
+  w2c_j0 = w2c_p6;
+  w2c_j1 = 18446744073709551612ull;
+  w2c_j0 &= w2c_j1;
+  w2c_p6 = w2c_j0;
+  w2c_j0 = w2c_p4;
+  w2c_p3 = w2c_j0;
+  w2c_j0 = 0ull;
+  w2c_l10 = w2c_j0;
+  w2c_L11: 
+    w2c_j0 = w2c_p5;
+    w2c_j1 = w2c_l10;
+    w2c_j0 += w2c_j1;
+    w2c_l9 = w2c_j0;
+    w2c_i0 = (u32)(w2c_j0);
+    w2c_i1 = 4u;
+    i32_store8(memory, (u64)(w2c_i0), w2c_i1);
+    w2c_j0 = w2c_p3;
+    w2c_i0 = (u32)(w2c_j0);
+    w2c_j1 = 0ull;
+    i64_store(memory, (u64)(w2c_i0), w2c_j1);
+    w2c_j0 = w2c_l9;
+    w2c_j1 = 1ull;
+    w2c_j0 += w2c_j1;
+    w2c_i0 = (u32)(w2c_j0);
+    w2c_i1 = 4u;
+    i32_store8(memory, (u64)(w2c_i0), w2c_i1);
+    w2c_j0 = w2c_p3;
+    w2c_j1 = 8ull;
+    w2c_j0 += w2c_j1;
+    w2c_i0 = (u32)(w2c_j0);
+    w2c_j1 = 0ull;
+    i64_store(memory, (u64)(w2c_i0), w2c_j1);
+    w2c_j0 = w2c_l9;
+    w2c_j1 = 2ull;
+    w2c_j0 += w2c_j1;
+    w2c_i0 = (u32)(w2c_j0);
+    w2c_i1 = 4u;
+    i32_store8(memory, (u64)(w2c_i0), w2c_i1);
+    w2c_j0 = w2c_p3;
+    w2c_j1 = 16ull;
+    w2c_j0 += w2c_j1;
+    w2c_i0 = (u32)(w2c_j0);
+    w2c_j1 = 0ull;
+    i64_store(memory, (u64)(w2c_i0), w2c_j1);
+    w2c_j0 = w2c_l9;
+    w2c_j1 = 3ull;
+    w2c_j0 += w2c_j1;
+    w2c_i0 = (u32)(w2c_j0);
+    w2c_i1 = 4u;
+    i32_store8(memory, (u64)(w2c_i0), w2c_i1);
+    w2c_j0 = w2c_p3;
+    w2c_j1 = 24ull;
+    w2c_j0 += w2c_j1;
+    w2c_i0 = (u32)(w2c_j0);
+    w2c_j1 = 0ull;
+    i64_store(memory, (u64)(w2c_i0), w2c_j1);
+    w2c_j0 = w2c_p3;
+    w2c_j1 = 32ull;
+    w2c_j0 += w2c_j1;
+    w2c_p3 = w2c_j0;
+    w2c_j0 = w2c_p6;
+    w2c_j1 = w2c_l10;
+    w2c_j2 = 4ull;
+    w2c_j1 += w2c_j2;
+    w2c_l10 = w2c_j1;
+    w2c_i0 = w2c_j0 != w2c_j1;
+    if (w2c_i0) {goto w2c_L11;}
+  w2c_j0 = w2c_l8;
+  w2c_i0 = !(w2c_j0);
+  if (w2c_i0) {goto w2c_B0;}
+  w2c_B10:;
+  w2c_j0 = w2c_p5;
+  w2c_j1 = w2c_l10;
+  w2c_j0 += w2c_j1;
+  w2c_p3 = w2c_j0;
+  w2c_j0 = w2c_p4;
+  w2c_j1 = w2c_l10;
+  w2c_j2 = 3ull;
+  w2c_j1 <<= (w2c_j2 & 63);
+  w2c_j0 += w2c_j1;
+  w2c_l9 = w2c_j0;
+  w2c_L12: 
+    w2c_j0 = w2c_p3;
+    w2c_i0 = (u32)(w2c_j0);
+    w2c_i1 = 4u;
+    i32_store8(memory, (u64)(w2c_i0), w2c_i1);
+    w2c_j0 = w2c_l9;
+    w2c_i0 = (u32)(w2c_j0);
+    w2c_j1 = 0ull;
+    i64_store(memory, (u64)(w2c_i0), w2c_j1);
+    w2c_j0 = w2c_p3;
+    w2c_j1 = 1ull;
+    w2c_j0 += w2c_j1;
+    w2c_p3 = w2c_j0;
+    w2c_j0 = w2c_l9;
+    w2c_j1 = 8ull;
+    w2c_j0 += w2c_j1;
+    w2c_l9 = w2c_j0;
+    w2c_j0 = w2c_l8;
+    w2c_j1 = 18446744073709551615ull;
+    w2c_j0 += w2c_j1;
+    w2c_l8 = w2c_j0;
+    w2c_j1 = 0ull;
+    w2c_i0 = w2c_j0 != w2c_j1;
+    if (w2c_i0) {goto w2c_L12;}
+    goto w2c_B0;
   UNREACHABLE;
   w2c_B3:;
-  w2c_L8: 
+  UNREACHABLE;
+  w2c_B2:;
+  w2c_L13: 
     w2c_j0 = w2c_p3;
     w2c_i0 = (u32)(w2c_j0);
     w2c_j0 = i64_load(memory, (u64)(w2c_i0));
@@ -9097,51 +9226,31 @@ static void w2c_f22(struct instance *instance, u64 w2c_p0, u32 w2c_p1, u64 w2c_p
     w2c_j2 = w2c_l9;
     w2c_j3 = w2c_l8;
     w2c_f3(instance, w2c_j0, w2c_j1, w2c_j2, w2c_j3);
-    w2c_j0 = w2c_l7;
-    w2c_i0 = (u32)(w2c_j0);
-    w2c_i0 = i32_load8_u(memory, (u64)(w2c_i0));
-    w2c_p1 = w2c_i0;
-    w2c_j0 = w2c_l7;
-    w2c_i0 = (u32)(w2c_j0);
-    w2c_i0 = i32_load8_u(memory, (u64)(w2c_i0) + 1u);
-    w2c_i1 = 255u;
-    w2c_i0 &= w2c_i1;
-    w2c_i0 = !(w2c_i0);
-    if (w2c_i0) {goto w2c_B12;}
-    w2c_i0 = w2c_p1;
-    w2c_i1 = 1u;
-    w2c_i0 &= w2c_i1;
-    w2c_i0 = !(w2c_i0);
-    if (w2c_i0) {goto w2c_B11;}
-    w2c_j0 = 0ull;
-    w2c_l9 = w2c_j0;
-    w2c_i0 = 5u;
-    w2c_p1 = w2c_i0;
-    goto w2c_B9;
-    w2c_B12:;
-    w2c_i0 = w2c_p1;
-    w2c_i1 = 1u;
-    w2c_i0 &= w2c_i1;
-    if (w2c_i0) {goto w2c_B10;}
-    w2c_B11:;
-    w2c_i0 = 0u;
-    w2c_p1 = w2c_i0;
-    w2c_j0 = w2c_l8;
-    w2c_l9 = w2c_j0;
-    goto w2c_B9;
-    w2c_B10:;
-    w2c_j0 = 0ull;
-    w2c_l9 = w2c_j0;
-    w2c_i0 = 4u;
-    w2c_p1 = w2c_i0;
-    w2c_B9:;
     w2c_j0 = w2c_p5;
     w2c_i0 = (u32)(w2c_j0);
-    w2c_i1 = w2c_p1;
+    w2c_i1 = 5u;
+    w2c_i2 = 4u;
+    w2c_j3 = w2c_l7;
+    w2c_i3 = (u32)(w2c_j3);
+    w2c_i3 = i32_load8_u(memory, (u64)(w2c_i3) + 1u);
+    w2c_i4 = 255u;
+    w2c_i3 &= w2c_i4;
+    w2c_i1 = w2c_i3 ? w2c_i1 : w2c_i2;
+    w2c_i2 = 0u;
+    w2c_j3 = w2c_l7;
+    w2c_i3 = (u32)(w2c_j3);
+    w2c_i3 = i32_load8_u(memory, (u64)(w2c_i3));
+    w2c_i4 = 1u;
+    w2c_i3 &= w2c_i4;
+    w2c_p1 = w2c_i3;
+    w2c_i1 = w2c_i3 ? w2c_i1 : w2c_i2;
     i32_store8(memory, (u64)(w2c_i0), w2c_i1);
     w2c_j0 = w2c_p4;
     w2c_i0 = (u32)(w2c_j0);
-    w2c_j1 = w2c_l9;
+    w2c_j1 = 0ull;
+    w2c_j2 = w2c_l8;
+    w2c_i3 = w2c_p1;
+    w2c_j1 = w2c_i3 ? w2c_j1 : w2c_j2;
     i64_store(memory, (u64)(w2c_i0), w2c_j1);
     w2c_j0 = w2c_p3;
     w2c_j1 = w2c_p2;
@@ -9161,146 +9270,15 @@ static void w2c_f22(struct instance *instance, u64 w2c_p0, u32 w2c_p1, u64 w2c_p
     w2c_p6 = w2c_j0;
     w2c_i0 = !(w2c_j0);
     w2c_i0 = !(w2c_i0);
-    if (w2c_i0) {goto w2c_L8;}
-    goto w2c_B1;
+    if (w2c_i0) {goto w2c_L13;}
+    goto w2c_B0;
   UNREACHABLE;
-  w2c_B2:;
-  w2c_j0 = 0ull;
-  w2c_l10 = w2c_j0;
-  w2c_j0 = w2c_l9;
-  w2c_j1 = 0ull;
-  w2c_i0 = w2c_j0 != w2c_j1;
-  if (w2c_i0) {goto w2c_B14;}
-  w2c_j0 = w2c_p2;
-  w2c_j1 = 18446744073709551600ull;
-  w2c_j0 += w2c_j1;
-  w2c_j1 = 1048568ull;
-  w2c_i0 = w2c_j0 <= w2c_j1;
-  if (w2c_i0) {goto w2c_B13;}
-  w2c_B14:;
-  w2c_j0 = w2c_p6;
-  w2c_j1 = 3ull;
-  w2c_j0 &= w2c_j1;
-  w2c_l8 = w2c_j0;
-  w2c_j0 = w2c_p6;
-  w2c_j1 = 4ull;
-  w2c_i0 = w2c_j0 < w2c_j1;
-  if (w2c_i0) {goto w2c_B15;}
-  w2c_j0 = w2c_p6;
-  w2c_j1 = 18446744073709551612ull;
-  w2c_j0 &= w2c_j1;
-  w2c_p6 = w2c_j0;
-  w2c_j0 = w2c_p4;
-  w2c_p3 = w2c_j0;
-  w2c_j0 = 0ull;
-  w2c_l10 = w2c_j0;
-  w2c_L16: 
-    w2c_j0 = w2c_p5;
-    w2c_j1 = w2c_l10;
-    w2c_j0 += w2c_j1;
-    w2c_l9 = w2c_j0;
-    w2c_i0 = (u32)(w2c_j0);
-    w2c_i1 = 4u;
-    i32_store8(memory, (u64)(w2c_i0), w2c_i1);
-    w2c_j0 = w2c_p3;
-    w2c_i0 = (u32)(w2c_j0);
-    w2c_j1 = 0ull;
-    i64_store(memory, (u64)(w2c_i0), w2c_j1);
-    w2c_j0 = w2c_l9;
-    w2c_j1 = 1ull;
-    w2c_j0 += w2c_j1;
-    w2c_i0 = (u32)(w2c_j0);
-    w2c_i1 = 4u;
-    i32_store8(memory, (u64)(w2c_i0), w2c_i1);
-    w2c_j0 = w2c_p3;
-    w2c_j1 = 8ull;
-    w2c_j0 += w2c_j1;
-    w2c_i0 = (u32)(w2c_j0);
-    w2c_j1 = 0ull;
-    i64_store(memory, (u64)(w2c_i0), w2c_j1);
-    w2c_j0 = w2c_l9;
-    w2c_j1 = 2ull;
-    w2c_j0 += w2c_j1;
-    w2c_i0 = (u32)(w2c_j0);
-    w2c_i1 = 4u;
-    i32_store8(memory, (u64)(w2c_i0), w2c_i1);
-    w2c_j0 = w2c_p3;
-    w2c_j1 = 16ull;
-    w2c_j0 += w2c_j1;
-    w2c_i0 = (u32)(w2c_j0);
-    w2c_j1 = 0ull;
-    i64_store(memory, (u64)(w2c_i0), w2c_j1);
-    w2c_j0 = w2c_l9;
-    w2c_j1 = 3ull;
-    w2c_j0 += w2c_j1;
-    w2c_i0 = (u32)(w2c_j0);
-    w2c_i1 = 4u;
-    i32_store8(memory, (u64)(w2c_i0), w2c_i1);
-    w2c_j0 = w2c_p3;
-    w2c_j1 = 24ull;
-    w2c_j0 += w2c_j1;
-    w2c_i0 = (u32)(w2c_j0);
-    w2c_j1 = 0ull;
-    i64_store(memory, (u64)(w2c_i0), w2c_j1);
-    w2c_j0 = w2c_p3;
-    w2c_j1 = 32ull;
-    w2c_j0 += w2c_j1;
-    w2c_p3 = w2c_j0;
-    w2c_j0 = w2c_p6;
-    w2c_j1 = w2c_l10;
-    w2c_j2 = 4ull;
-    w2c_j1 += w2c_j2;
-    w2c_l10 = w2c_j1;
-    w2c_i0 = w2c_j0 != w2c_j1;
-    if (w2c_i0) {goto w2c_L16;}
-  w2c_j0 = w2c_l8;
-  w2c_i0 = !(w2c_j0);
-  if (w2c_i0) {goto w2c_B1;}
-  w2c_B15:;
-  w2c_j0 = w2c_p5;
-  w2c_j1 = w2c_l10;
-  w2c_j0 += w2c_j1;
-  w2c_p3 = w2c_j0;
-  w2c_j0 = w2c_p4;
-  w2c_j1 = w2c_l10;
-  w2c_j2 = 3ull;
-  w2c_j1 <<= (w2c_j2 & 63);
-  w2c_j0 += w2c_j1;
-  w2c_l9 = w2c_j0;
-  w2c_L17: 
-    w2c_j0 = w2c_p3;
-    w2c_i0 = (u32)(w2c_j0);
-    w2c_i1 = 4u;
-    i32_store8(memory, (u64)(w2c_i0), w2c_i1);
-    w2c_j0 = w2c_l9;
-    w2c_i0 = (u32)(w2c_j0);
-    w2c_j1 = 0ull;
-    i64_store(memory, (u64)(w2c_i0), w2c_j1);
-    w2c_j0 = w2c_p3;
-    w2c_j1 = 1ull;
-    w2c_j0 += w2c_j1;
-    w2c_p3 = w2c_j0;
-    w2c_j0 = w2c_l9;
-    w2c_j1 = 8ull;
-    w2c_j0 += w2c_j1;
-    w2c_l9 = w2c_j0;
-    w2c_j0 = w2c_l8;
-    w2c_j1 = 18446744073709551615ull;
-    w2c_j0 += w2c_j1;
-    w2c_l8 = w2c_j0;
-    w2c_j1 = 0ull;
-    w2c_i0 = w2c_j0 != w2c_j1;
-    if (w2c_i0) {goto w2c_L17;}
-    goto w2c_B1;
-  UNREACHABLE;
-  w2c_B13:;
-  w2c_L18: 
+  w2c_B1:;
+  w2c_L14: 
     w2c_j0 = w2c_p3;
     w2c_i0 = (u32)(w2c_j0);
     w2c_j0 = i64_load(memory, (u64)(w2c_i0));
     w2c_l9 = w2c_j0;
-    w2c_j0 = 0ull;
-    w2c_l10 = w2c_j0;
     w2c_j0 = w2c_p3;
     w2c_i0 = (u32)(w2c_j0);
     w2c_j1 = 0ull;
@@ -9366,15 +9344,15 @@ static void w2c_f22(struct instance *instance, u64 w2c_p0, u32 w2c_p1, u64 w2c_p
     w2c_j4 = w2c_p3;
     w2c_j5 = 8ull;
     w2c_j4 += w2c_j5;
-    w2c_l11 = w2c_j4;
+    w2c_l10 = w2c_j4;
     w2c_j5 = w2c_l8;
     w2c_j2 = w2c_f6(instance, w2c_j2, w2c_j3, w2c_j4, w2c_j5);
     w2c_l9 = w2c_j2;
     w2c_j3 = 4294967295ull;
     w2c_j2 &= w2c_j3;
-    w2c_l12 = w2c_j2;
+    w2c_l11 = w2c_j2;
     w2c_j1 -= w2c_j2;
-    w2c_l13 = w2c_j1;
+    w2c_l12 = w2c_j1;
     w2c_j2 = 3ull;
     w2c_j1 >>= (w2c_j2 & 63);
     w2c_j2 = w2c_l9;
@@ -9432,7 +9410,7 @@ static void w2c_f22(struct instance *instance, u64 w2c_p0, u32 w2c_p1, u64 w2c_p
     w2c_j3 |= w2c_j4;
     w2c_j2 |= w2c_j3;
     w2c_j3 = 18446744073709551615ull;
-    w2c_j4 = w2c_l13;
+    w2c_j4 = w2c_l12;
     w2c_j5 = 3ull;
     w2c_j4 <<= (w2c_j5 & 63);
     w2c_j3 <<= (w2c_j4 & 63);
@@ -9440,39 +9418,34 @@ static void w2c_f22(struct instance *instance, u64 w2c_p0, u32 w2c_p1, u64 w2c_p
     w2c_j3 ^= w2c_j4;
     w2c_j2 &= w2c_j3;
     w2c_j1 |= w2c_j2;
-    w2c_j2 = w2c_l11;
+    w2c_j2 = w2c_l10;
     w2c_j3 = w2c_l8;
     w2c_f3(instance, w2c_j0, w2c_j1, w2c_j2, w2c_j3);
-    w2c_j0 = w2c_l7;
-    w2c_i0 = (u32)(w2c_j0);
-    w2c_i0 = i32_load8_u(memory, (u64)(w2c_i0) + 8u);
-    w2c_i1 = 255u;
-    w2c_i0 &= w2c_i1;
-    w2c_i0 = !(w2c_i0);
-    if (w2c_i0) {goto w2c_B20;}
-    w2c_i0 = 5u;
-    w2c_i1 = 4u;
-    w2c_j2 = w2c_l7;
-    w2c_i2 = (u32)(w2c_j2);
-    w2c_i2 = i32_load8_u(memory, (u64)(w2c_i2) + 9u);
-    w2c_i3 = 255u;
-    w2c_i2 &= w2c_i3;
-    w2c_i0 = w2c_i2 ? w2c_i0 : w2c_i1;
-    w2c_p1 = w2c_i0;
-    goto w2c_B19;
-    w2c_B20:;
-    w2c_i0 = 0u;
-    w2c_p1 = w2c_i0;
-    w2c_j0 = w2c_l12;
-    w2c_l10 = w2c_j0;
-    w2c_B19:;
     w2c_j0 = w2c_p5;
     w2c_i0 = (u32)(w2c_j0);
-    w2c_i1 = w2c_p1;
+    w2c_i1 = 5u;
+    w2c_i2 = 4u;
+    w2c_j3 = w2c_l7;
+    w2c_i3 = (u32)(w2c_j3);
+    w2c_i3 = i32_load8_u(memory, (u64)(w2c_i3) + 9u);
+    w2c_i4 = 255u;
+    w2c_i3 &= w2c_i4;
+    w2c_i1 = w2c_i3 ? w2c_i1 : w2c_i2;
+    w2c_i2 = 0u;
+    w2c_j3 = w2c_l7;
+    w2c_i3 = (u32)(w2c_j3);
+    w2c_i3 = i32_load8_u(memory, (u64)(w2c_i3) + 8u);
+    w2c_i4 = 255u;
+    w2c_i3 &= w2c_i4;
+    w2c_p1 = w2c_i3;
+    w2c_i1 = w2c_i3 ? w2c_i1 : w2c_i2;
     i32_store8(memory, (u64)(w2c_i0), w2c_i1);
     w2c_j0 = w2c_p4;
     w2c_i0 = (u32)(w2c_j0);
-    w2c_j1 = w2c_l10;
+    w2c_j1 = 0ull;
+    w2c_j2 = w2c_l11;
+    w2c_i3 = w2c_p1;
+    w2c_j1 = w2c_i3 ? w2c_j1 : w2c_j2;
     i64_store(memory, (u64)(w2c_i0), w2c_j1);
     w2c_j0 = w2c_p3;
     w2c_j1 = w2c_p2;
@@ -9492,16 +9465,12 @@ static void w2c_f22(struct instance *instance, u64 w2c_p0, u32 w2c_p1, u64 w2c_p
     w2c_p6 = w2c_j0;
     w2c_i0 = !(w2c_j0);
     w2c_i0 = !(w2c_i0);
-    if (w2c_i0) {goto w2c_L18;}
-  w2c_B1:;
+    if (w2c_i0) {goto w2c_L14;}
+  w2c_B0:;
   w2c_j0 = w2c_l7;
   w2c_j1 = 32ull;
   w2c_j0 += w2c_j1;
   instance->w2c_g0 = w2c_j0;
-  goto w2c_Bfunc;
-  w2c_B0:;
-  UNREACHABLE;
-  w2c_Bfunc:;
 }
 static void w2c_f23(struct instance *instance, u64 w2c_p0, u32 w2c_p1, u64 w2c_p2, u64 w2c_p3, u64 w2c_p4, u64 w2c_p5, u64 w2c_p6) {
   u32 w2c_l11 = 0;
@@ -9605,12 +9574,10 @@ static void w2c_f23(struct instance *instance, u64 w2c_p0, u32 w2c_p1, u64 w2c_p
   w2c_B6:;
   w2c_j0 = w2c_p3;
   w2c_j1 = w2c_p2;
-  w2c_j2 = 7ull;
+  w2c_j2 = 15ull;
   w2c_j1 += w2c_j2;
   w2c_j2 = 4194296ull;
   w2c_j1 &= w2c_j2;
-  w2c_j2 = 8ull;
-  w2c_j1 += w2c_j2;
   w2c_i0 = w2c_j0 == w2c_j1;
   if (w2c_i0) {goto w2c_B7;}
   w2c_i0 = w2c_l11;
@@ -10526,8 +10493,10 @@ static u32 w2c_f33(struct instance *instance, u64 w2c_p0, u64 w2c_p1, u64 w2c_p2
   w2c_i0 = w2c_j0 > w2c_j1;
   if (w2c_i0) {goto w2c_B1;}
   w2c_j0 = w2c_p2;
+  w2c_j1 = 8ull;
+  w2c_j0 += w2c_j1;
   w2c_j1 = w2c_p0;
-  w2c_j2 = 7ull;
+  w2c_j2 = 15ull;
   w2c_j1 += w2c_j2;
   w2c_j2 = 4194296ull;
   w2c_j1 &= w2c_j2;
@@ -10734,8 +10703,10 @@ static u32 w2c_f35(struct instance *instance, u32 w2c_p0, u64 w2c_p1, u64 w2c_p2
   w2c_i0 = w2c_j0 > w2c_j1;
   if (w2c_i0) {goto w2c_B1;}
   w2c_j0 = w2c_p3;
+  w2c_j1 = 8ull;
+  w2c_j0 += w2c_j1;
   w2c_j1 = w2c_p1;
-  w2c_j2 = 7ull;
+  w2c_j2 = 15ull;
   w2c_j1 += w2c_j2;
   w2c_j2 = 4194296ull;
   w2c_j1 &= w2c_j2;
@@ -11147,12 +11118,10 @@ static u32 w2c_f43(struct instance *instance, u64 w2c_p0, u64 w2c_p1, u64 w2c_p2
   w2c_i1 = 4u;
   w2c_j2 = w2c_p2;
   w2c_j3 = w2c_p1;
-  w2c_j4 = 7ull;
+  w2c_j4 = 15ull;
   w2c_j3 += w2c_j4;
   w2c_j4 = 4194296ull;
   w2c_j3 &= w2c_j4;
-  w2c_j4 = 8ull;
-  w2c_j3 += w2c_j4;
   w2c_i2 = w2c_j2 == w2c_j3;
   w2c_i0 = w2c_i2 ? w2c_i0 : w2c_i1;
   w2c_l3 = w2c_i0;
@@ -11229,26 +11198,29 @@ static u32 w2c_f45(struct instance *instance, u64 w2c_p0, u64 w2c_p1, u64 w2c_p2
   w2c_j1 = 0ull;
   w2c_i0 = w2c_j0 == w2c_j1;
   if (w2c_i0) {goto w2c_B1;}
+  w2c_i0 = 4u;
+  w2c_l5 = w2c_i0;
+  w2c_j0 = w2c_p3;
+  w2c_j1 = 7ull;
+  w2c_j0 &= w2c_j1;
+  w2c_j1 = 0ull;
+  w2c_i0 = w2c_j0 != w2c_j1;
+  if (w2c_i0) {goto w2c_B1;}
+  w2c_j0 = w2c_p3;
+  w2c_j1 = 18446744073709551600ull;
+  w2c_j0 += w2c_j1;
+  w2c_j1 = 1048560ull;
+  w2c_i0 = w2c_j0 > w2c_j1;
+  if (w2c_i0) {goto w2c_B1;}
   w2c_i0 = 0u;
-  w2c_i1 = 4u;
-  w2c_j2 = w2c_p3;
-  w2c_j3 = 18446744073709551600ull;
-  w2c_j2 += w2c_j3;
-  w2c_j3 = 1048561ull;
-  w2c_i2 = w2c_j2 < w2c_j3;
-  w2c_i0 = w2c_i2 ? w2c_i0 : w2c_i1;
   w2c_i1 = 4u;
   w2c_j2 = w2c_p4;
   w2c_j3 = w2c_p3;
-  w2c_j4 = 8ull;
+  w2c_j4 = 15ull;
   w2c_j3 += w2c_j4;
+  w2c_j4 = 4194296ull;
+  w2c_j3 &= w2c_j4;
   w2c_i2 = w2c_j2 == w2c_j3;
-  w2c_i0 = w2c_i2 ? w2c_i0 : w2c_i1;
-  w2c_i1 = 4u;
-  w2c_j2 = w2c_p3;
-  w2c_j3 = 7ull;
-  w2c_j2 &= w2c_j3;
-  w2c_i2 = !(w2c_j2);
   w2c_i0 = w2c_i2 ? w2c_i0 : w2c_i1;
   w2c_l5 = w2c_i0;
   w2c_B1:;
@@ -11435,8 +11407,8 @@ static u32 w2c_f49(struct instance *instance, u64 w2c_p0, u64 w2c_p1, u64 w2c_p2
   w2c_j0 = w2c_p0;
   w2c_j1 = 18446744073709551600ull;
   w2c_j0 += w2c_j1;
-  w2c_j1 = 1048568ull;
-  w2c_i0 = w2c_j0 <= w2c_j1;
+  w2c_j1 = 1048569ull;
+  w2c_i0 = w2c_j0 < w2c_j1;
   if (w2c_i0) {goto w2c_B2;}
   goto w2c_B1;
   w2c_B5:;
@@ -11612,7 +11584,7 @@ static u32 w2c_f53(struct instance *instance, u64 w2c_p0, u64 w2c_p1, u32 w2c_p2
   w2c_j1 = 0ull;
   w2c_i0 = w2c_j0 != w2c_j1;
   if (w2c_i0) {goto w2c_B1;}
-  w2c_i0 = 0u;
+  w2c_i0 = 1u;
   w2c_l6 = w2c_i0;
   w2c_i0 = w2c_p2;
   switch (w2c_i0) {
@@ -11621,7 +11593,7 @@ static u32 w2c_f53(struct instance *instance, u64 w2c_p0, u64 w2c_p1, u32 w2c_p2
     default: goto w2c_B1;
   }
   w2c_B3:;
-  w2c_i0 = 1u;
+  w2c_i0 = 0u;
   w2c_l6 = w2c_i0;
   w2c_B2:;
   w2c_j0 = w2c_p3;
@@ -11631,14 +11603,14 @@ static u32 w2c_f53(struct instance *instance, u64 w2c_p0, u64 w2c_p1, u32 w2c_p2
   w2c_i0 = 0u;
   w2c_i1 = 4u;
   w2c_j2 = w2c_p0;
-  w2c_j3 = 18446744073709551600ull;
+  w2c_j3 = 18446744073709551592ull;
   w2c_j2 += w2c_j3;
-  w2c_j3 = 1048569ull;
+  w2c_j3 = 1048561ull;
   w2c_i2 = w2c_j2 < w2c_j3;
   w2c_j3 = w2c_p0;
-  w2c_j4 = 18446744073709551592ull;
+  w2c_j4 = 18446744073709551600ull;
   w2c_j3 += w2c_j4;
-  w2c_j4 = 1048561ull;
+  w2c_j4 = 1048569ull;
   w2c_i3 = w2c_j3 < w2c_j4;
   w2c_i4 = w2c_l6;
   w2c_i2 = w2c_i4 ? w2c_i2 : w2c_i3;
@@ -11736,12 +11708,10 @@ static u32 w2c_f55(struct instance *instance, u64 w2c_p0, u64 w2c_p1, u64 w2c_p2
   if (w2c_i0) {goto w2c_B1;}
   w2c_j0 = w2c_p0;
   w2c_j1 = w2c_p2;
-  w2c_j2 = 7ull;
+  w2c_j2 = 15ull;
   w2c_j1 += w2c_j2;
   w2c_j2 = 4194296ull;
   w2c_j1 &= w2c_j2;
-  w2c_j2 = 8ull;
-  w2c_j1 += w2c_j2;
   w2c_i0 = w2c_j0 == w2c_j1;
   if (w2c_i0) {goto w2c_B2;}
   goto w2c_B1;
@@ -11755,13 +11725,15 @@ static u32 w2c_f55(struct instance *instance, u64 w2c_p0, u64 w2c_p1, u64 w2c_p2
   w2c_j0 = w2c_p2;
   w2c_j1 = 18446744073709551600ull;
   w2c_j0 += w2c_j1;
-  w2c_j1 = 1048560ull;
-  w2c_i0 = w2c_j0 > w2c_j1;
+  w2c_j1 = 1048561ull;
+  w2c_i0 = w2c_j0 >= w2c_j1;
   if (w2c_i0) {goto w2c_B1;}
   w2c_j0 = w2c_p0;
   w2c_j1 = w2c_p2;
-  w2c_j2 = 8ull;
+  w2c_j2 = 15ull;
   w2c_j1 += w2c_j2;
+  w2c_j2 = 4194296ull;
+  w2c_j1 &= w2c_j2;
   w2c_i0 = w2c_j0 != w2c_j1;
   if (w2c_i0) {goto w2c_B1;}
   w2c_B2:;
@@ -11810,6 +11782,10 @@ static u32 w2c_f57(struct instance *instance, u32 w2c_p0, u64 w2c_p1) {
   i32_store(memory, (u64)(w2c_i0), w2c_i1);
   w2c_i0 = 3u;
   w2c_l2 = w2c_i0;
+  w2c_i0 = w2c_p0;
+  w2c_i1 = 0u;
+  w2c_i0 = (u32)((s32)w2c_i0 < (s32)w2c_i1);
+  if (w2c_i0) {goto w2c_B1;}
   w2c_i0 = w2c_p0;
   w2c_i1 = 8u;
   w2c_i0 = w2c_i0 > w2c_i1;
@@ -11874,6 +11850,15 @@ static u32 w2c_f59(struct instance *instance, u32 w2c_p0, u64 w2c_p1, u64 w2c_p2
   w2c_j1 = 16ull;
   w2c_i0 = (u64)((s64)w2c_j0 < (s64)w2c_j1);
   if (w2c_i0) {goto w2c_B2;}
+  w2c_i0 = 0u;
+  w2c_l3 = w2c_i0;
+  w2c_i0 = w2c_p0;
+  w2c_i1 = 0u;
+  w2c_i0 = (u32)((s32)w2c_i0 >= (s32)w2c_i1);
+  if (w2c_i0) {goto w2c_B3;}
+  w2c_i0 = 3u;
+  goto w2c_Bfunc;
+  w2c_B3:;
   w2c_j0 = w2c_p1;
   w2c_j1 = 4096ull;
   w2c_j2 = 0ull;
@@ -11882,53 +11867,24 @@ static u32 w2c_f59(struct instance *instance, u32 w2c_p0, u64 w2c_p1, u64 w2c_p2
   w2c_j1 = w2c_i3 ? w2c_j1 : w2c_j2;
   w2c_j0 += w2c_j1;
   w2c_p1 = w2c_j0;
-  w2c_i0 = 3u;
-  w2c_l3 = w2c_i0;
   w2c_i0 = w2c_p0;
   switch (w2c_i0) {
-    case 0: goto w2c_B3;
-    case 1: goto w2c_B3;
-    case 2: goto w2c_B0;
-    case 3: goto w2c_B0;
+    case 0: goto w2c_B0;
+    case 1: goto w2c_B0;
+    case 2: goto w2c_B6;
+    case 3: goto w2c_B6;
     case 4: goto w2c_B1;
     case 5: goto w2c_B5;
-    case 6: goto w2c_B0;
-    case 7: goto w2c_B0;
+    case 6: goto w2c_B6;
+    case 7: goto w2c_B6;
     case 8: goto w2c_B4;
-    default: goto w2c_B0;
+    default: goto w2c_B6;
   }
+  w2c_B6:;
+  w2c_i0 = 3u;
+  goto w2c_Bfunc;
   w2c_B5:;
   w2c_i0 = 5u;
-  w2c_l3 = w2c_i0;
-  w2c_j0 = w2c_p2;
-  w2c_i0 = !(w2c_j0);
-  if (w2c_i0) {goto w2c_B0;}
-  w2c_j0 = w2c_p2;
-  w2c_j1 = 18446744073709551615ull;
-  w2c_j0 += w2c_j1;
-  w2c_p2 = w2c_j0;
-  w2c_i0 = !(w2c_j0);
-  w2c_p0 = w2c_i0;
-  if (w2c_i0) {goto w2c_B6;}
-  w2c_i0 = w2c_p0;
-  if (w2c_i0) {goto w2c_B6;}
-  w2c_j0 = w2c_p1;
-  w2c_i0 = (u32)(w2c_j0);
-  w2c_i1 = 0u;
-  w2c_j2 = w2c_p2;
-  w2c_i2 = (u32)(w2c_j2);
-  memory_fill(memory, w2c_i0, w2c_i1, w2c_i2);
-  w2c_B6:;
-  w2c_j0 = w2c_p1;
-  w2c_j1 = w2c_p2;
-  w2c_j0 += w2c_j1;
-  w2c_i0 = (u32)(w2c_j0);
-  w2c_i1 = 0u;
-  i32_store8(memory, (u64)(w2c_i0), w2c_i1);
-  w2c_i0 = 5u;
-  goto w2c_Bfunc;
-  w2c_B4:;
-  w2c_i0 = 4u;
   w2c_l3 = w2c_i0;
   w2c_j0 = w2c_p2;
   w2c_i0 = !(w2c_j0);
@@ -11955,10 +11911,37 @@ static u32 w2c_f59(struct instance *instance, u32 w2c_p0, u64 w2c_p1, u64 w2c_p2
   w2c_i0 = (u32)(w2c_j0);
   w2c_i1 = 0u;
   i32_store8(memory, (u64)(w2c_i0), w2c_i1);
-  w2c_i0 = 4u;
+  w2c_i0 = 5u;
   goto w2c_Bfunc;
-  w2c_B3:;
-  w2c_i0 = 0u;
+  w2c_B4:;
+  w2c_i0 = 4u;
+  w2c_l3 = w2c_i0;
+  w2c_j0 = w2c_p2;
+  w2c_i0 = !(w2c_j0);
+  if (w2c_i0) {goto w2c_B0;}
+  w2c_j0 = w2c_p2;
+  w2c_j1 = 18446744073709551615ull;
+  w2c_j0 += w2c_j1;
+  w2c_p2 = w2c_j0;
+  w2c_i0 = !(w2c_j0);
+  w2c_p0 = w2c_i0;
+  if (w2c_i0) {goto w2c_B8;}
+  w2c_i0 = w2c_p0;
+  if (w2c_i0) {goto w2c_B8;}
+  w2c_j0 = w2c_p1;
+  w2c_i0 = (u32)(w2c_j0);
+  w2c_i1 = 0u;
+  w2c_j2 = w2c_p2;
+  w2c_i2 = (u32)(w2c_j2);
+  memory_fill(memory, w2c_i0, w2c_i1, w2c_i2);
+  w2c_B8:;
+  w2c_j0 = w2c_p1;
+  w2c_j1 = w2c_p2;
+  w2c_j0 += w2c_j1;
+  w2c_i0 = (u32)(w2c_j0);
+  w2c_i1 = 0u;
+  i32_store8(memory, (u64)(w2c_i0), w2c_i1);
+  w2c_i0 = 4u;
   goto w2c_Bfunc;
   w2c_B2:;
   UNREACHABLE;
@@ -14337,7 +14320,7 @@ static u32 w2c_f75(struct instance *instance, u32 w2c_p0, u64 w2c_p1, u64 w2c_p2
   w2c_j1 = 2ull;
   w2c_j0 <<= (w2c_j1 & 63);
   w2c_i0 = (u32)(w2c_j0);
-  w2c_i0 = constant_i32_load((u64)(w2c_i0) + 68816u);
+  w2c_i0 = constant_i32_load((u64)(w2c_i0) + 69336u);
   w2c_l14 = w2c_i0;
   goto w2c_B0;
   w2c_B2:;
@@ -15356,7 +15339,7 @@ static u32 w2c_f77(struct instance *instance, u32 w2c_p0, u64 w2c_p1, u64 w2c_p2
   w2c_j1 = 2ull;
   w2c_j0 <<= (w2c_j1 & 63);
   w2c_i0 = (u32)(w2c_j0);
-  w2c_i0 = constant_i32_load((u64)(w2c_i0) + 68816u);
+  w2c_i0 = constant_i32_load((u64)(w2c_i0) + 69336u);
   w2c_l16 = w2c_i0;
   goto w2c_B0;
   w2c_B2:;
@@ -15411,14 +15394,14 @@ static u32 w2c_keywrap_rewrap(struct instance *instance, u64 w2c_p0, u64 w2c_p1,
   return w2c_i0;
 }
 static u32 w2c_f79(struct instance *instance, u64 w2c_p0, u64 w2c_p1, u64 w2c_p2, u64 w2c_p3, u64 w2c_p4, u64 w2c_p5, u32 w2c_p6, u64 w2c_p7) {
-  u32 w2c_l9 = 0;
+  u32 w2c_l9 = 0, w2c_l10 = 0;
   u64 w2c_l8 = 0;
   const struct memory memory = instance->w2c_memory;
   (void)memory;
   u32 w2c_i0, w2c_i1, w2c_i2, w2c_i3, w2c_i4, w2c_i7;
   u64 w2c_j0, w2c_j1, w2c_j2, w2c_j3, w2c_j4, w2c_j5, w2c_j6, w2c_j7;
   w2c_j0 = instance->w2c_g0;
-  w2c_j1 = 1024ull;
+  w2c_j1 = 1072ull;
   w2c_j0 -= w2c_j1;
   w2c_l8 = w2c_j0;
   instance->w2c_g0 = w2c_j0;
@@ -15426,7 +15409,7 @@ static u32 w2c_f79(struct instance *instance, u64 w2c_p0, u64 w2c_p1, u64 w2c_p2
   w2c_l8 = w2c_j0;
   w2c_j1 = 16ull;
   w2c_i0 = (u64)((s64)w2c_j0 < (s64)w2c_j1);
-  if (w2c_i0) {goto w2c_B2;}
+  if (w2c_i0) {goto w2c_B0;}
   w2c_j0 = w2c_l8;
   w2c_j1 = 288ull;
   w2c_j0 += w2c_j1;
@@ -15464,9 +15447,9 @@ static u32 w2c_f79(struct instance *instance, u64 w2c_p0, u64 w2c_p1, u64 w2c_p2
   w2c_j0 = w2c_l8;
   w2c_i0 = (u32)(w2c_j0);
   w2c_i0 = i32_load8_u(memory, (u64)(w2c_i0) + 288u);
-  if (w2c_i0) {goto w2c_B0;}
+  if (w2c_i0) {goto w2c_B1;}
   w2c_j0 = w2c_l8;
-  w2c_j1 = 780ull;
+  w2c_j1 = 828ull;
   w2c_j0 += w2c_j1;
   w2c_i0 = (u32)(w2c_j0);
   w2c_j1 = w2c_l8;
@@ -15493,9 +15476,9 @@ static u32 w2c_f79(struct instance *instance, u64 w2c_p0, u64 w2c_p1, u64 w2c_p2
   w2c_j0 = w2c_l8;
   w2c_i0 = (u32)(w2c_j0);
   w2c_i0 = i32_load8_u(memory, (u64)(w2c_i0) + 40u);
-  if (w2c_i0) {goto w2c_B0;}
+  if (w2c_i0) {goto w2c_B1;}
   w2c_j0 = w2c_l8;
-  w2c_j1 = 536ull;
+  w2c_j1 = 584ull;
   w2c_j0 += w2c_j1;
   w2c_i0 = (u32)(w2c_j0);
   w2c_j1 = w2c_l8;
@@ -15507,6 +15490,31 @@ static u32 w2c_f79(struct instance *instance, u64 w2c_p0, u64 w2c_p1, u64 w2c_p2
   w2c_j2 = 244ull;
   w2c_i2 = (u32)(w2c_j2);
   memory_copy(memory, memory, w2c_i0, w2c_i1, w2c_i2);
+  w2c_i0 = 4u;
+  w2c_l9 = w2c_i0;
+  w2c_i0 = w2c_p6;
+  w2c_i1 = 12u;
+  w2c_i0 = w2c_i0 > w2c_i1;
+  if (w2c_i0) {goto w2c_B1;}
+  w2c_i0 = 7967u;
+  w2c_i1 = w2c_p6;
+  w2c_i2 = 65535u;
+  w2c_i1 &= w2c_i2;
+  w2c_i0 >>= (w2c_i1 & 31);
+  w2c_i1 = 1u;
+  w2c_i0 &= w2c_i1;
+  w2c_i0 = !(w2c_i0);
+  if (w2c_i0) {goto w2c_B1;}
+  w2c_i0 = 0u;
+  w2c_l9 = w2c_i0;
+  w2c_j0 = w2c_l8;
+  w2c_i0 = (u32)(w2c_j0);
+  w2c_i1 = 0u;
+  i32_store(memory, (u64)(w2c_i0) + 577, w2c_i1);
+  w2c_j0 = w2c_l8;
+  w2c_i0 = (u32)(w2c_j0);
+  w2c_i1 = 0u;
+  i32_store(memory, (u64)(w2c_i0) + 580, w2c_i1);
   w2c_j0 = w2c_l8;
   w2c_i0 = (u32)(w2c_j0);
   w2c_j1 = 0ull;
@@ -15517,14 +15525,54 @@ static u32 w2c_f79(struct instance *instance, u64 w2c_p0, u64 w2c_p1, u64 w2c_p2
   i64_store(memory, (u64)(w2c_i0) + 16, w2c_j1);
   w2c_j0 = w2c_l8;
   w2c_i0 = (u32)(w2c_j0);
+  w2c_i1 = w2c_p6;
+  w2c_i2 = 7u;
+  w2c_i1 = w2c_i1 > w2c_i2;
+  i32_store8(memory, (u64)(w2c_i0) + 576, w2c_i1);
+  w2c_j0 = w2c_l8;
+  w2c_i0 = (u32)(w2c_j0);
+  w2c_i1 = w2c_p6;
+  w2c_j1 = (u64)(w2c_i1);
+  w2c_j2 = 3ull;
+  w2c_j1 <<= (w2c_j2 & 63);
+  w2c_p0 = w2c_j1;
+  w2c_i1 = (u32)(w2c_j1);
+  w2c_j1 = constant_i64_load((u64)(w2c_i1) + 69232u);
+  i64_store(memory, (u64)(w2c_i0) + 568, w2c_j1);
+  w2c_j0 = w2c_l8;
+  w2c_i0 = (u32)(w2c_j0);
+  w2c_j1 = w2c_p0;
+  w2c_i1 = (u32)(w2c_j1);
+  w2c_j1 = constant_i64_load((u64)(w2c_i1) + 69128u);
+  i64_store(memory, (u64)(w2c_i0) + 560, w2c_j1);
+  w2c_j0 = w2c_l8;
+  w2c_i0 = (u32)(w2c_j0);
+  w2c_j1 = w2c_p0;
+  w2c_i1 = (u32)(w2c_j1);
+  w2c_j1 = constant_i64_load((u64)(w2c_i1) + 69024u);
+  i64_store(memory, (u64)(w2c_i0) + 552, w2c_j1);
+  w2c_j0 = w2c_l8;
+  w2c_i0 = (u32)(w2c_j0);
+  w2c_j1 = w2c_p0;
+  w2c_i1 = (u32)(w2c_j1);
+  w2c_j1 = constant_i64_load((u64)(w2c_i1) + 68920u);
+  i64_store(memory, (u64)(w2c_i0) + 544, w2c_j1);
+  w2c_j0 = w2c_l8;
+  w2c_i0 = (u32)(w2c_j0);
+  w2c_j1 = w2c_p0;
+  w2c_i1 = (u32)(w2c_j1);
+  w2c_j1 = constant_i64_load((u64)(w2c_i1) + 68816u);
+  i64_store(memory, (u64)(w2c_i0) + 536, w2c_j1);
+  w2c_j0 = w2c_l8;
+  w2c_i0 = (u32)(w2c_j0);
   w2c_j1 = w2c_l8;
-  w2c_j2 = 780ull;
+  w2c_j2 = 828ull;
   w2c_j1 += w2c_j2;
   i64_store(memory, (u64)(w2c_i0) + 24, w2c_j1);
   w2c_j0 = w2c_l8;
   w2c_i0 = (u32)(w2c_j0);
   w2c_j1 = w2c_l8;
-  w2c_j2 = 536ull;
+  w2c_j2 = 584ull;
   w2c_j1 += w2c_j2;
   i64_store(memory, (u64)(w2c_i0) + 8, w2c_j1);
   w2c_j0 = w2c_l8;
@@ -15534,7 +15582,9 @@ static u32 w2c_f79(struct instance *instance, u64 w2c_p0, u64 w2c_p1, u64 w2c_p2
   w2c_j2 = w2c_l8;
   w2c_j3 = 8ull;
   w2c_j2 += w2c_j3;
-  w2c_i3 = w2c_p6;
+  w2c_j3 = w2c_l8;
+  w2c_j4 = 536ull;
+  w2c_j3 += w2c_j4;
   w2c_j4 = w2c_p4;
   w2c_j5 = 4096ull;
   w2c_j6 = 0ull;
@@ -15543,47 +15593,46 @@ static u32 w2c_f79(struct instance *instance, u64 w2c_p0, u64 w2c_p1, u64 w2c_p2
   w2c_j5 = w2c_i7 ? w2c_j5 : w2c_j6;
   w2c_j4 += w2c_j5;
   w2c_j5 = w2c_p5;
-  w2c_f10(instance, w2c_j0, w2c_j1, w2c_j2, w2c_i3, w2c_j4, w2c_j5);
+  w2c_f10(instance, w2c_j0, w2c_j1, w2c_j2, w2c_j3, w2c_j4, w2c_j5);
   w2c_j0 = w2c_p7;
   w2c_i0 = (u32)(w2c_j0);
   w2c_j1 = w2c_l8;
   w2c_i1 = (u32)(w2c_j1);
   w2c_i1 = i32_load8_u(memory, (u64)(w2c_i1));
-  w2c_l9 = w2c_i1;
+  w2c_p6 = w2c_i1;
   w2c_i1 = !(w2c_i1);
   w2c_j2 = w2c_l8;
   w2c_i2 = (u32)(w2c_j2);
   w2c_i2 = i32_load8_u(memory, (u64)(w2c_i2) + 1u);
-  w2c_p6 = w2c_i2;
+  w2c_l10 = w2c_i2;
   w2c_i3 = 255u;
   w2c_i2 &= w2c_i3;
   w2c_i3 = 1u;
   w2c_i2 = w2c_i2 == w2c_i3;
   w2c_i1 &= w2c_i2;
   i32_store(memory, (u64)(w2c_i0), w2c_i1);
-  w2c_i0 = w2c_l9;
-  if (w2c_i0) {goto w2c_B1;}
-  w2c_i0 = 0u;
-  w2c_l9 = w2c_i0;
-  goto w2c_B0;
-  w2c_B2:;
-  UNREACHABLE;
-  w2c_B1:;
   w2c_i0 = w2c_p6;
+  w2c_i0 = !(w2c_i0);
+  if (w2c_i0) {goto w2c_B1;}
+  w2c_i0 = w2c_l10;
   w2c_j0 = (u64)(w2c_i0);
   w2c_j1 = 255ull;
   w2c_j0 &= w2c_j1;
   w2c_j1 = 2ull;
   w2c_j0 <<= (w2c_j1 & 63);
   w2c_i0 = (u32)(w2c_j0);
-  w2c_i0 = constant_i32_load((u64)(w2c_i0) + 68816u);
+  w2c_i0 = constant_i32_load((u64)(w2c_i0) + 69336u);
   w2c_l9 = w2c_i0;
-  w2c_B0:;
+  w2c_B1:;
   w2c_j0 = w2c_l8;
-  w2c_j1 = 1024ull;
+  w2c_j1 = 1072ull;
   w2c_j0 += w2c_j1;
   instance->w2c_g0 = w2c_j0;
   w2c_i0 = w2c_l9;
+  goto w2c_Bfunc;
+  w2c_B0:;
+  UNREACHABLE;
+  w2c_Bfunc:;
   return w2c_i0;
 }
 static u32 w2c_keywrap_rewrap_in_place(struct instance *instance, u64 w2c_p0, u64 w2c_p1, u64 w2c_p2, u64 w2c_p3, u64 w2c_p4, u64 w2c_p5, u32 w2c_p6) {
@@ -15615,10 +15664,10 @@ static u32 w2c_f81(struct instance *instance, u64 w2c_p0, u64 w2c_p1, u64 w2c_p2
   u64 w2c_l7 = 0;
   const struct memory memory = instance->w2c_memory;
   (void)memory;
-  u32 w2c_i0, w2c_i1, w2c_i2, w2c_i3, w2c_i4, w2c_i7;
+  u32 w2c_i0, w2c_i1, w2c_i2, w2c_i4, w2c_i7;
   u64 w2c_j0, w2c_j1, w2c_j2, w2c_j3, w2c_j4, w2c_j5, w2c_j6, w2c_j7;
   w2c_j0 = instance->w2c_g0;
-  w2c_j1 = 1024ull;
+  w2c_j1 = 1072ull;
   w2c_j0 -= w2c_j1;
   w2c_l7 = w2c_j0;
   instance->w2c_g0 = w2c_j0;
@@ -15662,7 +15711,7 @@ static u32 w2c_f81(struct instance *instance, u64 w2c_p0, u64 w2c_p1, u64 w2c_p2
   w2c_i0 = i32_load8_u(memory, (u64)(w2c_i0) + 288u);
   if (w2c_i0) {goto w2c_B1;}
   w2c_j0 = w2c_l7;
-  w2c_j1 = 780ull;
+  w2c_j1 = 828ull;
   w2c_j0 += w2c_j1;
   w2c_i0 = (u32)(w2c_j0);
   w2c_j1 = w2c_l7;
@@ -15691,7 +15740,7 @@ static u32 w2c_f81(struct instance *instance, u64 w2c_p0, u64 w2c_p1, u64 w2c_p2
   w2c_i0 = i32_load8_u(memory, (u64)(w2c_i0) + 40u);
   if (w2c_i0) {goto w2c_B1;}
   w2c_j0 = w2c_l7;
-  w2c_j1 = 536ull;
+  w2c_j1 = 584ull;
   w2c_j0 += w2c_j1;
   w2c_i0 = (u32)(w2c_j0);
   w2c_j1 = w2c_l7;
@@ -15712,6 +15761,14 @@ static u32 w2c_f81(struct instance *instance, u64 w2c_p0, u64 w2c_p1, u64 w2c_p2
   w2c_j0 = w2c_l7;
   w2c_i0 = (u32)(w2c_j0);
   w2c_j1 = 0ull;
+  i64_store(memory, (u64)(w2c_i0) + 576, w2c_j1);
+  w2c_j0 = w2c_l7;
+  w2c_i0 = (u32)(w2c_j0);
+  w2c_j1 = 1ull;
+  i64_store(memory, (u64)(w2c_i0) + 536, w2c_j1);
+  w2c_j0 = w2c_l7;
+  w2c_i0 = (u32)(w2c_j0);
+  w2c_j1 = 0ull;
   i64_store(memory, (u64)(w2c_i0) + 32, w2c_j1);
   w2c_j0 = w2c_l7;
   w2c_i0 = (u32)(w2c_j0);
@@ -15719,14 +15776,42 @@ static u32 w2c_f81(struct instance *instance, u64 w2c_p0, u64 w2c_p1, u64 w2c_p2
   i64_store(memory, (u64)(w2c_i0) + 16, w2c_j1);
   w2c_j0 = w2c_l7;
   w2c_i0 = (u32)(w2c_j0);
+  w2c_i1 = w2c_p6;
+  w2c_j1 = (u64)(w2c_i1);
+  w2c_j2 = 3ull;
+  w2c_j1 <<= (w2c_j2 & 63);
+  w2c_p0 = w2c_j1;
+  w2c_i1 = (u32)(w2c_j1);
+  w2c_j1 = constant_i64_load((u64)(w2c_i1) + 69448u);
+  i64_store(memory, (u64)(w2c_i0) + 568, w2c_j1);
+  w2c_j0 = w2c_l7;
+  w2c_i0 = (u32)(w2c_j0);
+  w2c_j1 = w2c_p0;
+  w2c_i1 = (u32)(w2c_j1);
+  w2c_j1 = constant_i64_load((u64)(w2c_i1) + 69416u);
+  i64_store(memory, (u64)(w2c_i0) + 560, w2c_j1);
+  w2c_j0 = w2c_l7;
+  w2c_i0 = (u32)(w2c_j0);
+  w2c_j1 = w2c_p0;
+  w2c_i1 = (u32)(w2c_j1);
+  w2c_j1 = constant_i64_load((u64)(w2c_i1) + 69384u);
+  i64_store(memory, (u64)(w2c_i0) + 552, w2c_j1);
+  w2c_j0 = w2c_l7;
+  w2c_i0 = (u32)(w2c_j0);
+  w2c_j1 = w2c_p0;
+  w2c_i1 = (u32)(w2c_j1);
+  w2c_j1 = constant_i64_load((u64)(w2c_i1) + 69352u);
+  i64_store(memory, (u64)(w2c_i0) + 544, w2c_j1);
+  w2c_j0 = w2c_l7;
+  w2c_i0 = (u32)(w2c_j0);
   w2c_j1 = w2c_l7;
-  w2c_j2 = 780ull;
+  w2c_j2 = 828ull;
   w2c_j1 += w2c_j2;
   i64_store(memory, (u64)(w2c_i0) + 24, w2c_j1);
   w2c_j0 = w2c_l7;
   w2c_i0 = (u32)(w2c_j0);
   w2c_j1 = w2c_l7;
-  w2c_j2 = 536ull;
+  w2c_j2 = 584ull;
   w2c_j1 += w2c_j2;
   i64_store(memory, (u64)(w2c_i0) + 8, w2c_j1);
   w2c_j0 = w2c_l7;
@@ -15736,7 +15821,9 @@ static u32 w2c_f81(struct instance *instance, u64 w2c_p0, u64 w2c_p1, u64 w2c_p2
   w2c_j2 = w2c_l7;
   w2c_j3 = 8ull;
   w2c_j2 += w2c_j3;
-  w2c_i3 = w2c_p6;
+  w2c_j3 = w2c_l7;
+  w2c_j4 = 536ull;
+  w2c_j3 += w2c_j4;
   w2c_j4 = w2c_p4;
   w2c_j5 = 4096ull;
   w2c_j6 = 0ull;
@@ -15746,7 +15833,7 @@ static u32 w2c_f81(struct instance *instance, u64 w2c_p0, u64 w2c_p1, u64 w2c_p2
   w2c_j4 += w2c_j5;
   w2c_p0 = w2c_j4;
   w2c_j5 = w2c_p5;
-  w2c_f10(instance, w2c_j0, w2c_j1, w2c_j2, w2c_i3, w2c_j4, w2c_j5);
+  w2c_f10(instance, w2c_j0, w2c_j1, w2c_j2, w2c_j3, w2c_j4, w2c_j5);
   w2c_j0 = w2c_l7;
   w2c_i0 = (u32)(w2c_j0);
   w2c_i0 = i32_load8_u(memory, (u64)(w2c_i0));
@@ -15825,7 +15912,7 @@ static u32 w2c_f81(struct instance *instance, u64 w2c_p0, u64 w2c_p1, u64 w2c_p2
   i32_store8(memory, (u64)(w2c_i0), w2c_i1);
   w2c_B1:;
   w2c_j0 = w2c_l7;
-  w2c_j1 = 1024ull;
+  w2c_j1 = 1072ull;
   w2c_j0 += w2c_j1;
   instance->w2c_g0 = w2c_j0;
   w2c_i0 = w2c_l8;
@@ -15864,7 +15951,7 @@ static u32 w2c_keywrap_rewrap_many(struct instance *instance, u64 w2c_p0, u64 w2
 }
 static u32 w2c_f83(struct instance *instance, u64 w2c_p0, u64 w2c_p1, u64 w2c_p2, u64 w2c_p3, u64 w2c_p4, u64 w2c_p5, u32 w2c_p6, u64 w2c_p7, 
     u64 w2c_p8) {
-  u32 w2c_l10 = 0, w2c_l11 = 0;
+  u32 w2c_l10 = 0, w2c_l11 = 0, w2c_l12 = 0;
   u64 w2c_l9 = 0;
   const struct memory memory = instance->w2c_memory;
   (void)memory;
@@ -15872,7 +15959,7 @@ static u32 w2c_f83(struct instance *instance, u64 w2c_p0, u64 w2c_p1, u64 w2c_p2
   u64 w2c_j0, w2c_j1, w2c_j2, w2c_j3, w2c_j4, w2c_j5, w2c_j6, w2c_j7, 
       w2c_j8;
   w2c_j0 = instance->w2c_g0;
-  w2c_j1 = 992ull;
+  w2c_j1 = 1040ull;
   w2c_j0 -= w2c_j1;
   w2c_l9 = w2c_j0;
   instance->w2c_g0 = w2c_j0;
@@ -15916,7 +16003,7 @@ static u32 w2c_f83(struct instance *instance, u64 w2c_p0, u64 w2c_p1, u64 w2c_p2
   w2c_i0 = i32_load8_u(memory, (u64)(w2c_i0) + 256u);
   if (w2c_i0) {goto w2c_B1;}
   w2c_j0 = w2c_l9;
-  w2c_j1 = 748ull;
+  w2c_j1 = 796ull;
   w2c_j0 += w2c_j1;
   w2c_i0 = (u32)(w2c_j0);
   w2c_j1 = w2c_l9;
@@ -15945,7 +16032,7 @@ static u32 w2c_f83(struct instance *instance, u64 w2c_p0, u64 w2c_p1, u64 w2c_p2
   w2c_i0 = i32_load8_u(memory, (u64)(w2c_i0) + 8u);
   if (w2c_i0) {goto w2c_B1;}
   w2c_j0 = w2c_l9;
-  w2c_j1 = 504ull;
+  w2c_j1 = 552ull;
   w2c_j0 += w2c_j1;
   w2c_i0 = (u32)(w2c_j0);
   w2c_j1 = w2c_l9;
@@ -15962,6 +16049,8 @@ static u32 w2c_f83(struct instance *instance, u64 w2c_p0, u64 w2c_p1, u64 w2c_p2
   w2c_j0 = w2c_p8;
   w2c_i0 = !(w2c_j0);
   if (w2c_i0) {goto w2c_B1;}
+  w2c_j0 = 0ull;
+  w2c_p1 = w2c_j0;
   w2c_j0 = w2c_p5;
   w2c_j1 = w2c_p5;
   w2c_j2 = w2c_p8;
@@ -15973,28 +16062,30 @@ static u32 w2c_f83(struct instance *instance, u64 w2c_p0, u64 w2c_p1, u64 w2c_p2
   w2c_j1 = 0ull;
   w2c_i0 = w2c_j0 != w2c_j1;
   if (w2c_i0) {goto w2c_B1;}
+  w2c_j0 = 12008468691120727718ull;
+  w2c_p3 = w2c_j0;
+  w2c_j0 = 12008468691120727718ull;
+  w2c_p2 = w2c_j0;
   w2c_i0 = w2c_p6;
-  w2c_i1 = 12u;
-  w2c_i0 = w2c_i0 > w2c_i1;
-  if (w2c_i0) {goto w2c_B1;}
-  w2c_i0 = 1u;
-  w2c_i1 = w2c_p6;
-  w2c_i0 <<= (w2c_i1 & 31);
-  w2c_l11 = w2c_i0;
-  w2c_i1 = 1285u;
-  w2c_i0 &= w2c_i1;
-  if (w2c_i0) {goto w2c_B4;}
-  w2c_i0 = w2c_l11;
-  w2c_i1 = 2570u;
-  w2c_i0 &= w2c_i1;
-  if (w2c_i0) {goto w2c_B5;}
-  w2c_i0 = 1u;
-  w2c_i1 = w2c_p6;
-  w2c_i0 <<= (w2c_i1 & 31);
-  w2c_i1 = 4112u;
-  w2c_i0 &= w2c_i1;
-  w2c_i0 = !(w2c_i0);
-  if (w2c_i0) {goto w2c_B1;}
+  switch (w2c_i0) {
+    case 0: goto w2c_B4;
+    case 1: goto w2c_B6;
+    case 2: goto w2c_B5;
+    case 3: goto w2c_B7;
+    case 4: goto w2c_B8;
+    case 5: goto w2c_B1;
+    case 6: goto w2c_B1;
+    case 7: goto w2c_B1;
+    case 8: goto w2c_B4;
+    case 9: goto w2c_B6;
+    case 10: goto w2c_B5;
+    case 11: goto w2c_B7;
+    case 12: goto w2c_B8;
+    default: goto w2c_B1;
+  }
+  w2c_B8:;
+  w2c_j0 = 0ull;
+  w2c_p2 = w2c_j0;
   w2c_j0 = w2c_p0;
   w2c_j1 = 7ull;
   w2c_j0 &= w2c_j1;
@@ -16004,25 +16095,53 @@ static u32 w2c_f83(struct instance *instance, u64 w2c_p0, u64 w2c_p1, u64 w2c_p2
   w2c_j0 = w2c_p0;
   w2c_j1 = 18446744073709551600ull;
   w2c_j0 += w2c_j1;
-  w2c_j1 = 1048568ull;
-  w2c_i0 = w2c_j0 <= w2c_j1;
-  if (w2c_i0) {goto w2c_B2;}
-  goto w2c_B1;
-  w2c_B5:;
+  w2c_j1 = 1048569ull;
+  w2c_i0 = w2c_j0 >= w2c_j1;
+  if (w2c_i0) {goto w2c_B1;}
+  w2c_i0 = 0u;
+  w2c_l11 = w2c_i0;
+  w2c_j0 = 0ull;
+  w2c_p1 = w2c_j0;
+  w2c_j0 = 0ull;
+  w2c_p5 = w2c_j0;
+  w2c_i0 = 0u;
+  w2c_l12 = w2c_i0;
+  goto w2c_B2;
+  w2c_B7:;
+  w2c_j0 = 0ull;
+  w2c_p3 = w2c_j0;
+  w2c_j0 = 1ull;
+  w2c_p1 = w2c_j0;
+  w2c_B6:;
   w2c_j0 = w2c_p0;
   w2c_j1 = 18446744073709551600ull;
   w2c_j0 += w2c_j1;
   w2c_j1 = 1048569ull;
   w2c_i0 = w2c_j0 < w2c_j1;
+  w2c_l12 = w2c_i0;
+  w2c_i0 = 1u;
   w2c_l11 = w2c_i0;
+  w2c_j0 = 0ull;
+  w2c_p5 = w2c_j0;
+  w2c_j0 = w2c_p3;
+  w2c_p2 = w2c_j0;
   goto w2c_B3;
+  w2c_B5:;
+  w2c_j0 = 0ull;
+  w2c_p2 = w2c_j0;
+  w2c_j0 = 1ull;
+  w2c_p1 = w2c_j0;
   w2c_B4:;
   w2c_j0 = w2c_p0;
   w2c_j1 = 18446744073709551592ull;
   w2c_j0 += w2c_j1;
   w2c_j1 = 1048561ull;
   w2c_i0 = w2c_j0 < w2c_j1;
+  w2c_l12 = w2c_i0;
+  w2c_i0 = 0u;
   w2c_l11 = w2c_i0;
+  w2c_j0 = 12008468691120727718ull;
+  w2c_p5 = w2c_j0;
   w2c_B3:;
   w2c_j0 = w2c_p0;
   w2c_j1 = 7ull;
@@ -16030,17 +16149,85 @@ static u32 w2c_f83(struct instance *instance, u64 w2c_p0, u64 w2c_p1, u64 w2c_p2
   w2c_j1 = 0ull;
   w2c_i0 = w2c_j0 != w2c_j1;
   if (w2c_i0) {goto w2c_B1;}
-  w2c_i0 = w2c_l11;
+  w2c_i0 = w2c_l12;
   w2c_i0 = !(w2c_i0);
   if (w2c_i0) {goto w2c_B1;}
+  w2c_i0 = 1u;
+  w2c_l12 = w2c_i0;
   w2c_B2:;
   w2c_j0 = w2c_l9;
-  w2c_j1 = 748ull;
+  w2c_j1 = 519ull;
+  w2c_j0 += w2c_j1;
+  w2c_i0 = (u32)(w2c_j0);
+  w2c_j1 = 0ull;
+  i64_store8(memory, (u64)(w2c_i0), w2c_j1);
+  w2c_j0 = w2c_l9;
+  w2c_j1 = 517ull;
+  w2c_j0 += w2c_j1;
+  w2c_i0 = (u32)(w2c_j0);
+  w2c_j1 = 0ull;
+  i64_store16(memory, (u64)(w2c_i0), w2c_j1);
+  w2c_j0 = w2c_l9;
+  w2c_i0 = (u32)(w2c_j0);
+  w2c_j1 = 0ull;
+  i64_store32(memory, (u64)(w2c_i0) + 513, w2c_j1);
+  w2c_j0 = w2c_l9;
+  w2c_i0 = (u32)(w2c_j0);
+  w2c_j1 = 0ull;
+  i64_store8(memory, (u64)(w2c_i0) + 511, w2c_j1);
+  w2c_j0 = w2c_l9;
+  w2c_i0 = (u32)(w2c_j0);
+  w2c_j1 = 0ull;
+  i64_store16(memory, (u64)(w2c_i0) + 509, w2c_j1);
+  w2c_j0 = w2c_l9;
+  w2c_i0 = (u32)(w2c_j0);
+  w2c_j1 = 0ull;
+  i64_store32(memory, (u64)(w2c_i0) + 505, w2c_j1);
+  w2c_i0 = 0u;
+  w2c_l10 = w2c_i0;
+  w2c_j0 = w2c_l9;
+  w2c_i0 = (u32)(w2c_j0);
+  w2c_i1 = 0u;
+  i32_store(memory, (u64)(w2c_i0) + 545, w2c_i1);
+  w2c_j0 = w2c_l9;
+  w2c_i0 = (u32)(w2c_j0);
+  w2c_j1 = w2c_p2;
+  i64_store(memory, (u64)(w2c_i0) + 536, w2c_j1);
+  w2c_j0 = w2c_l9;
+  w2c_i0 = (u32)(w2c_j0);
+  w2c_j1 = w2c_p1;
+  i64_store(memory, (u64)(w2c_i0) + 528, w2c_j1);
+  w2c_j0 = w2c_l9;
+  w2c_i0 = (u32)(w2c_j0);
+  w2c_j1 = w2c_p5;
+  i64_store(memory, (u64)(w2c_i0) + 520, w2c_j1);
+  w2c_j0 = w2c_l9;
+  w2c_i0 = (u32)(w2c_j0);
+  w2c_i1 = w2c_l11;
+  i32_store8(memory, (u64)(w2c_i0) + 512, w2c_i1);
+  w2c_j0 = w2c_l9;
+  w2c_i0 = (u32)(w2c_j0);
+  w2c_i1 = w2c_l12;
+  i32_store8(memory, (u64)(w2c_i0) + 504, w2c_i1);
+  w2c_j0 = w2c_l9;
+  w2c_i0 = (u32)(w2c_j0);
+  w2c_i1 = 0u;
+  i32_store(memory, (u64)(w2c_i0) + 548, w2c_i1);
+  w2c_j0 = w2c_l9;
+  w2c_i0 = (u32)(w2c_j0);
+  w2c_i1 = w2c_p6;
+  w2c_i2 = 7u;
+  w2c_i1 = w2c_i1 > w2c_i2;
+  i32_store8(memory, (u64)(w2c_i0) + 544, w2c_i1);
+  w2c_j0 = w2c_l9;
+  w2c_j1 = 796ull;
   w2c_j0 += w2c_j1;
   w2c_j1 = w2c_l9;
-  w2c_j2 = 504ull;
+  w2c_j2 = 552ull;
   w2c_j1 += w2c_j2;
-  w2c_i2 = w2c_p6;
+  w2c_j2 = w2c_l9;
+  w2c_j3 = 504ull;
+  w2c_j2 += w2c_j3;
   w2c_j3 = w2c_p0;
   w2c_j4 = w2c_p4;
   w2c_j5 = 4096ull;
@@ -16057,12 +16244,10 @@ static u32 w2c_f83(struct instance *instance, u64 w2c_p0, u64 w2c_p1, u64 w2c_p2
   w2c_j6 = w2c_i8 ? w2c_j6 : w2c_j7;
   w2c_j5 += w2c_j6;
   w2c_j6 = w2c_p8;
-  w2c_f15(instance, w2c_j0, w2c_j1, w2c_i2, w2c_j3, w2c_j4, w2c_j5, w2c_j6);
-  w2c_i0 = 0u;
-  w2c_l10 = w2c_i0;
+  w2c_f15(instance, w2c_j0, w2c_j1, w2c_j2, w2c_j3, w2c_j4, w2c_j5, w2c_j6);
   w2c_B1:;
   w2c_j0 = w2c_l9;
-  w2c_j1 = 992ull;
+  w2c_j1 = 1040ull;
   w2c_j0 += w2c_j1;
   instance->w2c_g0 = w2c_j0;
   w2c_i0 = w2c_l10;
@@ -16337,11 +16522,11 @@ static u64 w2c_f87(struct instance *instance, u32 w2c_p0, u64 w2c_p1, u64 w2c_p2
   w2c_j0 <<= (w2c_j1 & 63);
   w2c_l5 = w2c_j0;
   w2c_i0 = (u32)(w2c_j0);
-  w2c_j0 = constant_i64_load((u64)(w2c_i0) + 68904u);
+  w2c_j0 = constant_i64_load((u64)(w2c_i0) + 69552u);
   w2c_l3 = w2c_j0;
   w2c_j0 = w2c_l5;
   w2c_i0 = (u32)(w2c_j0);
-  w2c_j0 = constant_i64_load((u64)(w2c_i0) + 68832u);
+  w2c_j0 = constant_i64_load((u64)(w2c_i0) + 69480u);
   w2c_l4 = w2c_j0;
   w2c_B1:;
   w2c_j0 = w2c_p2;
@@ -17397,7 +17582,7 @@ static u32 w2c_keywrap_unwrap_many(struct instance *instance, u64 w2c_p0, u64 w2
 }
 static u32 w2c_f101(struct instance *instance, u64 w2c_p0, u64 w2c_p1, u64 w2c_p2, u64 w2c_p3, u32 w2c_p4, u64 w2c_p5, u64 w2c_p6, u64 w2c_p7, 
     u64 w2c_p8) {
-  u32 w2c_l10 = 0, w2c_l11 = 0;
+  u32 w2c_l10 = 0, w2c_l11 = 0, w2c_l12 = 0;
   u64 w2c_l9 = 0;
   const struct memory memory = instance->w2c_memory;
   (void)memory;
@@ -17467,8 +17652,10 @@ static u32 w2c_f101(struct instance *instance, u64 w2c_p0, u64 w2c_p1, u64 w2c_p
   w2c_j1 = 0ull;
   w2c_i0 = w2c_j0 != w2c_j1;
   if (w2c_i0) {goto w2c_B1;}
-  w2c_i0 = 0u;
+  w2c_i0 = 1u;
   w2c_l11 = w2c_i0;
+  w2c_i0 = 0u;
+  w2c_l12 = w2c_i0;
   w2c_i0 = w2c_p4;
   switch (w2c_i0) {
     case 0: goto w2c_B2;
@@ -17477,6 +17664,8 @@ static u32 w2c_f101(struct instance *instance, u64 w2c_p0, u64 w2c_p1, u64 w2c_p
   }
   w2c_B3:;
   w2c_i0 = 1u;
+  w2c_l12 = w2c_i0;
+  w2c_i0 = 0u;
   w2c_l11 = w2c_i0;
   w2c_B2:;
   w2c_j0 = w2c_p6;
@@ -17490,14 +17679,14 @@ static u32 w2c_f101(struct instance *instance, u64 w2c_p0, u64 w2c_p1, u64 w2c_p
   w2c_i0 = w2c_j0 != w2c_j1;
   if (w2c_i0) {goto w2c_B1;}
   w2c_j0 = w2c_p0;
-  w2c_j1 = 18446744073709551600ull;
+  w2c_j1 = 18446744073709551592ull;
   w2c_j0 += w2c_j1;
-  w2c_j1 = 1048569ull;
+  w2c_j1 = 1048561ull;
   w2c_i0 = w2c_j0 < w2c_j1;
   w2c_j1 = w2c_p0;
-  w2c_j2 = 18446744073709551592ull;
+  w2c_j2 = 18446744073709551600ull;
   w2c_j1 += w2c_j2;
-  w2c_j2 = 1048561ull;
+  w2c_j2 = 1048569ull;
   w2c_i1 = w2c_j1 < w2c_j2;
   w2c_i2 = w2c_l11;
   w2c_i0 = w2c_i2 ? w2c_i0 : w2c_i1;
@@ -17506,7 +17695,7 @@ static u32 w2c_f101(struct instance *instance, u64 w2c_p0, u64 w2c_p1, u64 w2c_p
   w2c_j0 = w2c_l9;
   w2c_j1 = 252ull;
   w2c_j0 += w2c_j1;
-  w2c_i1 = w2c_l11;
+  w2c_i1 = w2c_l12;
   w2c_j2 = w2c_p0;
   w2c_j3 = w2c_p2;
   w2c_j4 = 4096ull;
@@ -18787,12 +18976,10 @@ static u32 w2c_f115(struct instance *instance, u64 w2c_p0, u64 w2c_p1, u64 w2c_p
   if (w2c_i0) {goto w2c_B1;}
   w2c_j0 = w2c_p0;
   w2c_j1 = w2c_p4;
-  w2c_j2 = 7ull;
+  w2c_j2 = 15ull;
   w2c_j1 += w2c_j2;
   w2c_j2 = 4194296ull;
   w2c_j1 &= w2c_j2;
-  w2c_j2 = 8ull;
-  w2c_j1 += w2c_j2;
   w2c_i0 = w2c_j0 != w2c_j1;
   if (w2c_i0) {goto w2c_B1;}
   w2c_i0 = 1u;
@@ -18808,13 +18995,15 @@ static u32 w2c_f115(struct instance *instance, u64 w2c_p0, u64 w2c_p1, u64 w2c_p
   w2c_j0 = w2c_p4;
   w2c_j1 = 18446744073709551600ull;
   w2c_j0 += w2c_j1;
-  w2c_j1 = 1048560ull;
-  w2c_i0 = w2c_j0 > w2c_j1;
+  w2c_j1 = 1048561ull;
+  w2c_i0 = w2c_j0 >= w2c_j1;
   if (w2c_i0) {goto w2c_B1;}
   w2c_j0 = w2c_p0;
   w2c_j1 = w2c_p4;
-  w2c_j2 = 8ull;
+  w2c_j2 = 15ull;
   w2c_j1 += w2c_j2;
+  w2c_j2 = 4194296ull;
+  w2c_j1 &= w2c_j2;
   w2c_i0 = w2c_j0 != w2c_j1;
   if (w2c_i0) {goto w2c_B1;}
   w2c_i0 = 0u;
@@ -19009,12 +19198,10 @@ static u32 w2c_f119(struct instance *instance, u64 w2c_p0, u64 w2c_p1, u64 w2c_p
   if (w2c_i0) {goto w2c_B1;}
   w2c_j0 = w2c_p3;
   w2c_j1 = w2c_p4;
-  w2c_j2 = 7ull;
+  w2c_j2 = 15ull;
   w2c_j1 += w2c_j2;
   w2c_j2 = 4194296ull;
   w2c_j1 &= w2c_j2;
-  w2c_j2 = 8ull;
-  w2c_j1 += w2c_j2;
   w2c_i0 = w2c_j0 != w2c_j1;
   if (w2c_i0) {goto w2c_B1;}
   w2c_j0 = w2c_p2;
@@ -19418,212 +19605,79 @@ size_t keywrap_status_text(int32_t status, char *text, size_t capacity) {
     return (size_t)perform(&call);
 }
 
-static u64 run_wrap(struct instance *module, const struct call *call) {
-    return w2c_keywrap_wrap(module, BUFFER(0), BUFFER(1), BUFFER(2));
-}
+CALL(PROVED, perform, wrap, (const uint8_t *kek, size_t kek_len, const uint8_t *key, size_t key_len,
+     uint8_t *wrapped, size_t wrapped_len), (module, BUFFER(0), BUFFER(1), BUFFER(2)), (BUFFERS),
+     KEK(kek, kek_len), READS(key, key_len, KEYWRAP_MAX_KEY),
+     WRITES(wrapped, wrapped_len, KEYWRAP_MAX_TEXT))
 
-PROVED(int32_t, keywrap_wrap)
-(const uint8_t *kek, size_t kek_len, const uint8_t *key, size_t key_len, uint8_t *wrapped,
- size_t wrapped_len) {
-    struct buffer buffers[] = {KEK(kek, kek_len), READS(key, key_len, KEYWRAP_MAX_KEY),
-                               WRITES(wrapped, wrapped_len, KEYWRAP_MAX_TEXT)};
-    struct call call = {.run = run_wrap, BUFFERS};
-    return (int32_t)perform(&call);
-}
+CALL(PROVED, perform, unwrap, (const uint8_t *kek, size_t kek_len, const uint8_t *wrapped,
+     size_t wrapped_len, uint8_t *key, size_t key_len), (module, BUFFER(0), BUFFER(1), BUFFER(2)),
+     (BUFFERS), KEK(kek, kek_len), READS(wrapped, wrapped_len, KEYWRAP_MAX_TEXT),
+     WRITES(key, key_len, KEYWRAP_MAX_KEY))
 
-static u64 run_unwrap(struct instance *module, const struct call *call) {
-    return w2c_keywrap_unwrap(module, BUFFER(0), BUFFER(1), BUFFER(2));
-}
+CALL(PROVED, perform, wrap_with, (const uint8_t *kek, size_t kek_len, const uint8_t *iv,
+     size_t iv_len, const uint8_t *key, size_t key_len, uint8_t *wrapped, size_t wrapped_len),
+     (module, BUFFER(0), BUFFER(1), BUFFER(2), BUFFER(3)), (BUFFERS), KEK(kek, kek_len),
+     READS(iv, iv_len, 8), READS(key, key_len, KEYWRAP_MAX_KEY),
+     WRITES(wrapped, wrapped_len, KEYWRAP_MAX_TEXT))
 
-PROVED(int32_t, keywrap_unwrap)
-(const uint8_t *kek, size_t kek_len, const uint8_t *wrapped, size_t wrapped_len, uint8_t *key,
- size_t key_len) {
-    struct buffer buffers[] = {KEK(kek, kek_len), READS(wrapped, wrapped_len, KEYWRAP_MAX_TEXT),
-                               WRITES(key, key_len, KEYWRAP_MAX_KEY)};
-    struct call call = {.run = run_unwrap, BUFFERS};
-    return (int32_t)perform(&call);
-}
+CALL(PROVED, perform, unwrap_with, (const uint8_t *kek, size_t kek_len, const uint8_t *iv,
+     size_t iv_len, const uint8_t *wrapped, size_t wrapped_len, uint8_t *key, size_t key_len),
+     (module, BUFFER(0), BUFFER(1), BUFFER(2), BUFFER(3)), (BUFFERS), KEK(kek, kek_len),
+     READS(iv, iv_len, 8), READS(wrapped, wrapped_len, KEYWRAP_MAX_TEXT),
+     WRITES(key, key_len, KEYWRAP_MAX_KEY))
 
-static u64 run_wrap_with(struct instance *module, const struct call *call) {
-    return w2c_keywrap_wrap_with(module, BUFFER(0), BUFFER(1), BUFFER(2), BUFFER(3));
-}
+CALL(PROVED, perform, wrap_padded, (const uint8_t *kek, size_t kek_len, const uint8_t *key,
+     size_t key_len, uint8_t *wrapped, size_t wrapped_len),
+     (module, BUFFER(0), BUFFER(1), BUFFER(2)), (BUFFERS), KEK(kek, kek_len),
+     READS(key, key_len, KEYWRAP_MAX_KEY), WRITES(wrapped, wrapped_len, KEYWRAP_MAX_TEXT))
 
-PROVED(int32_t, keywrap_wrap_with)
-(const uint8_t *kek, size_t kek_len, const uint8_t *iv, size_t iv_len, const uint8_t *key,
- size_t key_len, uint8_t *wrapped, size_t wrapped_len) {
-    struct buffer buffers[] = {KEK(kek, kek_len), READS(iv, iv_len, 8),
-                               READS(key, key_len, KEYWRAP_MAX_KEY),
-                               WRITES(wrapped, wrapped_len, KEYWRAP_MAX_TEXT)};
-    struct call call = {.run = run_wrap_with, BUFFERS};
-    return (int32_t)perform(&call);
-}
+CALL(PROVED, perform, unwrap_padded, (const uint8_t *kek, size_t kek_len, const uint8_t *wrapped,
+     size_t wrapped_len, uint8_t *key, size_t room, size_t *key_len),
+     (module, BUFFER(0), BUFFER(1), BUFFER(2), NUMBER), (BUFFERS, .key_len = key_len),
+     KEK(kek, kek_len), READS(wrapped, wrapped_len, KEYWRAP_MAX_TEXT),
+     WRITES(key, room, KEYWRAP_MAX_KEY))
 
-static u64 run_unwrap_with(struct instance *module, const struct call *call) {
-    return w2c_keywrap_unwrap_with(module, BUFFER(0), BUFFER(1), BUFFER(2), BUFFER(3));
-}
+CALL(PROVED, perform, wrap_in_place, (const uint8_t *kek, size_t kek_len, uint8_t *buffer,
+     size_t wrapped_len), (module, BUFFER(0), BUFFER(1)), (BUFFERS), KEK(kek, kek_len),
+     WRITES(buffer, wrapped_len, KEYWRAP_MAX_TEXT))
 
-PROVED(int32_t, keywrap_unwrap_with)
-(const uint8_t *kek, size_t kek_len, const uint8_t *iv, size_t iv_len, const uint8_t *wrapped,
- size_t wrapped_len, uint8_t *key, size_t key_len) {
-    struct buffer buffers[] = {KEK(kek, kek_len), READS(iv, iv_len, 8),
-                               READS(wrapped, wrapped_len, KEYWRAP_MAX_TEXT),
-                               WRITES(key, key_len, KEYWRAP_MAX_KEY)};
-    struct call call = {.run = run_unwrap_with, BUFFERS};
-    return (int32_t)perform(&call);
-}
+CALL(PROVED, perform, unwrap_in_place, (const uint8_t *kek, size_t kek_len, uint8_t *buffer,
+     size_t wrapped_len), (module, BUFFER(0), BUFFER(1)), (BUFFERS), KEK(kek, kek_len),
+     WRITES(buffer, wrapped_len, KEYWRAP_MAX_TEXT))
 
-static u64 run_wrap_padded(struct instance *module, const struct call *call) {
-    return w2c_keywrap_wrap_padded(module, BUFFER(0), BUFFER(1), BUFFER(2));
-}
+CALL(PROVED, perform, wrap_padded_in_place, (const uint8_t *kek, size_t kek_len, uint8_t *buffer,
+     size_t wrapped_len, size_t key_len), (module, BUFFER(0), BUFFER(1), call->number),
+     (BUFFERS, .number = key_len), KEK(kek, kek_len), WRITES(buffer, wrapped_len, KEYWRAP_MAX_TEXT))
 
-PROVED(int32_t, keywrap_wrap_padded)
-(const uint8_t *kek, size_t kek_len, const uint8_t *key, size_t key_len, uint8_t *wrapped,
- size_t wrapped_len) {
-    struct buffer buffers[] = {KEK(kek, kek_len), READS(key, key_len, KEYWRAP_MAX_KEY),
-                               WRITES(wrapped, wrapped_len, KEYWRAP_MAX_TEXT)};
-    struct call call = {.run = run_wrap_padded, BUFFERS};
-    return (int32_t)perform(&call);
-}
+CALL(PROVED, perform, unwrap_padded_in_place, (const uint8_t *kek, size_t kek_len, uint8_t *buffer,
+     size_t wrapped_len, size_t *key_len), (module, BUFFER(0), BUFFER(1), NUMBER),
+     (BUFFERS, .key_len = key_len), KEK(kek, kek_len),
+     WRITES(buffer, wrapped_len, KEYWRAP_MAX_TEXT))
 
-static u64 run_unwrap_padded(struct instance *module, const struct call *call) {
-    return w2c_keywrap_unwrap_padded(module, BUFFER(0), BUFFER(1), BUFFER(2), NUMBER);
-}
+CALL(PROVED, perform, kind, (const uint8_t *kek, size_t kek_len, const uint8_t *wrapped,
+     size_t wrapped_len, uint8_t *scratch, size_t room, uint32_t *padded, size_t *key_len),
+     (module, BUFFER(0), BUFFER(1), BUFFER(2), FLAG, NUMBER),
+     (BUFFERS, .flag = padded, .key_len = key_len), KEK(kek, kek_len),
+     READS(wrapped, wrapped_len, KEYWRAP_MAX_TEXT), WRITES(scratch, room, KEYWRAP_MAX_KEY))
 
-PROVED(int32_t, keywrap_unwrap_padded)
-(const uint8_t *kek, size_t kek_len, const uint8_t *wrapped, size_t wrapped_len, uint8_t *key,
- size_t room, size_t *key_len) {
-    struct buffer buffers[] = {KEK(kek, kek_len), READS(wrapped, wrapped_len, KEYWRAP_MAX_TEXT),
-                               WRITES(key, room, KEYWRAP_MAX_KEY)};
-    struct call call = {
-        .run = run_unwrap_padded,
-        BUFFERS,
-        .key_len = key_len,
-    };
-    return (int32_t)perform(&call);
-}
+CALL(PROVED, perform, unwrap_any, (const uint8_t *kek, size_t kek_len, const uint8_t *wrapped,
+     size_t wrapped_len, uint8_t *key, size_t room, uint32_t *padded, size_t *key_len),
+     (module, BUFFER(0), BUFFER(1), BUFFER(2), FLAG, NUMBER),
+     (BUFFERS, .flag = padded, .key_len = key_len), KEK(kek, kek_len),
+     READS(wrapped, wrapped_len, KEYWRAP_MAX_TEXT), WRITES(key, room, KEYWRAP_MAX_KEY))
 
-static u64 run_wrap_in_place(struct instance *module, const struct call *call) {
-    return w2c_keywrap_wrap_in_place(module, BUFFER(0), BUFFER(1));
-}
+CALL(PROVED, perform, rewrap, (const uint8_t *old_kek, size_t old_kek_len, const uint8_t *new_kek,
+     size_t new_kek_len, uint8_t *buffer, size_t wrapped_len, uint32_t flags, uint32_t *already),
+     (module, BUFFER(0), BUFFER(1), BUFFER(2), call->flags, FLAG),
+     (BUFFERS, .flags = flags, .flag = already), KEK(old_kek, old_kek_len),
+     KEK(new_kek, new_kek_len), WRITES(buffer, wrapped_len, KEYWRAP_MAX_TEXT))
 
-PROVED(int32_t, keywrap_wrap_in_place)
-(const uint8_t *kek, size_t kek_len, uint8_t *buffer, size_t wrapped_len) {
-    struct buffer buffers[] = {KEK(kek, kek_len), WRITES(buffer, wrapped_len, KEYWRAP_MAX_TEXT)};
-    struct call call = {.run = run_wrap_in_place, BUFFERS};
-    return (int32_t)perform(&call);
-}
-
-static u64 run_unwrap_in_place(struct instance *module, const struct call *call) {
-    return w2c_keywrap_unwrap_in_place(module, BUFFER(0), BUFFER(1));
-}
-
-PROVED(int32_t, keywrap_unwrap_in_place)
-(const uint8_t *kek, size_t kek_len, uint8_t *buffer, size_t wrapped_len) {
-    struct buffer buffers[] = {KEK(kek, kek_len), WRITES(buffer, wrapped_len, KEYWRAP_MAX_TEXT)};
-    struct call call = {.run = run_unwrap_in_place, BUFFERS};
-    return (int32_t)perform(&call);
-}
-
-static u64 run_wrap_padded_in_place(struct instance *module, const struct call *call) {
-    return w2c_keywrap_wrap_padded_in_place(module, BUFFER(0), BUFFER(1), call->number);
-}
-
-PROVED(int32_t, keywrap_wrap_padded_in_place)
-(const uint8_t *kek, size_t kek_len, uint8_t *buffer, size_t wrapped_len, size_t key_len) {
-    struct buffer buffers[] = {KEK(kek, kek_len), WRITES(buffer, wrapped_len, KEYWRAP_MAX_TEXT)};
-    struct call call = {
-        .run = run_wrap_padded_in_place,
-        BUFFERS,
-        .number = key_len,
-    };
-    return (int32_t)perform(&call);
-}
-
-static u64 run_unwrap_padded_in_place(struct instance *module, const struct call *call) {
-    return w2c_keywrap_unwrap_padded_in_place(module, BUFFER(0), BUFFER(1), NUMBER);
-}
-
-PROVED(int32_t, keywrap_unwrap_padded_in_place)
-(const uint8_t *kek, size_t kek_len, uint8_t *buffer, size_t wrapped_len, size_t *key_len) {
-    struct buffer buffers[] = {KEK(kek, kek_len), WRITES(buffer, wrapped_len, KEYWRAP_MAX_TEXT)};
-    struct call call = {
-        .run = run_unwrap_padded_in_place,
-        BUFFERS,
-        .key_len = key_len,
-    };
-    return (int32_t)perform(&call);
-}
-
-static u64 run_kind(struct instance *module, const struct call *call) {
-    return w2c_keywrap_kind(module, BUFFER(0), BUFFER(1), BUFFER(2), FLAG, NUMBER);
-}
-
-PROVED(int32_t, keywrap_kind)
-(const uint8_t *kek, size_t kek_len, const uint8_t *wrapped, size_t wrapped_len, uint8_t *scratch,
- size_t room, uint32_t *padded, size_t *key_len) {
-    struct buffer buffers[] = {KEK(kek, kek_len), READS(wrapped, wrapped_len, KEYWRAP_MAX_TEXT),
-                               WRITES(scratch, room, KEYWRAP_MAX_KEY)};
-    struct call call = {
-        .run = run_kind,
-        BUFFERS,
-        .key_len = key_len,
-        .flag = padded,
-    };
-    return (int32_t)perform(&call);
-}
-
-static u64 run_unwrap_any(struct instance *module, const struct call *call) {
-    return w2c_keywrap_unwrap_any(module, BUFFER(0), BUFFER(1), BUFFER(2), FLAG, NUMBER);
-}
-
-PROVED(int32_t, keywrap_unwrap_any)
-(const uint8_t *kek, size_t kek_len, const uint8_t *wrapped, size_t wrapped_len, uint8_t *key,
- size_t room, uint32_t *padded, size_t *key_len) {
-    struct buffer buffers[] = {KEK(kek, kek_len), READS(wrapped, wrapped_len, KEYWRAP_MAX_TEXT),
-                               WRITES(key, room, KEYWRAP_MAX_KEY)};
-    struct call call = {
-        .run = run_unwrap_any,
-        BUFFERS,
-        .key_len = key_len,
-        .flag = padded,
-    };
-    return (int32_t)perform(&call);
-}
-
-static u64 run_rewrap(struct instance *module, const struct call *call) {
-    return w2c_keywrap_rewrap(module, BUFFER(0), BUFFER(1), BUFFER(2), (u32)call->number, FLAG);
-}
-
-PROVED(int32_t, keywrap_rewrap)
-(const uint8_t *old_kek, size_t old_kek_len, const uint8_t *new_kek, size_t new_kek_len,
- uint8_t *buffer, size_t wrapped_len, uint32_t flags, uint32_t *already) {
-    struct buffer buffers[] = {KEK(old_kek, old_kek_len), KEK(new_kek, new_kek_len),
-                               WRITES(buffer, wrapped_len, KEYWRAP_MAX_TEXT)};
-    struct call call = {
-        .run = run_rewrap,
-        BUFFERS,
-        .number = flags,
-        .flag = already,
-    };
-    return (int32_t)perform(&call);
-}
-
-static u64 run_rewrap_in_place(struct instance *module, const struct call *call) {
-    return w2c_keywrap_rewrap_in_place(module, BUFFER(0), BUFFER(1), BUFFER(2), (u32)call->number);
-}
-
-PROVED(int32_t, keywrap_rewrap_in_place)
-(const uint8_t *old_kek, size_t old_kek_len, const uint8_t *new_kek, size_t new_kek_len,
- uint8_t *buffer, size_t wrapped_len, uint32_t forms) {
-    struct buffer buffers[] = {KEK(old_kek, old_kek_len), KEK(new_kek, new_kek_len),
-                               WRITES(buffer, wrapped_len, KEYWRAP_MAX_TEXT)};
-    struct call call = {
-        .run = run_rewrap_in_place,
-        BUFFERS,
-        .number = forms,
-    };
-    return (int32_t)perform(&call);
-}
+CALL(PROVED, perform, rewrap_in_place, (const uint8_t *old_kek, size_t old_kek_len,
+     const uint8_t *new_kek, size_t new_kek_len, uint8_t *buffer, size_t wrapped_len,
+     uint32_t forms), (module, BUFFER(0), BUFFER(1), BUFFER(2), call->flags),
+     (BUFFERS, .flags = forms), KEK(old_kek, old_kek_len), KEK(new_kek, new_kek_len),
+     WRITES(buffer, wrapped_len, KEYWRAP_MAX_TEXT))
 
 /* The number of slots, or 0, which the call refuses: a slot is shorter or longer than any wrapped
  * key, sizes are odd, or the other results are not as many. */
@@ -19651,122 +19705,72 @@ static void put_lens(size_t *key_lens, const u8 *bytes, size_t count) {
     }
 }
 
-static u64 run_rewrap_many(struct instance *module, const struct call *call) {
-    return w2c_keywrap_rewrap_many(module, BUFFER(0), BUFFER(1), BUFFER(2), (u32)call->number,
-                                   BUFFER(3));
-}
+/* A call for many keys, for `now` slots at a time, from the slot `done` on: its name and parameters; the
+ * arguments of the module's function; what is set in the struct call; how many slots there are, and how
+ * many one run takes; and the buffers. It puts what the module returned in `lens` into `key_lens`. */
+#define CALL_OF_MANY(name, parameters, given, set, all, most, key_lens, ...)                       \
+    static u64 run_##name(struct instance *module, const struct call *call) {                      \
+        return w2c_keywrap_##name given;                                                           \
+    }                                                                                              \
+    PROVED(int32_t, keywrap_##name) parameters {                                                   \
+        const size_t slots = all, len = slots ? texts_len / slots : 0;                             \
+        u8 lens[8 * MOST_LENS];                                                                    \
+        int32_t status;                                                                            \
+        size_t done = 0, *to = key_lens;                                                           \
+        (void)lens;                                                                                \
+        do {                                                                                       \
+            const size_t now = slots_now(slots - done, len, most);                                 \
+            struct buffer buffers[] = {__VA_ARGS__};                                               \
+            struct call call = {.run = run_##name, THESE set};                                     \
+            status = (int32_t)perform(&call);                                                      \
+            if (to && status == KEYWRAP_OK) put_lens(to + done, lens, now);                        \
+            done += now;                                                                           \
+        } while (status == KEYWRAP_OK && done < slots);                                            \
+        return status;                                                                             \
+    }
 
-PROVED(int32_t, keywrap_rewrap_many)
-(const uint8_t *old_kek, size_t old_kek_len, const uint8_t *new_kek, size_t new_kek_len,
- uint8_t *texts, size_t texts_len, uint32_t flags, uint8_t *statuses, size_t count) {
-    const size_t slots = slots_of(texts_len, count, count), len = slots ? texts_len / slots : 0;
-    int32_t status;
-    size_t done = 0;
-    do {
-        const size_t now = slots_now(slots - done, len, SIZE_MAX);
-        struct buffer buffers[] = {KEK(old_kek, old_kek_len), KEK(new_kek, new_kek_len),
-                                   MANY(texts + len * done, len * now), MANY(statuses + done, now)};
-        struct call call = {
-            .run = run_rewrap_many,
-            BUFFERS,
-            .number = flags,
-        };
-        status = (int32_t)perform(&call);
-        done += now;
-    } while (status == KEYWRAP_OK && done < slots);
-    return status;
-}
+CALL_OF_MANY(rewrap_many,
+     (const uint8_t *old_kek, size_t old_kek_len, const uint8_t *new_kek, size_t new_kek_len,
+      uint8_t *texts, size_t texts_len, uint32_t flags, uint8_t *statuses, size_t count),
+     (module, BUFFER(0), BUFFER(1), BUFFER(2), (u32)call->number, BUFFER(3)),
+     (BUFFERS, .number = flags), slots_of(texts_len, count, count), SIZE_MAX, NULL,
+     KEK(old_kek, old_kek_len), KEK(new_kek, new_kek_len), MANY(texts + len * done, len * now),
+     MANY(statuses + done, now))
 
-static u64 run_wrap_many(struct instance *module, const struct call *call) {
-    return w2c_keywrap_wrap_many(module, BUFFER(0), BUFFER(1), call->number, call->flags,
-                                 BUFFER(2));
-}
+CALL_OF_MANY(wrap_many,
+     (const uint8_t *kek, size_t kek_len, uint8_t *texts, size_t texts_len, size_t key_len,
+      uint32_t flags, uint8_t *statuses, size_t count),
+     (module, BUFFER(0), BUFFER(1), call->number, call->flags, BUFFER(2)),
+     (BUFFERS, .number = key_len, .flags = flags), slots_of(texts_len, count, count), SIZE_MAX, NULL,
+     KEK(kek, kek_len), MANY(texts + len * done, len * now), MANY(statuses + done, now))
 
-PROVED(int32_t, keywrap_wrap_many)
-(const uint8_t *kek, size_t kek_len, uint8_t *texts, size_t texts_len, size_t key_len,
- uint32_t flags, uint8_t *statuses, size_t count) {
-    const size_t slots = slots_of(texts_len, count, count), len = slots ? texts_len / slots : 0;
-    int32_t status;
-    size_t done = 0;
-    do {
-        const size_t now = slots_now(slots - done, len, SIZE_MAX);
-        struct buffer buffers[] = {KEK(kek, kek_len), MANY(texts + len * done, len * now),
-                                   MANY(statuses + done, now)};
-        struct call call = {
-            .run = run_wrap_many,
-            BUFFERS,
-            .number = key_len,
-            .flags = flags,
-        };
-        status = (int32_t)perform(&call);
-        done += now;
-    } while (status == KEYWRAP_OK && done < slots);
-    return status;
-}
+CALL_OF_MANY(unwrap_many,
+     (const uint8_t *kek, size_t kek_len, uint8_t *texts, size_t texts_len, uint32_t flags,
+      size_t *key_lens, size_t key_lens_count, uint8_t *statuses, size_t count),
+     (module, BUFFER(0), BUFFER(1), (u32)call->number, ADDRESS(2), call->buffers[3].len, BUFFER(3)),
+     (BUFFERS, .number = flags), slots_of(texts_len, count, key_lens_count), MOST_LENS, key_lens,
+     KEK(kek, kek_len), MANY(texts + len * done, len * now), MANY(lens, 8 * now),
+     MANY(statuses + done, now))
 
-static u64 run_unwrap_many(struct instance *module, const struct call *call) {
-    return w2c_keywrap_unwrap_many(module, BUFFER(0), BUFFER(1), (u32)call->number, ADDRESS(2),
-                                   call->buffers[3].len, BUFFER(3));
-}
-
-PROVED(int32_t, keywrap_unwrap_many)
-(const uint8_t *kek, size_t kek_len, uint8_t *texts, size_t texts_len, uint32_t flags,
- size_t *key_lens, size_t key_lens_count, uint8_t *statuses, size_t count) {
-    const size_t slots = slots_of(texts_len, count, key_lens_count);
-    const size_t len = slots ? texts_len / slots : 0;
-    u8 lens[8 * MOST_LENS];
-    int32_t status;
-    size_t done = 0;
-    do {
-        const size_t now = slots_now(slots - done, len, MOST_LENS);
-        struct buffer buffers[] = {KEK(kek, kek_len), MANY(texts + len * done, len * now),
-                                   MANY(lens, 8 * now), MANY(statuses + done, now)};
-        struct call call = {
-            .run = run_unwrap_many,
-            BUFFERS,
-            .number = flags,
-        };
-        status = (int32_t)perform(&call);
-        if (status == KEYWRAP_OK) put_lens(key_lens + done, lens, now);
-        done += now;
-    } while (status == KEYWRAP_OK && done < slots);
-    return status;
-}
-
-static u64 run_kind_many(struct instance *module, const struct call *call) {
-    return w2c_keywrap_kind_many(module, BUFFER(0), BUFFER(1), BUFFER(2), BUFFER(3), ADDRESS(4),
-                                 call->buffers[5].len, BUFFER(5));
-}
-
-PROVED(int32_t, keywrap_kind_many)
-(const uint8_t *kek, size_t kek_len, const uint8_t *texts, size_t texts_len, uint8_t *scratch,
- size_t room, uint8_t *forms, size_t forms_count, size_t *key_lens, size_t key_lens_count,
- uint8_t *statuses, size_t count) {
-    const size_t slots = forms_count == count ? slots_of(texts_len, count, key_lens_count) : 0;
-    const size_t len = slots ? texts_len / slots : 0;
-    u8 lens[8 * MOST_LENS];
-    int32_t status;
-    size_t done = 0;
-    do {
-        const size_t now = slots_now(slots - done, len, MOST_LENS);
-        struct buffer buffers[] = {KEK(kek, kek_len),
-                                   READS(texts + len * done, len * now, SIZE_MAX),
-                                   WRITES(scratch, room, KEYWRAP_MAX_KEY),
-                                   MANY(forms + done, now),
-                                   MANY(lens, 8 * now),
-                                   MANY(statuses + done, now)};
-        struct call call = {.run = run_kind_many, BUFFERS};
-        status = (int32_t)perform(&call);
-        if (status == KEYWRAP_OK) put_lens(key_lens + done, lens, now);
-        done += now;
-    } while (status == KEYWRAP_OK && done < slots);
-    return status;
-}
+CALL_OF_MANY(kind_many,
+     (const uint8_t *kek, size_t kek_len, const uint8_t *texts, size_t texts_len, uint8_t *scratch,
+      size_t room, uint8_t *forms, size_t forms_count, size_t *key_lens, size_t key_lens_count,
+      uint8_t *statuses, size_t count),
+     (module, BUFFER(0), BUFFER(1), BUFFER(2), BUFFER(3), ADDRESS(4), call->buffers[5].len, BUFFER(5)),
+     (BUFFERS), forms_count == count ? slots_of(texts_len, count, key_lens_count) : 0, MOST_LENS,
+     key_lens,
+     KEK(kek, kek_len), READS(texts + len * done, len * now, SIZE_MAX),
+     WRITES(scratch, room, KEYWRAP_MAX_KEY), MANY(forms + done, now), MANY(lens, 8 * now),
+     MANY(statuses + done, now))
 #endif
 
 /*** The calls of keywrap_steps.h ***/
 
 ALWAYS_INLINE u64 perform_steps(struct call *call) {
+    return perform_in(call, STEP_STACK);
+}
+
+ALWAYS_INLINE u64 perform_turn(struct call *call) {
     return perform_in(call, STEPS_STACK);
 }
 
@@ -19776,229 +19780,73 @@ uint64_t keywrap_step_count(size_t len) {
     return w2c_keywrap_step_count(&module, len);
 }
 
-static u64 run_begin_wrap(struct instance *module, const struct call *call) {
-    return w2c_keywrap_begin_wrap(module, BUFFER(0), BUFFER(1), NUMBER, BLOCK_AT);
-}
+CALL(SHOWN, perform_steps, begin_wrap, (const uint8_t *iv, size_t iv_len, const uint8_t *registers,
+     size_t len, uint64_t *done, uint8_t *block), (module, BUFFER(0), BUFFER(1), NUMBER, BLOCK_AT),
+     (BUFFERS, .steps = done, .block = block, .begins = 1), READS(iv, iv_len, 8),
+     READS(registers, len, KEYWRAP_MAX_KEY))
 
-int32_t keywrap_begin_wrap(const uint8_t *iv, size_t iv_len, const uint8_t *registers, size_t len,
-                           uint64_t *done, uint8_t *block) {
-    struct buffer buffers[] = {READS(iv, iv_len, 8), READS(registers, len, KEYWRAP_MAX_KEY)};
-    struct call call = {
-        .run = run_begin_wrap,
-        BUFFERS,
-        .steps = done,
-        .block = block,
-        .begins = 1,
-    };
-    return (int32_t)perform_steps(&call);
-}
+CALL(SHOWN, perform_steps, begin_wrap_padded, (size_t key_len, uint8_t *registers, size_t len,
+     uint64_t *done, uint8_t *block), (module, call->number, BUFFER(0), NUMBER, BLOCK_AT),
+     (BUFFERS, .number = key_len, .steps = done, .block = block, .begins = 1),
+     WRITES(registers, len, KEYWRAP_MAX_KEY))
 
-static u64 run_begin_wrap_padded(struct instance *module, const struct call *call) {
-    return w2c_keywrap_begin_wrap_padded(module, call->number, BUFFER(0), NUMBER, BLOCK_AT);
-}
+CALL(SHOWN, perform_steps, step_wrap, (uint8_t *registers, size_t len, uint64_t *done,
+     uint8_t *block), (module, BUFFER(0), NUMBER, BLOCK_AT),
+     (BUFFERS, .steps = done, .block = block), WRITES(registers, len, KEYWRAP_MAX_KEY))
 
-int32_t keywrap_begin_wrap_padded(size_t key_len, uint8_t *registers, size_t len, uint64_t *done,
-                                  uint8_t *block) {
-    struct buffer buffers[] = {WRITES(registers, len, KEYWRAP_MAX_KEY)};
-    struct call call = {
-        .run = run_begin_wrap_padded,
-        BUFFERS,
-        .number = key_len,
-        .steps = done,
-        .block = block,
-        .begins = 1,
-    };
-    return (int32_t)perform_steps(&call);
-}
+CALL(SHOWN, perform_steps, end_wrap, (uint8_t *first, const uint8_t *registers, size_t len,
+     uint64_t done, const uint8_t *block),
+     (module, ADDRESS(0), BUFFER(1), call->number, ADDRESS(2)), (BUFFERS, .number = done),
+     WRITES(first, 8, 8), READS(registers, len, KEYWRAP_MAX_KEY), READS(block, 16, 16))
 
-static u64 run_step_wrap(struct instance *module, const struct call *call) {
-    return w2c_keywrap_step_wrap(module, BUFFER(0), NUMBER, BLOCK_AT);
-}
+CALL(SHOWN, perform_steps, begin_unwrap, (const uint8_t *first, const uint8_t *registers,
+     size_t len, uint64_t *left, uint8_t *block), (module, ADDRESS(0), BUFFER(1), NUMBER, BLOCK_AT),
+     (BUFFERS, .steps = left, .block = block, .begins = 1), READS(first, 8, 8),
+     READS(registers, len, KEYWRAP_MAX_KEY))
 
-int32_t keywrap_step_wrap(uint8_t *registers, size_t len, uint64_t *done, uint8_t *block) {
-    struct buffer buffers[] = {WRITES(registers, len, KEYWRAP_MAX_KEY)};
-    struct call call = {
-        .run = run_step_wrap,
-        BUFFERS,
-        .steps = done,
-        .block = block,
-    };
-    return (int32_t)perform_steps(&call);
-}
+CALL(SHOWN, perform_steps, begin_unwrap_padded, (const uint8_t *first, const uint8_t *registers,
+     size_t len, uint64_t *left, uint8_t *block), (module, ADDRESS(0), BUFFER(1), NUMBER, BLOCK_AT),
+     (BUFFERS, .steps = left, .block = block, .begins = 1), READS(first, 8, 8),
+     READS(registers, len, KEYWRAP_MAX_KEY))
 
-static u64 run_end_wrap(struct instance *module, const struct call *call) {
-    return w2c_keywrap_end_wrap(module, ADDRESS(0), BUFFER(1), call->number, ADDRESS(2));
-}
+CALL(SHOWN, perform_steps, step_unwrap, (uint8_t *registers, size_t len, uint64_t *left,
+     uint8_t *block), (module, BUFFER(0), NUMBER, BLOCK_AT),
+     (BUFFERS, .steps = left, .block = block), WRITES(registers, len, KEYWRAP_MAX_KEY))
 
-int32_t keywrap_end_wrap(uint8_t *first, const uint8_t *registers, size_t len, uint64_t done,
-                         const uint8_t *block) {
-    struct buffer buffers[] = {WRITES(first, 8, 8), READS(registers, len, KEYWRAP_MAX_KEY),
-                               READS(block, 16, 16)};
-    struct call call = {
-        .run = run_end_wrap,
-        BUFFERS,
-        .number = done,
-    };
-    return (int32_t)perform_steps(&call);
-}
+CALL(SHOWN, perform_steps, end_unwrap, (const uint8_t *iv, size_t iv_len, uint8_t *registers,
+     size_t len, uint64_t left, uint8_t *block),
+     (module, BUFFER(0), BUFFER(1), call->number, BLOCK_AT),
+     (BUFFERS, .number = left, .block = block), READS(iv, iv_len, 8),
+     WRITES(registers, len, KEYWRAP_MAX_KEY))
 
-static u64 run_begin_unwrap(struct instance *module, const struct call *call) {
-    return w2c_keywrap_begin_unwrap(module, ADDRESS(0), BUFFER(1), NUMBER, BLOCK_AT);
-}
+CALL(SHOWN, perform_steps, end_unwrap_padded, (uint8_t *registers, size_t len, uint64_t left,
+     uint8_t *block, size_t *key_len), (module, BUFFER(0), call->number, BLOCK_AT, NUMBER),
+     (BUFFERS, .number = left, .block = block, .key_len = key_len),
+     WRITES(registers, len, KEYWRAP_MAX_KEY))
 
-int32_t keywrap_begin_unwrap(const uint8_t *first, const uint8_t *registers, size_t len,
-                             uint64_t *left, uint8_t *block) {
-    struct buffer buffers[] = {READS(first, 8, 8), READS(registers, len, KEYWRAP_MAX_KEY)};
-    struct call call = {
-        .run = run_begin_unwrap,
-        BUFFERS,
-        .steps = left,
-        .block = block,
-        .begins = 1,
-    };
-    return (int32_t)perform_steps(&call);
-}
+CALL(SHOWN, perform_steps, end_unwrap_any, (uint8_t *registers, size_t len, uint64_t left,
+     uint8_t *block, uint32_t *padded, size_t *key_len),
+     (module, BUFFER(0), call->number, BLOCK_AT, FLAG, NUMBER),
+     (BUFFERS, .number = left, .block = block, .flag = padded, .key_len = key_len),
+     WRITES(registers, len, KEYWRAP_MAX_KEY))
 
-static u64 run_begin_unwrap_padded(struct instance *module, const struct call *call) {
-    return w2c_keywrap_begin_unwrap_padded(module, ADDRESS(0), BUFFER(1), NUMBER, BLOCK_AT);
-}
+CALL(SHOWN, perform_steps, begin_rewrap, (uint32_t flags, const uint8_t *text, size_t text_len,
+     uint32_t *phase, uint64_t *steps, uint8_t *block),
+     (module, call->flags, BUFFER(0), FLAG, NUMBER, BLOCK_AT),
+     (BUFFERS, .flags = flags, .flag = phase, .steps = steps, .block = block, .begins = 1),
+     READS(text, text_len, KEYWRAP_MAX_TEXT))
 
-int32_t keywrap_begin_unwrap_padded(const uint8_t *first, const uint8_t *registers, size_t len,
-                                    uint64_t *left, uint8_t *block) {
-    struct buffer buffers[] = {READS(first, 8, 8), READS(registers, len, KEYWRAP_MAX_KEY)};
-    struct call call = {
-        .run = run_begin_unwrap_padded,
-        BUFFERS,
-        .steps = left,
-        .block = block,
-        .begins = 1,
-    };
-    return (int32_t)perform_steps(&call);
-}
+CALL(SHOWN, perform_turn, next_rewrap, (uint32_t flags, uint8_t *text, size_t text_len,
+     uint32_t *phase, uint64_t *steps, uint8_t *block),
+     (module, call->flags, BUFFER(0), FLAG, NUMBER, BLOCK_AT),
+     (BUFFERS, .flags = flags, .flag = phase, .steps = steps, .block = block),
+     WRITES(text, text_len, KEYWRAP_MAX_TEXT))
 
-static u64 run_step_unwrap(struct instance *module, const struct call *call) {
-    return w2c_keywrap_step_unwrap(module, BUFFER(0), NUMBER, BLOCK_AT);
-}
-
-int32_t keywrap_step_unwrap(uint8_t *registers, size_t len, uint64_t *left, uint8_t *block) {
-    struct buffer buffers[] = {WRITES(registers, len, KEYWRAP_MAX_KEY)};
-    struct call call = {
-        .run = run_step_unwrap,
-        BUFFERS,
-        .steps = left,
-        .block = block,
-    };
-    return (int32_t)perform_steps(&call);
-}
-
-static u64 run_end_unwrap(struct instance *module, const struct call *call) {
-    return w2c_keywrap_end_unwrap(module, BUFFER(0), BUFFER(1), call->number, BLOCK_AT);
-}
-
-int32_t keywrap_end_unwrap(const uint8_t *iv, size_t iv_len, uint8_t *registers, size_t len,
-                           uint64_t left, uint8_t *block) {
-    struct buffer buffers[] = {READS(iv, iv_len, 8), WRITES(registers, len, KEYWRAP_MAX_KEY)};
-    struct call call = {
-        .run = run_end_unwrap,
-        BUFFERS,
-        .number = left,
-        .block = block,
-    };
-    return (int32_t)perform_steps(&call);
-}
-
-static u64 run_end_unwrap_padded(struct instance *module, const struct call *call) {
-    return w2c_keywrap_end_unwrap_padded(module, BUFFER(0), call->number, BLOCK_AT, NUMBER);
-}
-
-int32_t keywrap_end_unwrap_padded(uint8_t *registers, size_t len, uint64_t left, uint8_t *block,
-                                  size_t *key_len) {
-    struct buffer buffers[] = {WRITES(registers, len, KEYWRAP_MAX_KEY)};
-    struct call call = {
-        .run = run_end_unwrap_padded,
-        BUFFERS,
-        .number = left,
-        .key_len = key_len,
-        .block = block,
-    };
-    return (int32_t)perform_steps(&call);
-}
-
-static u64 run_end_unwrap_any(struct instance *module, const struct call *call) {
-    return w2c_keywrap_end_unwrap_any(module, BUFFER(0), call->number, BLOCK_AT, FLAG, NUMBER);
-}
-
-int32_t keywrap_end_unwrap_any(uint8_t *registers, size_t len, uint64_t left, uint8_t *block,
-                               uint32_t *padded, size_t *key_len) {
-    struct buffer buffers[] = {WRITES(registers, len, KEYWRAP_MAX_KEY)};
-    struct call call = {
-        .run = run_end_unwrap_any,
-        BUFFERS,
-        .number = left,
-        .key_len = key_len,
-        .flag = padded,
-        .block = block,
-    };
-    return (int32_t)perform_steps(&call);
-}
-
-static u64 run_begin_rewrap(struct instance *module, const struct call *call) {
-    return w2c_keywrap_begin_rewrap(module, call->flags, BUFFER(0), FLAG, NUMBER, BLOCK_AT);
-}
-
-int32_t keywrap_begin_rewrap(uint32_t flags, const uint8_t *text, size_t text_len, uint32_t *phase,
-                             uint64_t *steps, uint8_t *block) {
-    struct buffer buffers[] = {READS(text, text_len, KEYWRAP_MAX_TEXT)};
-    struct call call = {
-        .run = run_begin_rewrap,
-        BUFFERS,
-        .flags = flags,
-        .flag = phase,
-        .steps = steps,
-        .block = block,
-        .begins = 1,
-    };
-    return (int32_t)perform_steps(&call);
-}
-
-static u64 run_next_rewrap(struct instance *module, const struct call *call) {
-    return w2c_keywrap_next_rewrap(module, call->flags, BUFFER(0), FLAG, NUMBER, BLOCK_AT);
-}
-
-int32_t keywrap_next_rewrap(uint32_t flags, uint8_t *text, size_t text_len, uint32_t *phase,
-                            uint64_t *steps, uint8_t *block) {
-    struct buffer buffers[] = {WRITES(text, text_len, KEYWRAP_MAX_TEXT)};
-    struct call call = {
-        .run = run_next_rewrap,
-        BUFFERS,
-        .flags = flags,
-        .flag = phase,
-        .steps = steps,
-        .block = block,
-    };
-    return (int32_t)perform_steps(&call);
-}
-
-static u64 run_next_rewrap_from(struct instance *module, const struct call *call) {
-    return w2c_keywrap_next_rewrap_from(module, call->flags, BUFFER(0), BUFFER(1), FLAG, NUMBER,
-                                        BLOCK_AT);
-}
-
-int32_t keywrap_next_rewrap_from(uint32_t flags, const uint8_t *copy, size_t copy_len,
-                                 uint8_t *text, size_t text_len, uint32_t *phase, uint64_t *steps,
-                                 uint8_t *block) {
-    struct buffer buffers[] = {READS(copy, copy_len, KEYWRAP_MAX_TEXT),
-                               WRITES(text, text_len, KEYWRAP_MAX_TEXT)};
-    struct call call = {
-        .run = run_next_rewrap_from,
-        BUFFERS,
-        .flags = flags,
-        .flag = phase,
-        .steps = steps,
-        .block = block,
-    };
-    return (int32_t)perform_steps(&call);
-}
+CALL(SHOWN, perform_turn, next_rewrap_from, (uint32_t flags, const uint8_t *copy, size_t copy_len,
+     uint8_t *text, size_t text_len, uint32_t *phase, uint64_t *steps, uint8_t *block),
+     (module, call->flags, BUFFER(0), BUFFER(1), FLAG, NUMBER, BLOCK_AT),
+     (BUFFERS, .flags = flags, .flag = phase, .steps = steps, .block = block),
+     READS(copy, copy_len, KEYWRAP_MAX_TEXT), WRITES(text, text_len, KEYWRAP_MAX_TEXT))
 
 #ifdef WITH_AES
 /*** The calls by the processor's AES ***/
@@ -20024,10 +19872,10 @@ static APART int aes_works(void);
 /* aes_known_answers makes that test, for which the processor needs the instructions. */
 static APART int aes_known_answers(void);
 
-/* aes_set_encrypt and aes_set_decrypt expand a KEK of 16, 24 or 32 bytes. Any other length is
- * refused: they return 0. */
-static APART int aes_set_encrypt(struct aes *aes, const uint8_t *kek, size_t kek_len);
-static APART int aes_set_decrypt(struct aes *aes, const uint8_t *kek, size_t kek_len);
+/* aes_set_encrypt and aes_set_decrypt expand a KEK of 16, 24 or 32 bytes, whose length a proved call
+ * has checked. */
+static APART void aes_set_encrypt(struct aes *aes, const uint8_t *kek, size_t kek_len);
+static APART void aes_set_decrypt(struct aes *aes, const uint8_t *kek, size_t kek_len);
 
 static APART void aes_encrypt(const struct aes *aes, uint8_t block[BLOCK]);
 static APART void aes_decrypt(const struct aes *aes, uint8_t block[BLOCK]);
@@ -20042,7 +19890,7 @@ static APART void wipe(void *memory, size_t len);
 /* What each processor provides, in x86_64.c and aarch64.c. expand writes the round keys of a KEK, and
  * invert turns them into the round keys of the inverse cipher. The number of rounds is set before. */
 static APART int has_instructions(void);
-static APART void expand(struct aes *aes, const uint8_t *kek, size_t kek_len);
+static APART void expand(struct aes *aes, const uint8_t *kek);
 static APART void invert(struct aes *aes);
 static APART void encrypt_block(const struct aes *aes, uint8_t block[BLOCK]);
 static APART void decrypt_block(const struct aes *aes, uint8_t block[BLOCK]);
@@ -20163,11 +20011,11 @@ BY_AES static void expand_32(struct aes *aes, __m128i a, __m128i b) {
     }
 }
 
-BY_AES void expand(struct aes *aes, const uint8_t *kek, size_t kek_len) {
+BY_AES void expand(struct aes *aes, const uint8_t *kek) {
     __m128i a = _mm_loadu_si128((const __m128i *)kek);
-    if (kek_len == 16)
+    if (aes->rounds == 10)
         expand_16(aes, a);
-    else if (kek_len == 24)
+    else if (aes->rounds == 12)
         expand_24(aes, a, _mm_loadl_epi64((const __m128i *)(kek + 16)));
     else
         expand_32(aes, a, _mm_loadu_si128((const __m128i *)(kek + 16)));
@@ -20278,10 +20126,10 @@ static uint32_t word_at(const struct aes *aes, unsigned i) {
 }
 
 /* Words are in the order of their bytes in memory. */
-void expand(struct aes *aes, const uint8_t *kek, size_t kek_len) {
-    unsigned n = (unsigned)kek_len / 4;
+void expand(struct aes *aes, const uint8_t *kek) {
+    unsigned n = aes->rounds - 6;
     uint32_t constant = 1;
-    memcpy(aes->keys, kek, kek_len);
+    memcpy(aes->keys, kek, 4 * n);
     for (unsigned i = n; i < 4 * (aes->rounds + 1); i++) {
         uint32_t word = word_at(aes, i - 1);
         if (i % n == 0) {
@@ -20372,7 +20220,7 @@ BY_AES void decrypt_8_blocks(const struct aes *aes, uint8_t blocks[8 * BLOCK]) {
 typedef int of_another_processor;
 #endif
 
-/* aes.c: the lengths of a KEK, and the known-answer test. */
+/* aes.c: the schedules of a KEK, and the known-answer test. */
 
 
 
@@ -20382,18 +20230,15 @@ void wipe(void *memory, size_t len) {
 }
 
 /* Key expansion (FIPS 197, section 5.2). */
-int aes_set_encrypt(struct aes *aes, const uint8_t *kek, size_t kek_len) {
-    if (kek_len != 16 && kek_len != 24 && kek_len != 32) return 0;
+void aes_set_encrypt(struct aes *aes, const uint8_t *kek, size_t kek_len) {
     aes->rounds = (unsigned)kek_len / 4 + 6;
-    expand(aes, kek, kek_len);
-    return 1;
+    expand(aes, kek);
 }
 
 /* The schedule of the equivalent inverse cipher (section 5.3.5). */
-int aes_set_decrypt(struct aes *aes, const uint8_t *kek, size_t kek_len) {
-    if (!aes_set_encrypt(aes, kek, kek_len)) return 0;
+void aes_set_decrypt(struct aes *aes, const uint8_t *kek, size_t kek_len) {
+    aes_set_encrypt(aes, kek, kek_len);
     invert(aes);
-    return 1;
 }
 
 void aes_encrypt(const struct aes *aes, uint8_t block[BLOCK]) {
@@ -20436,11 +20281,11 @@ int aes_known_answers(void) {
     for (unsigned i = 0; i < 8; i++) memcpy(blocks + BLOCK * i, plaintext, BLOCK);
     for (unsigned i = 0; i < 3; i++) {
         struct aes aes;
-        if (!aes_set_encrypt(&aes, kek, 16 + 8 * i)) return 0;
+        aes_set_encrypt(&aes, kek, 16 + 8 * i);
         encrypt_block(&aes, block);
         encrypt_8_blocks(&aes, blocks);
         if (memcmp(block, CIPHERTEXTS[i], BLOCK) != 0 || !are_all(blocks, block)) return 0;
-        if (!aes_set_decrypt(&aes, kek, 16 + 8 * i)) return 0;
+        aes_set_decrypt(&aes, kek, 16 + 8 * i);
         decrypt_block(&aes, block);
         decrypt_8_blocks(&aes, blocks);
         if (memcmp(block, plaintext, BLOCK) != 0 || !are_all(blocks, block)) return 0;
@@ -20474,96 +20319,46 @@ static int32_t keywrap_check_plain(size_t kek_len, const uint8_t *iv, size_t iv_
     return (int32_t)perform_steps(&call);
 }
 
-static int32_t keywrap_check_padded(size_t kek_len, size_t key_len, size_t text_len) {
-    struct instance module = WITHOUT_MEMORY;
-    return (int32_t)w2c_keywrap_check_padded(&module, kek_len, key_len, text_len);
-}
+#define CHECK(name, parameters, given)                                                             \
+    static int32_t keywrap_##name parameters {                                                     \
+        struct instance module = WITHOUT_MEMORY;                                                   \
+        return (int32_t)w2c_keywrap_##name given;                                                  \
+    }
+CHECK(check_padded, (size_t kek_len, size_t key_len, size_t text_len),
+      (&module, kek_len, key_len, text_len))
+CHECK(check_room, (size_t kek_len, size_t room, size_t text_len),
+      (&module, kek_len, room, text_len))
+CHECK(check_kind, (size_t kek_len, size_t room, size_t text_len),
+      (&module, kek_len, room, text_len))
+CHECK(check_keks, (size_t old_kek_len, size_t new_kek_len), (&module, old_kek_len, new_kek_len))
+CHECK(check_rewrap_in_place, (size_t old_kek_len, size_t new_kek_len, uint32_t forms),
+      (&module, old_kek_len, new_kek_len, forms))
+CHECK(check_wrap_many, (size_t kek_len, size_t texts_len, size_t key_len, uint32_t flags,
+                        size_t count),
+      (&module, kek_len, texts_len, key_len, flags, count))
+CHECK(check_unwrap_many, (size_t kek_len, size_t texts_len, uint32_t flags, size_t key_lens,
+                          size_t count),
+      (&module, kek_len, texts_len, flags, key_lens, count))
+CHECK(check_rewrap_many, (size_t old_kek_len, size_t new_kek_len, size_t texts_len, uint32_t flags,
+                          size_t count),
+      (&module, old_kek_len, new_kek_len, texts_len, flags, count))
+CHECK(check_kind_many, (size_t kek_len, size_t texts_len, size_t room, size_t forms,
+                        size_t key_lens, size_t count),
+      (&module, kek_len, texts_len, room, forms, key_lens, count))
 
-static int32_t keywrap_check_room(size_t kek_len, size_t room, size_t text_len) {
-    struct instance module = WITHOUT_MEMORY;
-    return (int32_t)w2c_keywrap_check_room(&module, kek_len, room, text_len);
-}
+CALL(HIDDEN, perform_steps, begin_wrap_slot,
+     (uint32_t flags, size_t key_len, uint8_t *registers, size_t len, uint64_t *done,
+      uint8_t *block),
+     (module, call->flags, call->number, BUFFER(0), NUMBER, BLOCK_AT),
+     (BUFFERS, .number = key_len, .flags = flags, .steps = done, .block = block, .begins = 1),
+     WRITES(registers, len, KEYWRAP_MAX_KEY))
 
-static int32_t keywrap_check_kind(size_t kek_len, size_t room, size_t text_len) {
-    struct instance module = WITHOUT_MEMORY;
-    return (int32_t)w2c_keywrap_check_kind(&module, kek_len, room, text_len);
-}
-
-static int32_t keywrap_check_keks(size_t old_kek_len, size_t new_kek_len) {
-    struct instance module = WITHOUT_MEMORY;
-    return (int32_t)w2c_keywrap_check_keks(&module, old_kek_len, new_kek_len);
-}
-
-static int32_t keywrap_check_rewrap_in_place(size_t old_kek_len, size_t new_kek_len,
-                                             uint32_t forms) {
-    struct instance module = WITHOUT_MEMORY;
-    return (int32_t)w2c_keywrap_check_rewrap_in_place(&module, old_kek_len, new_kek_len, forms);
-}
-
-static int32_t keywrap_check_wrap_many(size_t kek_len, size_t texts_len, size_t key_len,
-                                       uint32_t flags, size_t count) {
-    struct instance module = WITHOUT_MEMORY;
-    return (int32_t)w2c_keywrap_check_wrap_many(&module, kek_len, texts_len, key_len, flags, count);
-}
-
-static int32_t keywrap_check_unwrap_many(size_t kek_len, size_t texts_len, uint32_t flags,
-                                         size_t key_lens, size_t count) {
-    struct instance module = WITHOUT_MEMORY;
-    return (int32_t)w2c_keywrap_check_unwrap_many(&module, kek_len, texts_len, flags, key_lens, count);
-}
-
-static int32_t keywrap_check_rewrap_many(size_t old_kek_len, size_t new_kek_len, size_t texts_len,
-                                         uint32_t flags, size_t count) {
-    struct instance module = WITHOUT_MEMORY;
-    return (int32_t)w2c_keywrap_check_rewrap_many(&module, old_kek_len, new_kek_len, texts_len, flags,
-                                                  count);
-}
-
-static int32_t keywrap_check_kind_many(size_t kek_len, size_t texts_len, size_t room, size_t forms,
-                                       size_t key_lens, size_t count) {
-    struct instance module = WITHOUT_MEMORY;
-    return (int32_t)w2c_keywrap_check_kind_many(&module, kek_len, texts_len, room, forms, key_lens,
-                                                count);
-}
-
-static u64 run_begin_wrap_slot(struct instance *module, const struct call *call) {
-    return w2c_keywrap_begin_wrap_slot(module, call->flags, call->number, BUFFER(0), NUMBER,
-                                       BLOCK_AT);
-}
-
-static int32_t keywrap_begin_wrap_slot(uint32_t flags, size_t key_len, uint8_t *registers,
-                                       size_t len, uint64_t *done, uint8_t *block) {
-    struct buffer buffers[] = {WRITES(registers, len, KEYWRAP_MAX_KEY)};
-    struct call call = {
-        .run = run_begin_wrap_slot,
-        BUFFERS,
-        .number = key_len,
-        .flags = flags,
-        .steps = done,
-        .block = block,
-        .begins = 1,
-    };
-    return (int32_t)perform_steps(&call);
-}
-
-static u64 run_end_unwrap_slot(struct instance *module, const struct call *call) {
-    return w2c_keywrap_end_unwrap_slot(module, call->flags, BUFFER(0), call->number, BLOCK_AT,
-                                       NUMBER);
-}
-
-static int32_t keywrap_end_unwrap_slot(uint32_t flags, uint8_t *registers, size_t len,
-                                       uint64_t left, uint8_t *block, size_t *key_len) {
-    struct buffer buffers[] = {WRITES(registers, len, KEYWRAP_MAX_KEY)};
-    struct call call = {
-        .run = run_end_unwrap_slot,
-        BUFFERS,
-        .number = left,
-        .flags = flags,
-        .key_len = key_len,
-        .block = block,
-    };
-    return (int32_t)perform_steps(&call);
-}
+CALL(HIDDEN, perform_steps, end_unwrap_slot,
+     (uint32_t flags, uint8_t *registers, size_t len, uint64_t left, uint8_t *block,
+      size_t *key_len),
+     (module, call->flags, BUFFER(0), call->number, BLOCK_AT, NUMBER),
+     (BUFFERS, .number = left, .flags = flags, .key_len = key_len, .block = block),
+     WRITES(registers, len, KEYWRAP_MAX_KEY))
 
 static u64 run_end_rewrap(struct instance *module, const struct call *call) {
     return w2c_keywrap_end_rewrap(module, call->flags, FLAG);
@@ -20574,15 +20369,10 @@ static int32_t keywrap_end_rewrap(uint32_t status, uint32_t *already) {
     return (int32_t)perform_steps(&call);
 }
 
-static u64 run_end_rewrap_in_place(struct instance *module, const struct call *call) {
-    return w2c_keywrap_end_rewrap_in_place(module, call->flags, BUFFER(0));
-}
-
-static int32_t keywrap_end_rewrap_in_place(uint32_t status, uint8_t *buffer, size_t len) {
-    struct buffer buffers[] = {WRITES(buffer, len, KEYWRAP_MAX_TEXT)};
-    struct call call = {.run = run_end_rewrap_in_place, BUFFERS, .flags = status};
-    return (int32_t)perform_steps(&call);
-}
+CALL(HIDDEN, perform_steps, end_rewrap_in_place,
+     (uint32_t status, uint8_t *buffer, size_t len),
+     (module, call->flags, BUFFER(0)), (BUFFERS, .flags = status),
+     WRITES(buffer, len, KEYWRAP_MAX_TEXT))
 
 /* keywrap.c: the calls of keywrap.h by the processor's AES, over the proved steps. Each call begins with
  * a proved check of its arguments. On a processor without the instructions it is the proved call,

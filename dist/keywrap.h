@@ -2,13 +2,13 @@
  *
  * A key-encryption key (KEK) of 16, 24 or 32 bytes wraps a key. The wrapped key is 8 bytes longer
  * than the key, or up to 15 in the padded form. Unwrapping gives the key back, or fails the
- * integrity check. A plain key has 16, 24, 32 .. bytes, a padded key has 1 or more. A wrapped key
- * is refused in the form in which it was not wrapped. The plain form has the default initial value
- * of RFC 3394; the _with calls take a value that both ends agreed on. A rewrap takes a wrapped key
- * from one KEK to another.
+ * integrity check. A plain key has 16 bytes or more, a multiple of 8, a padded key 1 or more. A
+ * wrapped key is refused in the form in which it was not wrapped. The plain form has the default
+ * initial value of RFC 3394; the _with calls take a value that both ends agreed on. A rewrap takes
+ * a wrapped key from one KEK to another.
  *
- *     uint8_t kek[32] = .., key[16] = .., wrapped[KEYWRAP_TEXT_LEN(sizeof key)];
- *     if (keywrap_wrap(kek, sizeof kek, key, sizeof key, wrapped, sizeof wrapped) != KEYWRAP_OK) ..
+ *     uint8_t wrapped[KEYWRAP_TEXT_LEN(sizeof key)];      kek and key are arrays of 32 bytes
+ *     if (keywrap_wrap(kek, sizeof kek, key, sizeof key, wrapped, sizeof wrapped)) return 1;
  *
  * The calls allocate nothing, keep no state and have no callbacks. Any thread may make them.
  *
@@ -28,7 +28,7 @@
 
 #ifndef KEYWRAP_H
 #define KEYWRAP_H
-#ifndef KEYWRAP_PORTABLE
+#if !defined(KEYWRAP_PORTABLE) && !defined(KEYWRAP_LIBRARY)
 #define KEYWRAP_PORTABLE
 #endif
 

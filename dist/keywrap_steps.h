@@ -3,12 +3,12 @@
  *
  *     uint8_t wrapped[8 + 32], block[16];      the key is in wrapped + 8
  *     uint64_t done;
- *     if (keywrap_begin_wrap(iv, 8, wrapped + 8, 32, &done, block) != KEYWRAP_OK) ..
+ *     if (keywrap_begin_wrap(iv, 8, wrapped + 8, 32, &done, block)) return 1;
  *     while (done < keywrap_step_count(32)) {
  *         encrypt(block);
- *         if (keywrap_step_wrap(wrapped + 8, 32, &done, block) != KEYWRAP_OK) ..
+ *         if (keywrap_step_wrap(wrapped + 8, 32, &done, block)) return 1;
  *     }
- *     if (keywrap_end_wrap(wrapped, wrapped + 8, 32, done, block) != KEYWRAP_OK) ..
+ *     if (keywrap_end_wrap(wrapped, wrapped + 8, 32, done, block)) return 1;
  *
  * The caller holds everything: the registers, which are the key (RFC 3394 calls its words R[1] ..
  * R[n]), the number of steps done or left, and the block. A wrapped key is `first`, its first 8

@@ -78,7 +78,7 @@ function flagOf(name, given) {
     return given;
 }
 
-/* What the statuses say of the inputs of a call. scripts/facts.py writes the numbers and the texts. */
+/* What the statuses say of the inputs of a call. generate/facts.py writes the numbers and the texts. */
 
 const BAD_IV = 2;
 const BAD_KEK = 3;

@@ -2,6 +2,7 @@
 """Makes the files that are handed out, of what make built. packaging/Makefile calls it at the top of the repository.
 
 usage: package.py documents DIRECTORY MACHINE README DOCUMENT..   copies documents, and README from its template
+       package.py headers DIRECTORY                 copies the headers of dist/ as those of the C library
        package.py archive DIRECTORY FILE            packs a directory that make installed into
        package.py files NAME FILE SOURCE..          packs copies of files in a directory of this name
        package.py debian NAME DIRECTORY             packs the command in C as a source package for Debian
@@ -34,6 +35,7 @@ has_headers = os.path.exists(os.path.join(sysconfig.get_path("include"), "Python
 sys.path.pop(0)
 print(*(f"python3-{{name}}" for name in {PYTHON_PACKAGES} if not importlib.util.find_spec(name)),
       *(["python3-dev"] if sys.argv[1:] and not has_headers else []))"""
+HEADERS = ("keywrap.h", "keywrap_steps.h")
 BUILT = ("keywrap", "keywrap_c", "keywrap_wasm")
 
 
@@ -41,7 +43,7 @@ def with_links(text, names=()):
     """A document for the directory share/doc/keywrap. Links to the documents beside it, headers, examples and the
     provider for Java lead there. Other links become plain text, and pictures go."""
     places = [(r"((?:https?:|#).*)", r"\1"), (rf"(?:\.\./|docs/)?((?:{'|'.join(names)})\.md.*)", r"\1"),
-              (r"\.\./c/(include/.*)", r"../../../\1"), (r"\.\./(?:c/)?((?:examples|java)/.*)", r"\1")]
+              (r"\.\./dist/(keywrap\w*\.h.*)", r"../../../include/\1"), (r"\.\./(?:c/)?((?:examples|java)/.*)", r"\1")]
 
     def link(found):
         words, target = found.groups()
@@ -80,6 +82,16 @@ def pack(directory, file):
     print(file)
 
 
+def headers(directory):
+    """Without the lines by which keywrap.h says that it is of portable C."""
+    directory = pathlib.Path(directory)
+    directory.mkdir(parents=True, exist_ok=True)
+    for name in HEADERS:
+        text = pathlib.Path("dist", name).read_text()
+        lines = r"^#if !defined\(KEYWRAP_PORTABLE\) &&.*\n.*\n#endif\n"
+        (directory / name).write_text(re.sub(lines, "", text, flags=re.M))
+
+
 def archive(directory, file):
     """The README is at the top, too, and the library is found relative to keywrap.pc."""
     directory = pathlib.Path(directory)
@@ -108,7 +120,8 @@ def debian(name, directory):
         changes = pathlib.Path("packaging/debian/changelog").read_text()
         (tree / "debian/changelog").write_text(re.sub(r"^keywrap \(", "keywrap-portable (", changes, flags=re.M))
         shutil.copytree("dist/command", tree / "command")
-        shutil.copytree("command/completions", tree / "completions")
+        names = ("keywrap.bash", "_keywrap", "keywrap.fish")
+        subprocess.run(["generate/completions.py", *(tree / "completions" / name for name in names)], check=True)
         shutil.copy("dist/Makefile", tree)
         shutil.copy("command/man/keywrap.1", tree)
         (tree / "SECURITY.md").write_text(with_links(pathlib.Path("SECURITY.md").read_text()))
@@ -188,11 +201,12 @@ def wheel(python, library, file, sysroot=None):
         env["LDSHARED"] = f"{env['CC']} -shared"
         env["_PYTHON_HOST_PLATFORM"] = f"linux-{platform.removeprefix('manylinux_2_17_')}"
     with tempfile.TemporaryDirectory() as workdir:
+        headers(workdir)
         options = pathlib.Path(workdir, "options")
         options.write_text(f"[bdist_wheel]\nplat_name = {platform}\n")
         python_package(python, "wheel", pathlib.Path(library, "python"), file.parent, {
-            "keywrap.h": "c/include/keywrap.h", "keywrap_steps.h": "c/include/keywrap_steps.h",
-            "libkeywrap_hw.a": f"{library}/libkeywrap_hw.a", "setup.cfg": options}, env)
+            **{name: f"{workdir}/{name}" for name in HEADERS}, "setup.cfg": options,
+            "libkeywrap_hw.a": f"{library}/libkeywrap_hw.a"}, env)
     print(file)
 
 
@@ -201,7 +215,7 @@ def sdist(python, file):
     with tempfile.TemporaryDirectory() as workdir:
         workdir, name = pathlib.Path(workdir), pathlib.Path(file).name
         python_package(python, "sdist", workdir / "package", workdir, {
-            name: f"dist/{name}" for name in ("keywrap.c", "keywrap.h", "keywrap_steps.h")})
+            name: f"dist/{name}" for name in ("keywrap.c", *HEADERS)})
         shutil.unpack_archive(workdir / name, workdir)
         pack(workdir / name.removesuffix(".tar.gz"), file)
 
@@ -261,7 +275,8 @@ def lists(*paths):
 
 if __name__ == "__main__":
     os.umask(0o022)
-    goals = {goal.__name__: goal for goal in (documents, archive, files, debian, npm, go, needs, wheel, sdist, lists)}
+    goals = {goal.__name__: goal for goal in (documents, headers, archive, files, debian, npm, go, needs, wheel, sdist,
+                                              lists)}
     if sys.argv[1:2] == [] or sys.argv[1] not in goals:
         sys.exit(__doc__)
     goals[sys.argv[1]](*sys.argv[2:])

@@ -30,7 +30,7 @@ class BuildCommand(build_scripts):
     def run(self):
         Path(self.build_dir).mkdir(parents=True, exist_ok=True)
         flags = [shlex.split(os.environ.get(name, default)) for name, default in (
-            ("CC", "cc"), ("CPPFLAGS", ""), ("CFLAGS", "-O2"), ("COMMAND_LDFLAGS", ""))]
+            ("CC", "cc"), ("CPPFLAGS", ""), ("CFLAGS", "-O1"), ("COMMAND_LDFLAGS", ""))]
         target = str(Path(self.build_dir, "keywrap"))
         subprocess.run([*sum(flags, []), "-o", target, *map(str, sorted(command.glob("*.c")))], check=True)
 

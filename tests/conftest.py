@@ -1,6 +1,6 @@
 """Fixtures and options of the tests of the program. CONTRIBUTING.md says how to add a test.
 
-KEYWRAP=PATH tries another program. --reversed runs the tests in the opposite order: none depends on another."""
+KEYWRAP=PATH tries another program."""
 
 import bisect
 import collections
@@ -33,7 +33,6 @@ LONG = ("test_shell", "test_secrets", "test_hardware", "test_library", "test_arm
 
 
 def pytest_addoption(parser):
-    parser.addoption("--reversed", action="store_true", help="run the tests in the opposite order")
     parser.addoption("--skipped", help="a file for the reasons of what is skipped")
 
 
@@ -60,8 +59,6 @@ def pytest_collection_modifyitems(config, items):
     items[:] = [item for item in items if item not in long]
     for number, item in enumerate(long):
         items.insert(number % processes * block, item)
-    if config.getoption("reversed"):
-        items.reverse()
 
 
 def pytest_runtest_setup(item):

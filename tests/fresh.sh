@@ -65,13 +65,13 @@ fi
 # beside_the_sources: what a run leaves in the clone, except what is built and Python's caches of the tests.
 beside_the_sources() {
     as_user "$workdir/machine" 'git -C keywrap status --porcelain --ignored' |
-        grep -vE '^!! (crates/[a-z0-9_]+/out|out|(scripts|tests)(/.*)?/__pycache__|tests/.pytest_cache)/$'
+        grep -vE '^!! (crates/[a-z0-9_]+/out|out|(generate|tests)(/.*)?/__pycache__|tests/.pytest_cache)/$'
 }
 readme() {
     local last least
     lines README.md 'With the kit' >commands
-    least=$(grep -oP '^make test .*at least \K[0-9,]+(?= rows)' commands | tr -d ,)
-    row 'README: how many rows run' test -n "$least"
+    least=$(grep -oP '^make test .*at least \K[0-9,]+(?= tests)' commands | tr -d ,)
+    row 'README: how many tests run' test -n "$least"
     row 'README: a clone' eval 'cp -a "$fresh/minimal/." machine && prepare "$workdir/machine" &&
         cp -a "$fresh/built/." machine/home/user/keywrap/crates && ln -s "$kit/bin/rt" machine/usr/local/bin' || return
     as_root "$workdir/machine" "$(head -n 1 commands)" >said 2>&1
@@ -84,7 +84,7 @@ readme() {
     tail -n 30 said
     last=$(tail -n 1 said)
     verdict 'README: no row fails' "$([[ $last =~ ^[0-9]+\ passed,\ 0\ failed, ]] || echo "the last line is: $last")"
-    verdict "README: at least $least rows run" "$([ "${last%% *}" -ge "$least" ] 2>&1 || echo "$last")"
+    verdict "README: at least $least tests run" "$([ "${last%% *}" -ge "$least" ] 2>&1 || echo "$last")"
     verdict 'README: what is left out is said in one line' "$(tail -n 2 said | grep -E '^.{121}|^SKIPPED')"
     verdict 'README: nothing is written beside the sources' "$(beside_the_sources)"
     [ "$fresh" = "$workdir/fresh" ] ||

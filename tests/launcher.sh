@@ -73,10 +73,12 @@ PATH=$tree/plain launch a
 launched 'without the kit, again' 5 'compiled, 1 words: a'$'\n' '' compiled
 : >notes; append dist/command/host.c; PATH=$tree/plain launch a
 launched 'without the kit, after a change' 5 'compiled, 1 words: a'$'\n' "$compiles" compiled
+: >notes; append dist/command/host.c; PATH=$tree/plain make -s -C dist keywrap; PATH=$tree/plain launch a
+launched 'without the kit, after make' 5 'compiled, 1 words: a'$'\n' '' compiled
 append dist/command/host.c; touch broken; PATH=$tree/plain launch
 verdict 'the compiler fails' "$([ "$status" = 70 ] || echo "status $status"
     grep -q '^error: of the compiler' err || cat err; tail -n 1 err | grep -vx 'keywrap: the build failed: dist/')"
-rm -r dist/keywrap dist/keywrap.built_from broken plain
+rm -r dist/keywrap.built_from broken plain
 : >notes
 TMPDIR=$tree/missing launch
 launched 'no directory for the logs' 70 '' "keywrap: no directory for the build's logs"
@@ -86,13 +88,6 @@ for made in aes_block keywrap link; do
     verdict "the words for $made" "$(diff <(paste -sd ' ' words.$made) \
         <(sed -n "s|^$made: ||p" "$root/tests/launcher.txt" | sed "s|TREE|$tree|g"))"
 done
-# The launcher's lock is descriptor 9. The program gets the descriptor 9 of the caller instead.
-fresh
-for way in 'the first use' 'the program as it is built'; do
-    row "the descriptor 9 of the caller, $way" eval './keywrap --version 9<crates.txt | grep -x "$tree/crates.txt"'
-done
-fresh; at='.*' event='cat >>"$tree/notes"' launch <crates.txt
-noted 'the input is left to the program' "${steps[@]}"
 mkdir -p 'far/a tree' && ln -s ../keywrap far/link && ln -s ../../bin/rt 'far/a tree/rt'
 echo '$(error this file is read)' >far/stops.mk
 : >notes
@@ -101,9 +96,8 @@ for way in far/link "PATH='$tree':\$PATH && cd / && keywrap" \
     "cd .. && CDPATH='$tree/far' 'a tree/keywrap'"; do
     verdict "$way" "$(eval "$way --version" 2>&1 | grep -vx 'child of [0-9]*, 1 words: --version'; cat notes)"
 done
-for way in far/link "cd .. && CDPATH='$tree/far' 'a tree/keywrap'" 'TMPDIR=tmp ./keywrap' \
-    'MAKEFLAGS=n MAKEFILES=far/stops.mk GNUMAKEFLAGS=n ./keywrap' 'JOBS=7 CRATES=others WORDS=x ./keywrap' \
-    'PATH="far/a tree:$PATH" ./keywrap' 'make -s -j3 JOBS=7 build && ./keywrap'; do
+for way in far/link 'MAKEFLAGS=n MAKEFILES=far/stops.mk GNUMAKEFLAGS=n JOBS=7 ./keywrap' \
+    'make -s -j3 build && ./keywrap'; do
     fresh
     verdict "the first use by $way" "$(eval "$way --version" 2>&1 |
         grep -vx -e 'child of [0-9]*, 1 words: --version' -e "${starts% (*} (logs: .*)")"
@@ -131,15 +125,11 @@ rm -r crates/keywrap/proofs
 chmod -x $program
 touch -d tomorrow $program
 append crates/aes_block/src/lib.rt; at=keywrap event='kill -s KILL \$\$' launch
-fresh; (trap '' XFSZ; at=keywrap event='prlimit --fsize=999 --pid \$launcher' ./keywrap)
 END_OF_CHANGES
 rebuilds './keywrap --version' <<END_OF_CHANGES
 fresh; at='a tree' event='cd crates/keywrap' make gate
 append crates/aes_block/must-fail/edit
 END_OF_CHANGES
-fresh; (trap '' XFSZ; at=keywrap event='prlimit --fsize=999 --pid $launcher' ./keywrap >out 2>err)
-verdict 'a record that cannot be written: what is left' "$(left)"
-
 # Without a kit on the PATH, what one built is run. A program of the current directory is not.
 fresh; ./keywrap --version >/dev/null 2>&1
 row 'no kit on the PATH' env PATH=/usr/bin:/bin "$tree/keywrap" --version
@@ -197,23 +187,13 @@ begins=('first_four: build --jobs 2' 'fourth_four: build --jobs 2' 'second_four:
 all_ended=('ended first_four' 'ended fourth_four' 'ended second_four' 'ended third_four')
 # The notes of crates that are built side by side may come in any order.
 order=(sort -o notes notes)
-# most_at_once: the greatest number of crates at one time.
-most_at_once() { awk '/^[a-z_]*: /{ n++ } /^end/{ n-- } n > most { most = n } END { print most + 0 }' notes; }
-# at_once PROCESSORS JOBS N EVENT: N crates are built at once, with two jobs each if there are two processors. The
-# program comes last, with JOBS.
-at_once() {
-    local each=$(($1 > 1 ? 2 : 1))
-    fresh
-    processors=$1 at='.*_four' event=$4 launch
-    verdict "$1 processors" "$([ "$status" = 5 ] || cat err; [ "$(most_at_once)" = "$3" ] || cat notes
-        sed -n 's/.*_.*: build --jobs //p' notes | grep -vx $each)"
-    verdict "$1 processors: what is built" "$(LC_ALL=C sort notes | sed -n 's/: build .*//p' | paste -sd ' ' |
+# Four crates are built at once, with two jobs each. The program comes last, with more.
+fresh; processors=9 at='.*_four' event='until_true begun 4; sleep 0.2' launch
+verdict 'side by side' "$([ "$status" = 5 ] || cat err
+    sed -n 's/.*_.*: build --jobs //p' notes | grep -vx 2
+    LC_ALL=C sort notes | sed -n 's/: build .*//p' | paste -sd ' ' |
         diff - <(echo above_second first_four fourth_four keywrap second_four third_four)
-        tail -n 2 notes | diff - <(printf '%s\n' "keywrap: build --jobs $2" 'ends keywrap'))"
-}
-at_once 1 1 3 'until_true begun 3; sleep 0.2'
-at_once 2 2 4 'until_true begun 4; sleep 0.2'
-at_once 9 4 4 'until_true begun 4; sleep 0.2'
+    tail -n 2 notes | diff - <(printf '%s\n' "keywrap: build --jobs 4" 'ends keywrap'))"
 
 fresh; at='(first|third|fourth)_four' event='until_true grep -q "^ends above" "$tree/notes"' launch
 verdict 'a crate begins where those below it are proved' "$([ "$status" = 5 ] || cat err
@@ -229,14 +209,8 @@ fresh; at='(first|second)_four' event='until_true begun 4
 launched 'a proof fails beside others' 70 '' "$starts
 $(said first_four)
 keywrap: the build failed: first_four" 'ends fourth_four' 'ends second_four' 'ends third_four' "${begins[@]}"
-fresh; at='(first|third)_four' event='until_true grep -q "^ends above" "$tree/notes"; exit 1' launch
-launched 'two proofs fail' 70 '' "$starts
-$(said first_four)
-$(said third_four)
-keywrap: the build failed: first_four third_four" 'above_second: build --jobs 2' 'ends above_second' \
-    'ends fourth_four' 'ends second_four' "${begins[@]}"
 
-for signal in HUP INT QUIT TERM; do
+for signal in INT TERM; do
     fresh
     at='.*_four' event="until_true begun 4; [ \$crate != second_four ] || kill -s $signal \$launcher
         until_true false" launch 2>/dev/null
@@ -273,14 +247,5 @@ if needs 'the launcher on a terminal' script pseudo-terminals; then
     verdict 'the progress' "$(states | grep 'work: .' | diff - <(printf '%s of 3 crates proved, at work: %s\n' \
         0 block_pair 1 aes_block 2 keywrap))"
 fi
-
-### Beside other work
-
-crates key_files: keywrap_io: block_pair: 'keywrap_cli: key_files' \
-    'keywrap: key_files keywrap_io block_pair keywrap_cli'
-fresh; at='.*' event='echo "$crate $(nice)" >>"$tree/niceness"' launch
-own=$(nice)
-same 'crates that can wait are proved gently' "$(printf '%s\n' "block_pair $((own < 9 ? own + 10 : 19))" \
-    "key_files $own" "keywrap $own" "keywrap_cli $own" 'keywrap_io 19')" "$(sort niceness)"
 
 finish

@@ -74,42 +74,7 @@ built="($ci && install -D ../../bin/nproc out/keywrap)"
 at='a tree' event="$built; exit 1" does 'a gate that fails' 2 '' make gate -- 'a tree: ci'
 verdict 'a gate that fails records nothing' "$(find crates -name 'built_from*')"
 
-# The packages are installed one by one where all together can't be. The requests are recorded.
-mkdir tests/lib && cp "$root/tests/lib/tools.sh" tests/lib
-printf '# A comment.\nfirst | one | false\nsecond | two | false\nthird | three | true\ndebootstrap | four | true\n' \
-    >tests/packages.txt
-install -m 755 /dev/stdin bin/apt-get <<'END_OF_APT'
-#!/bin/sh
-echo "apt-get: $*" >>"$tree/notes"
-[ $# -le "${takes:-9}" ]
-END_OF_APT
-printf '#!/bin/sh\necho "${uid:-0}"\n' | install -m 755 /dev/stdin bin/id
-installs='apt-get: install -y --no-install-recommends --no-upgrade'
-cp packaging/sysroot.sh tmp/kept
-printf '#!/bin/sh\necho "sysroot: $*" >>"$tree/notes"\n' >packaging/sysroot.sh
-unpacks='sysroot: '
-minimal='in a minimal Debian'
-cat >tests/fresh.sh <<'END_OF_FRESH'
-echo "in a minimal Debian" >>"$tree/notes"
-install -D /dev/null "$KEYWRAP_FRESH/built/keywrap_c/out/proved"
-exit ${minimal_fails:-0}
-END_OF_FRESH
-minimal_fails=1 does 'CI, where a row fails in a minimal Debian' 1 '' .ci/run -- "$minimal"
-at='a tree' event='exit 1' does 'CI, where a proof fails' 2 '' .ci/run -- "$minimal" 'a tree: ci'
-installed=('apt-get: update' "$installs one two" "$unpacks")
-at='a tree' event=$ci does 'CI' 0 '42 passed, 0 failed, 1 skipped' .ci/run -- "$minimal" "${in_gate[@]}" \
-    "${installed[@]}"
-at='a tree' event=$ci takes=5 does 'CI, where a package is missing' 0 '42 passed, 0 failed, 1 skipped' .ci/run -- \
-    "$minimal" "${in_gate[@]}" "${installed[@]}" "$installs one" "$installs two"
-at='a tree' event=$ci uid=1 does 'CI without the right to install' 0 '42 passed, 0 failed, 1 skipped' .ci/run -- \
-    "$minimal" "${in_gate[@]}"
-export counts='42 passed, 1 failed, 1 skipped' test_status=1
-at='a tree' event=$ci does 'CI, where a test fails' 2 '42 passed, 1 failed, 1 skipped' .ci/run -- "$minimal" \
-    "${in_gate[@]}" "${installed[@]}"
-row 'CI: what was proved in a minimal Debian is there' test -e crates/keywrap_c/out/proved
-unset counts test_status PYTHON
-rm bin/id bin/apt-get
-cp tmp/kept packaging/sysroot.sh
+unset PYTHON
 
 ### What is made, and when again
 
@@ -213,27 +178,16 @@ row 'make wheel, without its Python' grep -q "packaging/sysroot.sh 'none' " \
 
 ### All that is handed out
 
-# of NAME..: these are in packed, SHA256SUMS has the sum of each, and nothing else is there.
-of() {
-    diff <(printf '%s\n' SHA256SUMS "$@" | sort) <(cd packed && printf '%s\n' * | sort) &&
-        diff <(printf '%s\n' "$@" | sort) <(sed 's/.* //' packed/SHA256SUMS | sort) &&
-        (cd packed && sha256sum -c --quiet SHA256SUMS)
-}
-x86=TARGET=x86_64-unknown-linux-gnu wheel=keywrap-1.2.3.dev0-cp39-abi3-manylinux_2_17
+# The files that make dist packs are in tests/handed_out.txt.
+x86=TARGET=x86_64-unknown-linux-gnu
 wasm=('keywrap_wasm: lib --target wasm64-unknown-unknown --backend llvm' 'ends keywrap_wasm')
 mkdir -p sysroot/usr/include/{,aarch64-linux-gnu/}python3.11
 all='make -s DIST=packed CC=linker SYSROOT=sysroot'
 rm -r packed; fresh
 does 'make dist' 0 packed/SHA256SUMS $all dist -- "${steps[@]}" "${linked[@]}" "${linked_for_arm[@]}"
-row 'the files of make dist' of keywrap-1.2.3-dev{-x86_64-linux.tar.gz,.tgz,.cdx.json} \
-    keywrap-portable-1.2.3-dev.tar.gz keywrap-1.2.3.dev0.tar.gz \
-    keywrap-library-1.2.3-dev-{x86_64,aarch64}-linux.tar.gz ${wheel}_{x86_64,aarch64}.whl \
-    keywrap-1.2.3-dev-{x86_64,aarch64}-linux-static.tar.gz
 does 'make dist, again' 0 packed/SHA256SUMS $all dist --
 rm -r packed
 does 'make dist for one machine' 0 packed/SHA256SUMS $all dist $arm --
-row 'its files' of keywrap-library-1.2.3-dev-aarch64-linux.tar.gz ${wheel}_aarch64.whl keywrap-1.2.3-dev.cdx.json \
-    keywrap-1.2.3-dev-aarch64-linux-static.tar.gz
 # keeps_sums COMMAND..: fails, and the old checksums stay, whole.
 keeps_sums() {
     cp packed/SHA256SUMS old.sums
@@ -260,7 +214,7 @@ row 'make dist-sources, without wasm-opt: what to install' grep -q 'no none: apt
 does 'make js' 0 "$PWD/out/js" $make js --
 mkdir -p "${archive%/*}" && echo kept | tee kept.a >$archive
 # The module of the program needs the kit's LLVM: tests/test_command.py compares it with what is kept.
-echo ':' >scripts/command_module.sh
+echo ':' >generate/command_module.sh
 does 'make dist-sources' 0 '' $make dist-sources -- "${wasm[@]}"
 verdict 'make dist-sources leaves the archive of the C library' "$(cmp $archive kept.a 2>&1)"
 rm $archive kept.a

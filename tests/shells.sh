@@ -24,7 +24,8 @@ options=$(echo "$options" | sort -u)
 
 ### The completions
 
-completions=$root/command/completions
+completions=$workdir/completions
+"$root/generate/completions.py" "$completions"/{keywrap.bash,_keywrap,keywrap.fish}
 # words FILE: the options in a completion file. This needs no shell.
 words() { grep -v '^ *#' "$1" | grep -oE -e '--[a-z0-9-]+'; }
 same 'help and bash: the options of the file' "$(grep -e -- <<<"$options")" "$(words "$completions/keywrap.bash")"
@@ -35,7 +36,7 @@ same 'help and fish: the options of the file' "$(grep -e -- <<<"$options")" \
 # offers_SHELL LINE: what the shell offers after a line, in the directory `files`.
 offers_bash() (
     cd files || exit
-    # shellcheck source=command/completions/keywrap.bash
+    # shellcheck source=/dev/null
     . "$completions/keywrap.bash"
     complete -p keywrap >/dev/null || exit
     # shellcheck disable=SC2034
@@ -143,50 +144,20 @@ fi
 
 ### make install, make uninstall
 
-# A small archive instead of the real one, which tests/test_library.py installs.
-made() {
-    make -s --no-print-directory -o build -C "$root" "$@" PROGRAM="$program" \
-        LIBRARY="$workdir/library" ARCHIVE="$workdir/library.a"
-}
-documents='644 share/doc/keywrap/CHANGELOG.md
-644 share/doc/keywrap/RECIPES.md
-644 share/doc/keywrap/SECURITY.md'
-command_files='755 bin/keywrap
-644 share/bash-completion/completions/keywrap
-644 share/doc/keywrap/README
-644 share/fish/vendor_completions.d/keywrap.fish
-644 share/man/man1/keywrap.1
-644 share/zsh/site-functions/_keywrap
-'$documents
-# files_of DIRECTORY: the files below it, with their modes.
-files_of() { find "$1" ! -type d -printf '%m %P\n'; }
-
-# A file of another package, in a directory that exists already.
-mkdir -p "stage to/opt/share/man/man1"
-echo other >"stage to/opt/share/man/man1/other.1"
-stage="$workdir/stage to"
-row 'make install-command, with a umask' eval 'umask 077; made install-command DESTDIR="$stage" PREFIX=/opt; umask 022'
-same 'what make install-command installs' "$command_files"$'\n644 share/man/man1/other.1' "$(files_of "$stage/opt")"
-row 'the installed program is the program' cmp "$program" "$stage/opt/bin/keywrap"
-row 'the installed page is the page' cmp "$root/command/man/keywrap.1" "$stage/opt/share/man/man1/keywrap.1"
-row 'make uninstall-command' made uninstall-command DESTDIR="$stage" PREFIX=/opt
-same 'make uninstall-command leaves the files of others' '644 opt/share/man/man1/other.1' "$(files_of "$stage")"
-if needs 'make install with the C library' cc; then
-    echo 'int keywrap_wrap(void) { return 0; }' >library.c
-    row 'an archive to install' cc -fPIC -c library.c -o library.o
-    row 'an archive to install' ar rc library.a library.o
-    row 'make install' made install DESTDIR="$stage" PREFIX=/usr
-    same 'what make install installs, except the C library' "$command_files" "$(files_of "$stage/usr" |
-        grep -vE ' (include|lib)/| share/doc/keywrap/(C_LIBRARY.md|OPENSSL.md|README.lib|(examples|java|provider)/)')"
-    row 'make uninstall-library' made uninstall-library DESTDIR="$stage" PREFIX=/usr
-    same 'it leaves the files of the command, and its documents' "$command_files" "$(files_of "$stage/usr")"
-    row 'make install-library' made install-library DESTDIR="$stage" PREFIX=/usr
-    row 'make install installs the C library' test -e "$stage/usr/lib/libkeywrap.so"
-    row 'make uninstall-command' made uninstall-command DESTDIR="$stage" PREFIX=/usr
-    same 'it leaves the documents, which the library has, too' "$documents" \
-        "$(files_of "$stage/usr" | grep -E '/(CHANGELOG|RECIPES|SECURITY).md$')"
-    row 'make uninstall' made uninstall DESTDIR="$stage" PREFIX=/usr
-    same 'make uninstall leaves nothing' '' "$(files_of "$stage/usr")"
-fi
+# The files that are installed are in tests/handed_out.txt. A file of another package is in a directory that exists.
+made() { make -s --no-print-directory -o build -C "$root" "$@" PROGRAM="$program" DESTDIR="$workdir/to" PREFIX=/opt; }
+modes() { find to ! -type d -printf '%m\n' | sort -u; }
+mkdir -p to/opt/share/man/man1
+echo other >to/opt/share/man/man1/other.1
+row 'make install-command, with a umask' eval 'umask 077; made install-command; umask 022'
+same 'the modes of what it installs' $'644\n755' "$(modes)"
+row 'the installed program is the program' cmp "$program" to/opt/bin/keywrap
+row 'make uninstall-command' made uninstall-command
+same 'it leaves the files of others' to/opt/share/man/man1/other.1 "$(find to ! -type d)"
+row 'a header of the library' install -D /dev/null to/opt/include/keywrap.h
+row 'make install-command, beside the library' made install-command
+row 'make uninstall-command' made uninstall-command
+same 'it leaves the documents, which the library has, too' $'CHANGELOG.md\nRECIPES.md\nSECURITY.md' \
+    "$(ls to/opt/share/doc/keywrap)"
 
 finish

@@ -1,5 +1,5 @@
-"""Programs that were built for version 1.0.0 of the C library run with the shared object of today. tests/library/1.0.0
-has the header and the map of 1.0.0, of commit a4f7e5c."""
+"""What version 1.0.0 of the C library declares is in the shared object of today, with the same types and numbers.
+tests/library/1.0.0 has the header of 1.0.0, without its comments, and its map, of commit a4f7e5c."""
 
 import re
 
@@ -9,7 +9,7 @@ from builds import ROOT, run
 from machines import nodes
 
 FIRST = ROOT / "tests/library/1.0.0"
-TODAY = ROOT / "c/include"
+TODAY = ROOT / "dist"
 pytestmark = pytest.mark.needs("cc")
 
 
@@ -21,13 +21,6 @@ def stubs(directory, header, map_file):
     run("cc", "-std=c99", "-g", "-w", "-shared", "-fPIC", f"-Wl,--version-script={map_file}", "-o",
         directory / "stubs.so", directory / "stubs.c")
     return directory / "stubs.so"
-
-
-def test_program_of_1_0_0_runs(library, tmp_path):
-    run("cc", "-std=c99", "-Wall", "-Wextra", "-Werror", f"-I{FIRST}", "-o", tmp_path / "program", FIRST / "program.c",
-        library / "libkeywrap.so.1")
-    ended = run("env", f"LD_LIBRARY_PATH={library}", tmp_path / "program")
-    assert re.search(r"^[1-9]\d* passed, 0 failed$", ended, re.M), ended
 
 
 def test_numbers_and_lengths_of_1_0_0_stay():
@@ -45,7 +38,7 @@ def test_numbers_and_lengths_of_1_0_0_stay():
 
 
 def test_each_name_is_in_the_node_of_its_version():
-    first, today = nodes(FIRST / "keywrap.map"), nodes(TODAY / "keywrap.map")
+    first, today = nodes(FIRST / "keywrap.map"), nodes(ROOT / "c/include/keywrap.map")
     assert list(first) == ["KEYWRAP_1"] and list(today) == ["KEYWRAP_1", "KEYWRAP_1.1", "KEYWRAP_1.2"]
     assert today["KEYWRAP_1"] == first["KEYWRAP_1"]
     headers = (TODAY / "keywrap.h").read_text() + (TODAY / "keywrap_steps.h").read_text()
@@ -54,17 +47,13 @@ def test_each_name_is_in_the_node_of_its_version():
 
 @pytest.mark.needs("abidiff")
 def test_types_of_1_0_0_stay(tmp_path):
-    """abidiff compares the types of what both headers declare. It finds a changed one."""
-    for name in "first", "today", "changed":
+    """abidiff compares the types of what both headers declare."""
+    for name in "first", "today":
         (tmp_path / name).mkdir()
     map_file = FIRST / "keywrap.map"
     first = stubs(tmp_path / "first", FIRST / "keywrap.h", map_file)
     today = stubs(tmp_path / "today", TODAY / "keywrap.h", map_file)
     run("abidiff", "--no-added-syms", first, today)
-    (tmp_path / "keywrap.h").write_text((TODAY / "keywrap.h").read_text().replace("uint32_t forms", "uint64_t forms"))
-    changed = stubs(tmp_path / "changed", tmp_path / "keywrap.h", map_file)
-    with pytest.raises(AssertionError, match="keywrap_rewrap_in_place"):
-        run("abidiff", "--no-added-syms", first, changed)
 
 
 @pytest.mark.needs("abidiff")

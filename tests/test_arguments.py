@@ -61,7 +61,7 @@ class TestRefusals:
 
     @pytest.mark.parametrize("given, shown", [
         ("\x1b[31m", r"\x1b[31m"), ("a\rb\tc\x7f", r"a\x0db\x09c\x7f"), ("\x9b2Jé", r"\x9b2Jé"),
-        ("a\n\nUsage: keywrap", r"a\x0a\x0aUsage: keywrap"), ("a\n\n  tip: b", r"a\x0a\x0a  tip: b"),
+        ("a\n\nUsage: keywrap", r"a\x0a\x0aUsage: keywrap"), ("a\n\n  tip: b", r"a\x0a\x0a  tip: b"), ("a" * 5000,) * 2,
         # One of each range that a terminal hides: a soft hyphen, an Arabic letter mark, and so on up to tags.
         ("\u00ad\u061c\u180e\ufff9\U000e0001\U000e0041", r"\u{ad}\u{61c}\u{180e}\u{fff9}\u{e0001}\u{e0041}")])
     def test_whole_message(self, keywrap, given, shown):

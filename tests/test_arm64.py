@@ -9,11 +9,11 @@ import zipfile
 
 import pytest
 
-import published
+import faces
 from builds import NAMES, ROOT, run, unpacked
 from machines import (ARCHIVED, ARM, MACHINES, NAMES as CALLS, STRICT, SYSROOT, check_glibc, check_hardened,
                       check_needs, check_versions, need_sysroot, shown)
-from program import evidence, slow
+from program import evidence
 from vectors import WRAPPED24
 
 pytestmark = pytest.mark.needs("aarch64-linux-gnu-gcc", "qemu-aarch64")
@@ -88,23 +88,11 @@ class TestLibrary:
     def test_rows(self, library):
         """Over the shared object, on an early processor."""
         run(CC, *STRICT, "-O2", ROOT / "tests/rows.c", library / "libkeywrap.so.1", "-o", "program")
-        text = published.table("rows")
         early = [*RUNS, "-cpu", "cortex-a53", "-E", f"LD_LIBRARY_PATH={library}"]
-        assert published.all_right(run(*early, "./program", input=text), text) == {}
+        faces.check("c", [*early, "./program"], "rows")
 
 
 class TestPacked:
-    def test_files(self, packed):
-        names = {str(path.relative_to(packed)) for path in packed.rglob("*") if not path.is_dir() or path.is_symlink()}
-        shared = "lib/libkeywrap.so"
-        assert {name for name in names if not name.startswith("share/")} == {
-            "README", "include/keywrap.h", "include/keywrap_steps.h", "lib/libkeywrap.a", shared, f"{shared}.1",
-            f"{shared}.{NAMES['DEBIAN']}", "lib/pkgconfig/keywrap.pc", "lib/cmake/keywrap/keywrap-config.cmake",
-            "lib/cmake/keywrap/keywrap-config-version.cmake"}
-        assert (packed / "share/doc/keywrap/C_LIBRARY.md").stat().st_size
-        assert are_arm(packed / "lib/libkeywrap.a", packed / shared)
-        assert "Linux on aarch64" in (packed / "README").read_text()
-
     @pytest.mark.needs("pkg-config")
     def test_c_example(self, packed):
         flags = run("pkg-config", "--cflags", "--libs", "keywrap",
@@ -120,7 +108,7 @@ class TestDist:
             "SHA256SUMS", WHEEL, f"keywrap-{version}.cdx.json", f"{PACKED}.tar.gz",
             f"keywrap-{version}-aarch64-linux-static.tar.gz"}
         run("sha256sum", "-c", "--strict", "SHA256SUMS", cwd=dist)
-        run(sys.executable, ROOT / "scripts/trust.py", "--check-hashes", dist / "SHA256SUMS")
+        run(sys.executable, ROOT / "generate/trust.py", "--check-hashes", dist / "SHA256SUMS")
 
     def test_extension(self, site):
         extension = site / "keywrap/_ffi.abi3.so"
@@ -132,7 +120,7 @@ class TestDist:
         run(*PYTHON, "-c", "import sys; from packaging import tags, utils\n"
             "assert utils.parse_wheel_filename(sys.argv[1])[3] & set(tags.sys_tags())", WHEEL)
 
-    @slow
+    @evidence
     def test_of_the_package(self, site):
         """No test of the package fails or is skipped. Tests of threads are left out, and tests that start other
         programs, which qemu cannot: one_exception, keywrap.rotate, keywrap.vectors and install(). The memory of an

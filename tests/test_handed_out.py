@@ -1,5 +1,5 @@
-"""Everything that is handed out has the files, modes, links and fields of handed_out.txt, and no others: what make
-installs, the archives, the packages for Python, npm and Debian."""
+"""What is handed out has the files, modes and links of handed_out.txt, and no others: what make installs, the archives,
+the packages for Python and npm. These and Debian's packages have the fields there."""
 
 import email
 import fnmatch
@@ -16,9 +16,8 @@ from commands import table
 from program import slow
 
 LIB = "lib/" + subprocess.run(["cc", "-dumpmachine"], capture_output=True, text=True).stdout.strip()
-THINGS = ["command", "library", "hardware", "provider", "dist", "portable", "go", "npm", "wheel", "sdist",
-          "deb keywrap", "deb libkeywrap1", "deb libkeywrap-dev", "deb python3-keywrap", "deb keywrap-openssl-provider"]
-HEADERS = "".join((ROOT / "c/include" / name).read_text() for name in ("keywrap.h", "keywrap_steps.h"))
+THINGS = ["command", "library", "hardware", "provider", "dist", "portable", "go", "npm", "wheel"]
+HEADERS = "".join((ROOT / "dist" / name).read_text() for name in ("keywrap.h", "keywrap_steps.h"))
 
 
 def rows(section):
@@ -37,8 +36,7 @@ def listed(root):
         elif path.is_dir():
             assert mode & 0o7777 == 0o755, f"{name}: {mode:o}"
         else:
-            # Debian compresses long documents.
-            found[re.sub(r"(/doc/.*(\.md|/changelog)|\.1)\.gz$", r"\1", name)] = f"{mode:o}"
+            found[name] = f"{mode:o}"
     return found
 
 

@@ -9,9 +9,9 @@ import sys
 
 import pytest
 
-import published
+import faces
 from builds import NAMES, ROOT, run
-from machines import ARM, MACHINES, NAMES as CALLS, SANITIZED, STRICT, SYSROOT
+from machines import ARM, EXPORTS, MACHINES, NAMES as CALLS, SANITIZED, STRICT, SYSROOT
 from machines import check_hardened, check_needs, check_versions, shown
 from program import ALL, SLOW, evidence, slow
 from test_secrets import DECISION, left_on_the_stack, reports
@@ -20,7 +20,7 @@ from vectors import WRAPPED16
 
 pytestmark = pytest.mark.needs("cc")
 OWN, HARDWARE = ROOT / "tests/hardware", ROOT / "c/hardware"
-INCLUDED = [f"-I{ROOT}/c/include", f"-I{ROOT}/c/reference"]
+INCLUDED = [f"-I{ROOT}/c/include", f"-I{ROOT}/tests/reference"]
 OPTIONS = [*STRICT, "-O2", *INCLUDED]
 AES = [HARDWARE / f"{name}.c" for name in ("aes", "x86_64", "aarch64")]
 COMPARING = [path for path in sorted((ROOT / "tests/provider").glob("*.c")) if path.name != "direct.c"]
@@ -53,12 +53,6 @@ def proved(library):
     return "proved.a"
 
 
-def right(command, *names):
-    """The program finds no fault in these tables of rows."""
-    text = "".join(map(published.table, names))
-    assert published.all_right(run(*command, input=text), text) == {}
-
-
 def kept():
     return ["rows", "foreign", *(() if missing("import cryptography_vectors") else ("nist",))]
 
@@ -71,19 +65,12 @@ class TestFiles:
         check_needs(archive)
         check_hardened(shared, "libkeywrap_hw")
 
-    def test_installed(self, thing):
-        found = {(path.name, oct(path.lstat().st_mode)[-3:], os.readlink(path) if path.is_symlink() else "")
-                 for path in (thing("hardware") / "lib").glob("*_hw*")}
-        shared = "libkeywrap_hw.so"
-        assert found == {("libkeywrap_hw.a", "644", ""), (f"{shared}.{NAMES['DEBIAN']}", "644", ""),
-                         (f"{shared}.1", "777", f"{shared}.{NAMES['DEBIAN']}"), (shared, "777", f"{shared}.1")}
-
     def test_with_lto(self, built):
         """Built by these flags, in a directory with a blank in its name."""
         run("make", "-s", "-C", ROOT, "library", "HARDWARE=1", "CC=cc", "CFLAGS=-O2 -flto",
             f"LIBRARY={os.getcwd()}/with lto", f"ARCHIVE={built('llvm.a')}")
         run("cc", "-flto", *OPTIONS, ROOT / "tests/rows.c", "with lto/libkeywrap_hw.a", "-o", "program")
-        right(["./program"], "rows")
+        faces.check("c", ["./program"], "rows")
 
     @pytest.mark.parametrize("compiler, standard", [("cc", "c89"), ("cc", "c99"), ("cc", "c11"), ("c++", "c++11")])
     def test_header_of_steps(self, compiler, standard):
@@ -98,7 +85,7 @@ class TestSteps:
     def test_around_openssl(self, hardware, library, name):
         """With the numbers of steps that the header has."""
         sentence = r"There are (\d+) steps for each 8 bytes of the registers, or (\d+) if they are 8 bytes long"
-        steps, = re.findall(sentence, (ROOT / "c/include/keywrap_steps.h").read_text())
+        steps, = re.findall(sentence, (ROOT / "dist/keywrap_steps.h").read_text())
         numbers = [f"-DSTEPS_OF_WORD={steps[0]}", f"-DSTEPS_OF_ONE_WORD={steps[1]}"]
         archive = (library if name == "keywrap" else hardware) / f"lib{name}.a"
         run("cc", *OPTIONS, *numbers, OWN / "steps.c", archive, "-lcrypto", "-o", "steps")
@@ -127,19 +114,10 @@ class TestSteps:
 
 
 class TestSecrets:
-    @pytest.mark.needs("valgrind", "<valgrind/memcheck.h>")
-    def test_steps(self, library):
-        """No report, but at the decision that the end of an unwrap makes, which memcheck sees."""
-        run("cc", *OPTIONS, "-g", OWN / "secrets.c", library / "libkeywrap.a", "-o", "secrets")
-        memcheck = ["valgrind", "-q", "--error-limit=no", "--log-file=valgrind.log"]
-        names = "wraps", "steps of an unwrap", "ends of an unwrap"
-        assert run(*memcheck, DECISION, "./secrets") == "".join(f"{name}: 0\n" for name in names)
-        assert re.search(r"^ends of an unwrap: [1-9]", run(*memcheck, "./secrets"), re.M)
-
     @slow
     @pytest.mark.needs("valgrind", "<valgrind/memcheck.h>")
     def test_calls(self, hardware):
-        run("cc", *OPTIONS, "-O1", "-g", ROOT / "tests/secrets/secrets.c", ROOT / "c/reference/one_table.c",
+        run("cc", *OPTIONS, "-O1", "-g", ROOT / "tests/secrets/secrets.c", ROOT / "tests/reference/one_table.c",
             hardware / "libkeywrap_hw.a", "-o", "secrets")
         found = reports(["valgrind"], 264, DECISION)
         assert ("keywrap_kind", 0) in found
@@ -156,7 +134,7 @@ class TestHere:
 
     def test_rows(self, hardware):
         run("cc", *OPTIONS, ROOT / "tests/rows.c", hardware / "libkeywrap_hw.a", "-o", "program")
-        right(["./program"], *kept(), "more")
+        faces.check("c", ["./program"], *kept()[1:], "more")
 
     def test_own(self, hardware):
         run("cc", *OPTIONS, ROOT / "tests/library/own.c", hardware / "libkeywrap_hw.a", "-o", "program")
@@ -168,13 +146,12 @@ class TestHere:
     def test_sanitized(self, proved, names):
         sources = [ROOT / "tests/rows.c", *sorted(HARDWARE.glob("*.c"))]
         run("cc", *OPTIONS, "-g", *SANITIZED, *sources, proved, "-o", "program")
-        right(["./program"], *names)
+        faces.check("c", ["./program"], *names)
 
-    @pytest.mark.needs("the processor's AES")
-    def test_aes_of_each_call(self, proved):
-        sources = [HARDWARE / f"{name}.c" for name in ("keywrap", "many", "aes")]
-        run("cc", *OPTIONS, OWN / "uses.c", OWN / "wrong_aes.c", *sources, proved, "-o", "uses")
-        assert run("./uses") == "".join(f"software for a KEK of {length} bytes:\n" for length in (16, 24, 32))
+    def test_aes_of_each_call(self):
+        """Each call with a KEK, and no other of keywrap.h, is also in c/hardware, so it uses the processor's AES."""
+        names = [line.split()[0] for line in (HARDWARE / "names").read_text().splitlines()]
+        assert sorted(names) == EXPORTS
 
     @pytest.mark.needs("the processor's AES")
     def test_wrong_aes_is_not_chosen(self):
@@ -195,7 +172,7 @@ class TestHere:
             run(*threads, (library if name == "keywrap" else hardware) / f"lib{name}.a")
         assert " passed, 0 failed" in run("./threads")
 
-    @slow
+    @evidence
     def test_provider(self, hardware):
         """The other tests of the provider."""
         given = {name: value for name, value in os.environ.items() if not name.startswith("PYTEST_")}
@@ -287,17 +264,18 @@ class TestEachProcessor:
     def test_rows(self, on, processor):
         if PROCESSORS[processor][2] == "software" and not ALL:
             pytest.skip(SLOW)
-        right(on(processor, "rows"), *kept())
+        faces.check("c", on(processor, "rows"), *kept())
 
     @evidence
     def test_more(self, on, processor):
-        right(on(processor, "rows"), "more")
+        faces.check("c", on(processor, "rows"), "more")
 
     @slow
     def test_own(self, on, processor):
         assert run(*on(processor, "own")).endswith(" passed, 0 failed\n")
 
-    @pytest.mark.parametrize("part", ["parameters", *[pytest.param(part, marks=slow) for part in (
-        "lengths", "sequences 1000", "refusals few")]])
+    @pytest.mark.parametrize("part", [
+        "parameters", pytest.param("sequences 1000", marks=slow),
+        *[pytest.param(part, marks=evidence) for part in ("lengths", "refusals few")]])
     def test_provider(self, on, processor, part):
         run(*on(processor, "compared", *part.split()))

@@ -1,5 +1,5 @@
-"""The provider for Java: rows.txt; its names, exceptions and calls beside the JDK's; messages of BouncyCastle; the
-lines of java/README.md. The programs are in java/."""
+"""The provider for Java: rows.txt; its names, exceptions and calls beside the JDK's; the lines of java/README.md. The
+programs are in java/."""
 
 import os
 import pathlib
@@ -10,7 +10,7 @@ import zipfile
 
 import pytest
 
-import published
+import faces
 from builds import NAMES, ROOT, alone, run
 from hardware.bugs import plant
 from program import slow
@@ -20,9 +20,7 @@ pytestmark = pytest.mark.needs("javac", "jna.jar")
 
 SOURCES = sorted((ROOT / "java/keywrap").glob("*.java"))
 PROGRAMS = ROOT / "tests/java"
-SHARED = pathlib.Path("/usr/share/java")
-JNA = SHARED / "jna.jar"
-BOUNCY_CASTLE = [SHARED / f"{name}.jar" for name in ("bcprov", "bcpkix", "bcutil")]
+JNA = pathlib.Path("/usr/share/java/jna.jar")
 
 
 def compiled(directory, path, *sources):
@@ -41,9 +39,9 @@ def classes(once):
 @pytest.fixture
 def java(classes, library):
     """java("Checks", "names") runs a class over the library."""
-    def call(name, *args, path=(), **options):
+    def call(name, *args, **options):
         return run("java", f"-Djna.library.path={library}", f"-Djava.io.tmpdir={os.getcwd()}", "-cp",
-                   ":".join(map(str, [classes, JNA, *path])), name, *args, **options)
+                   f"{classes}:{JNA}", name, *args, **options)
 
     return call
 
@@ -54,19 +52,15 @@ def test_no_warning_for_java_11():
     run("javac", *options, "-cp", JNA, "-d", ".", *SOURCES, ROOT / "java/Example.java")
 
 
-@pytest.mark.parametrize("check", ["names", "values", "calls", "damaged", "ignored", "keys", "cleared"])
+@pytest.mark.parametrize("check", ["names", "values", "calls", "ignored", "keys", "cleared"])
 def test_compared(java, check):
-    java("Checks", check)
+    """It prints the numbers of the library's version."""
+    assert java("Checks", check) == NAMES["VERSION"].removesuffix("-dev") + "\n"
 
 
 @pytest.mark.parametrize("name", ["rows", pytest.param("more", marks=slow), "foreign", "nist"])
 def test_rows(java, name):
-    published.all_right(java("Rows", input=published.table(name)), published.table(name))
-
-
-def test_version(java):
-    """The provider has the numbers of the library's version."""
-    assert java("Checks", "version") == NAMES["VERSION"].removesuffix("-dev") + "\n"
+    faces.check("java", lambda text: java("Rows", input=text), name)
 
 
 def test_self_test(java, tmp_path):
@@ -84,9 +78,9 @@ def test_other_library(java, thing):
     """By its path, in the property keywrap.library."""
     def called(path):
         env = {**os.environ, "JAVA_TOOL_OPTIONS": f"-Dkeywrap.library={path}"}
-        return java("Rows", input=published.table("rows"), env=env)
+        faces.check("java", lambda text: java("Rows", input=text, env=env), "rows")
 
-    published.all_right(called(thing("hardware") / "lib/libkeywrap_hw.so.1"), published.table("rows"))
+    called(thing("hardware") / "lib/libkeywrap_hw.so.1")
     with pytest.raises(AssertionError, match="cannot load /none.so"):
         called("/none.so")
 
@@ -100,12 +94,6 @@ def test_heap_is_cleared(java):
     """Also arrays that the cipher has replaced, and those of results that it has copied."""
     env = {**os.environ, "JAVA_TOOL_OPTIONS": "-Xmn256m -XX:+UseSerialGC"}
     assert java("Heap", os.path.abspath("heap.hprof"), env=env) == "0\n"
-
-
-@pytest.mark.needs("bcpkix.jar")
-def test_cms(java, classes):
-    compiled(pathlib.Path("cms"), [classes, *BOUNCY_CASTLE], PROGRAMS / "Cms.java")
-    java("Cms", path=[pathlib.Path("cms").absolute(), *BOUNCY_CASTLE])
 
 
 class TestReadme:
@@ -170,9 +158,3 @@ def test_maven():
             "META-INF/MANIFEST.MF", "META-INF/services/java.security.Provider",
             *(f"keywrap/{path.stem}.class" for path in SOURCES)}
         assert f"Implementation-Version: {NAMES['VERSION']}" in jar.read("META-INF/MANIFEST.MF").decode()
-
-
-def test_pom():
-    """It has neither a licence nor an address."""
-    pom = (ROOT / "java/pom.xml").read_text()
-    assert not re.search("<(licenses|url|email|organization|scm|issueManagement)>", pom)

@@ -1,18 +1,16 @@
 """The package for browsers, Node and Deno, in Node without a flag and in Chromium, Firefox and WebKit: rows.txt, the
-published cases, the module's memory after each call, bundles; its page in Chromium, as a person uses it. Deno is not in
-Debian, so it is not tested. KEYWRAP_JS=DIRECTORY: over another package."""
+published cases, the module's memory after each call, bundles; its page. Deno is not in Debian, so it is not tested."""
 
 import glob
 import json
 import os
-import pathlib
 import re
 import shutil
 import subprocess
 
 import pytest
 
-import published
+import faces
 from builds import NAMES, ROOT, run
 from program import slow
 from tools import missing, need
@@ -24,23 +22,22 @@ FILES = "README.md calls.js example.html inline.js keywrap.d.ts keywrap.js keywr
 HOSTS = "chrome85,firefox79,safari15,node16"
 
 
+def tables(kept="rows"):
+    return [kept, "foreign", *([] if missing("import cryptography_vectors") else ["nist"])]
+
+
 @pytest.fixture(scope="session")
 def programs(once):
-    """The directory of the programs, with the package where a user has it, tables/ of rows, and vectors.mjs."""
+    """The directory of the programs, with the package where a user has it, the lines of rows.mjs, and vectors.mjs."""
     def build(directory):
         shutil.copytree(ROOT / "tests/js", directory, dirs_exist_ok=True)
-        shutil.copy(ROOT / "scripts/engine.mjs", directory)
+        shutil.copy(ROOT / "tests/lib/engine.mjs", directory)
         (directory / "node_modules").mkdir()
         package = directory / "node_modules/keywrap"
-        if given := os.environ.get("KEYWRAP_JS"):
-            shutil.copytree(given, package)
-        else:
-            run("make", "-s", "-C", ROOT, "js", f"JS={package}")
+        run("make", "-s", "-C", ROOT, "js", f"JS={package}")
         (directory / "vectors.mjs").write_text(
             "".join(f"export const {name} = '{value}';\n" for name, value in VALUES.items()))
-        (directory / "tables").mkdir()
-        for name in "rows", "foreign", *([] if missing("import cryptography_vectors") else ["nist"]):
-            (directory / f"tables/{name}.txt").write_text(published.table(name))
+        (directory / "lines.txt").write_text("".join(f"{line}\n" for line, _, _ in faces.asked("js", *tables("short"))))
 
     return once("js", build)
 
@@ -119,9 +116,7 @@ class TestNode:
         run("node", *name.split(), cwd=programs)
 
     def test_rows(self, programs):
-        said = run("node", "rows.mjs", "tables", cwd=programs)
-        said, _, _ = said.partition(" right")
-        published.all_right(f"{said} right", published.table("rows"))
+        faces.check("js", lambda text: run("node", "rows.mjs", input=text, cwd=programs), *tables())
 
     def test_bundles(self, programs, bundles):
         run("node", "bundles.mjs", bundles, cwd=programs)
@@ -141,15 +136,9 @@ def test_engine(programs, request, engine):
     bundled = "" if missing("esbuild") else request.getfixturevalue("bundles")
     os.mkdir("files")
     program = glob.glob(program)[0] if "*" in program else program
-    run("node", "engines.mjs", engine, program, os.path.abspath("files"), programs / "node_modules/keywrap", bundled,
-        programs / "tables", cwd=programs, timeout=1500)
-
-
-@pytest.mark.needs("node", "chromium")
-def test_page(programs):
-    """As a person uses it."""
-    run("node", "page.mjs", programs / "node_modules/keywrap", "chromium", os.path.abspath("chromium"), cwd=programs,
-        timeout=1200)
+    faces.check("js", lambda _: run(
+        "node", "engines.mjs", engine, program, os.path.abspath("files"), programs / "node_modules/keywrap", bundled,
+        cwd=programs, timeout=1500), *tables("short"))
 
 
 HEAD = """import { load, BadLength, KeyNotPlain, KeywrapError, type Kind, type Keywrap } from "keywrap";

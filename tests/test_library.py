@@ -1,6 +1,5 @@
 """The C library as users have it: its header by each compiler; its files by both compilers of the toolchain, rows.txt
-and own.c over them; installed, from C, C++ and CMake; what it needs of the processor; its refusals beside the
-command's."""
+and own.c over them; installed, from C, C++ and CMake; what it needs of the processor."""
 
 import os
 import re
@@ -10,11 +9,11 @@ import sys
 
 import pytest
 
-import published
+import faces
 from builds import NAMES, ROOT, run
-from machines import (ARCHIVED, EXPORTS, NAMES as CALLS, SANITIZED, STRICT, WITH_SSE41, WITHOUT_SSE41, check_hardened,
+from machines import (ARCHIVED, NAMES as CALLS, SANITIZED, STRICT, WITH_SSE41, WITHOUT_SSE41, check_hardened,
                       check_needs, check_versions, shown)
-from program import evidence, slow
+from program import evidence
 from tools import need
 from vectors import WRAPPED16, WRAPPED24
 
@@ -52,95 +51,6 @@ def test_macros():
     assert "*restrict wrapped" in preprocessed("-U__GNUC__")
 
 
-# Each call that returns a status: its buffers with their lengths, all of different sizes, what it writes last, and what
-# follows.
-TABLE = """
-keywrap_wrap kek:32,key:16,wrapped:24
-keywrap_unwrap kek:32,wrapped:24,key:16
-keywrap_wrap_with kek:32,iv:8,key:16,wrapped:24
-keywrap_unwrap_with kek:32,iv:8,wrapped:24,key:16
-keywrap_wrap_padded kek:32,key:16,wrapped:24
-keywrap_unwrap_padded kek:32,wrapped:24,key:16 &len
-keywrap_wrap_in_place kek:32,wrapped:24
-keywrap_unwrap_in_place kek:32,wrapped:24
-keywrap_wrap_padded_in_place kek:32,wrapped:24 16
-keywrap_unwrap_padded_in_place kek:32,wrapped:24 &len
-keywrap_kind kek:32,wrapped:24,key:16 &form,&len
-keywrap_unwrap_any kek:32,wrapped:24,key:16 &form,&len
-keywrap_rewrap kek:32,new_kek:16,wrapped:24 0,&form
-keywrap_rewrap_in_place kek:32,new_kek:16,wrapped:24 0
-keywrap_rewrap_many kek:32,new_kek:16,texts:48 0,statuses,2
-keywrap_wrap_many kek:32,texts:48 16,0,statuses,2
-keywrap_unwrap_many kek:32,texts:48 0,key_lens,2,statuses,2
-keywrap_kind_many kek:32,texts:48,scratch:16 forms,2,key_lens,2,statuses,2
-"""
-LOCALS = {"&len": "size_t len;", "&form": "uint32_t form;", "key_lens": "size_t key_lens[2];",
-          "forms": "uint8_t forms[2];", "statuses": "uint8_t statuses[2];"}
-
-
-class Call:
-    def __init__(self, line):
-        self.name, buffers, more = (line + " ").split(" ", 2)
-        self.buffers = [(name, int(size)) for name, size in re.findall(r"(\w+):(\d+)", buffers)]
-        self.more = [word for word in more.strip().split(",") if word]
-        self.arguments = [str(word) for buffer in self.buffers for word in buffer] + self.more
-        self.last = self.buffers[-1][0]
-        # The call takes what is in the last buffer.
-        self.changes = re.search("_in_place|rewrap$|(?<!kind)_many", self.name)
-
-    def function(self, short="", unset="", arguments=None, unused=False):
-        """A line of C that makes the call, with buffers of their sizes but one, which is a byte short. What the call
-        only writes is not set before, nor is `unset`."""
-        declared = [
-            f"uint8_t {name}[{size - (name == short)}]{'' if name == unset or is_only_written else ' = {1}'};"
-            for name, size in self.buffers for is_only_written in [name == self.last and not self.changes]]
-        declared += [LOCALS[word] for word in self.more if word in LOCALS]
-        made = f"{self.name}({', '.join(arguments or self.arguments)});"
-        made = f"{made} return 0;" if unused else f"int32_t s = {made} return s;"
-        return f"int32_t f(void) {{ {' '.join(declared)} {made} }}"
-
-    def without(self, word, other):
-        """The arguments with another one in the place of the last that is this."""
-        at = len(self.arguments) - 1 - self.arguments[::-1].index(word)
-        return [*self.arguments[:at], other, *self.arguments[at + 1:]]
-
-
-TABLE = [Call(line) for line in TABLE.split("\n")[1:-1]]
-TEXT = "void f(void) {{ char text[{}]; keywrap_status_text(0, {}, 8); }}".format
-# A function for each place in each call that can have one of this kind.
-CALLERS = {
-    "right": [call.function() for call in TABLE] + [TEXT(8, "text")],
-    "unused status": [call.function(unused=True) for call in TABLE],
-    "NULL": [call.function(arguments=call.without(word, "NULL")) for call in TABLE
-             for word in call.arguments if word in LOCALS or word in dict(call.buffers)] + [TEXT(8, "NULL")],
-    "overlap": [call.function(arguments=call.without(call.last, "kek")) for call in TABLE],
-    "short": [call.function(short=name) for call in TABLE for name, _ in call.buffers] + [TEXT(7, "text")],
-    "short in place": [call.function(short=call.last) for call in TABLE if call.changes],
-    "unset": [call.function(unset=name) for call in TABLE for name, _ in call.buffers
-              if name != call.last or call.changes],
-}
-
-
-def test_calls_of_the_table():
-    assert sorted(call.name for call in TABLE) == [name for name in EXPORTS if name != "keywrap_self_test"]
-
-
-@pytest.mark.parametrize("kind, compiler, warnings", [
-    (kind, compiler, warnings) for compiler in COMPILERS for kind, warnings in [
-        ("right", "-Wall -Wextra -pedantic"), ("unused status", "-Wunused-result"), ("NULL", "-Wnonnull")]] + [
-    ("overlap", "gcc", "-Wrestrict"), ("short", "gcc", ""), ("short in place", "gcc", "-Wno-stringop-overread"),
-    ("unset", "gcc", "-Wuninitialized -Wmaybe-uninitialized")])
-def test_warnings(kind, compiler, warnings):
-    """The compiler warns of every caller of this kind, but not of the right ones."""
-    need(compiler)
-    lines = [line.replace(" f(", f" f{number}(") for number, line in enumerate(CALLERS[kind])]
-    program = "\n".join(["#include <keywrap.h>", *lines, ""])
-    ended = subprocess.run([compiler, "-O2", "-std=c99", *warnings.split(), STRICT[-1], "-x", "c", "-c", "-", "-o",
-                            "callers.o"], input=program, capture_output=True, text=True)
-    warned = {int(number) - 2 for number in re.findall(r"^<stdin>:(\d+):.*warning:", ended.stderr, re.M)}
-    assert [line for number, line in enumerate(lines) if (number in warned) == (kind == "right")] == [], ended.stderr
-
-
 ### The library, by both compilers of the toolchain
 
 
@@ -171,7 +81,7 @@ class TestFiles:
 
 @pytest.mark.parametrize("compiler", COMPILERS)
 @pytest.mark.parametrize("linked, options", [
-    ("static", []), ("shared", []), ("static", SANITIZED), pytest.param("shared", SANITIZED, marks=slow)],
+    ("static", []), ("shared", []), ("static", SANITIZED), pytest.param("shared", SANITIZED, marks=evidence)],
     ids=["static", "shared", "static, sanitized", "shared, sanitized"])
 @pytest.mark.parametrize("of_toolchain", ["llvm", pytest.param("rattle", marks=evidence)], indirect=True)
 class TestCalls:
@@ -190,15 +100,12 @@ class TestCalls:
 
     def test_rows(self, program, compiler, linked, options):
         """Those that are not kept run over one build."""
-        command = program("rows.c")
-        for name in "rows", "foreign", *["more"] * ((compiler, linked, options) == ("gcc", "static", [])):
-            text = published.table(name)
-            assert published.all_right(run(*command, input=text), text) == {}
+        more = ["more"] * ((compiler, linked, options) == ("gcc", "static", []))
+        faces.check("c", program("rows.c"), "rows", "foreign", *more)
 
     @evidence
     def test_more(self, program):
-        text = published.table("more")
-        assert published.all_right(run(*program("rows.c"), input=text), text) == {}
+        faces.check("c", program("rows.c"), "more")
 
     def test_own(self, program):
         assert run(*program("library/own.c")).endswith(" passed, 0 failed\n")
@@ -248,19 +155,10 @@ class TestInstalled:
             run("dpkg", "--compare-versions", DEBIAN, "lt", NUMBER)
 
     def test_c_example(self, flags):
-        """It names a refused value, and finds a library that accepts a damaged wrapped key."""
+        """It names a refused value."""
         run("cc", *STRICT, EXAMPLE, *flags, "-o", "example")
         said = run("./example")
         assert WRAPPED24 in said and "reserved value: initial value is not 8 bytes" in said
-        accepting = """
-            #include <keywrap.h>
-            int32_t accepts(const uint8_t *k, size_t k_len, const uint8_t *t, size_t t_len, uint8_t *out, size_t room) {
-                int32_t status = keywrap_unwrap(k, k_len, t, t_len, out, room);
-                return status == KEYWRAP_INTEGRITY ? KEYWRAP_OK : status;
-            }"""
-        run("cc", "-std=c99", "-c", "-x", "c", "-", "-o", "accepts.o", *flags[:1], STRICT[-1], input=accepting)
-        run("cc", "-std=c99", "-Dkeywrap_unwrap=accepts", EXAMPLE, "accepts.o", *flags, "-o", "wrong")
-        assert subprocess.run(["./wrong"], capture_output=True).returncode
 
     @pytest.mark.parametrize("compiler", ["g++", "clang++"])
     def test_cpp(self, flags, compiler):
@@ -346,28 +244,3 @@ class TestProcessor:
     def test_c_example(self, library):
         run("cc", STRICT[-1], EXAMPLE, library / "libkeywrap.a", "-o", "example")
         assert WRAPPED24 in run(*WITH_SSE41, "./example")
-
-
-### Beside the command
-
-
-class TestBesideTheCommand:
-    @pytest.mark.parametrize("value", "a6a6a6a6a6a6a6a6 0123456789abcdef a65959a700000010 a65959a600000010"
-                             " a65959a6ffffffff".split())
-    def test_initial_value(self, keywrap, flags, value):
-        """Both wrap alike, or refuse by the same status."""
-        run("cc", *STRICT, INSTALLED / "agreed.c", *flags, "-o", "agreed")
-        ours = subprocess.run(["./agreed", value], stdout=subprocess.PIPE, text=True)
-        theirs = keywrap(f"wrap --iv {value} --kek kek16.hex", stdin=bytes(range(16)).hex())
-        assert (ours.returncode, ours.stdout) == theirs[:2]
-
-    def test_refusals(self, keywrap, flags):
-        """The command refuses in the words of the library."""
-        run("cc", *STRICT, INSTALLED / "text.c", *flags, "-o", "text")
-        with open("short.hex", "w") as short:
-            short.write("00\n")
-        key = bytes(range(16)).hex()
-        for status, args in [(3, "wrap --kek short.hex"), (4, "unwrap --kek kek16.hex"),
-                             (5, "unwrap --padded --kek kek16.hex")]:
-            ended = keywrap(args, stdin=key)
-            assert (ended.status, ended.stderr) == (status, "keywrap: " + run("./text", str(status)))

@@ -11,9 +11,9 @@ import subprocess
 import pytest
 
 from checks import fresh
-from commands import CHECK, REWRAP, SAME_KEK, UNWRAP, WRAP
+from commands import CHECK, WRAP
 from program import refused, wait_for
-from vectors import KEK16, KEY16, NOT_OPENED, WRAPPED16, WRAPPED32, WRONG
+from vectors import KEK16, KEY16, NOT_OPENED
 
 PAGE = (pathlib.Path(__file__).resolve().parent.parent / "command/man/keywrap.1").read_text()
 
@@ -80,29 +80,6 @@ def test_status(preloaded, sentence, args, fails):
     status, = re.findall(sentence.replace("N", r"(\d)\b"), TEXT)
     fresh(b"old\n")
     assert preloaded("fail_call")(args, FAIL_CALL=fails, FAIL_ERRNO="1").status == int(status)
-
-
-def lines(*counts):
-    """The input of a run over lines: each text this often."""
-    return "".join(f"{text}\n" * count for text, count in counts)
-
-
-@pytest.mark.parametrize("line, args, given", [
-    ("keywrap: line 17: integrity check failed", f"{UNWRAP} --lines", lines((WRAPPED16, 16), (WRONG, 1))),
-    ("keywrap: 200 lines: 199 answered, 1 refused", f"{UNWRAP} --lines --keep-going --verbose",
-     lines((WRAPPED16, 199), (WRONG, 1))),
-    ("119 answered, 80 passed, 1 refused", f"{REWRAP} --lines --pass-new --keep-going --verbose",
-     lines((WRAPPED16, 119), (WRAPPED32, 80), (WRONG, 1))),
-    ("keywrap: kek: looks like hex: omit --raw-kek to read it as hex", "wrap --raw-kek --kek kek --verbose", KEY16),
-    ("keywrap: the new wrapped key is plain; with --keep-form or --new-padded it is padded",
-     f"{SAME_KEK} --padded -i padded.hex --verbose", ""),
-    ("keywrap: the KEK and the new KEK are the same key: nothing changes", f"{SAME_KEK} --verbose", WRAPPED16),
-    ("kek.hex: No such file or directory (os error 2)", "wrap --kek kek.hex --verbose", "")])
-def test_line(keywrap, line, args, given):
-    """A line of the page that a run ends with."""
-    pathlib.Path("kek").write_text(KEK16)
-    assert line in TEXT
-    assert keywrap(args, stdin=given).stderr.endswith(f"{line}\n")
 
 
 def test_numbers(keywrap):

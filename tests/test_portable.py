@@ -12,10 +12,10 @@ import sys
 
 import pytest
 
-import published
+import faces
 from builds import run
 from hardware.bugs import plant
-from program import ALL, all_of, slow
+from program import ALL, all_of, evidence, slow
 from tools import need
 
 ROOT = pathlib.Path(__file__).resolve().parent.parent
@@ -60,7 +60,7 @@ def portable_program(once):
             there = once(re.sub("[ /]", "-", "-".join(["object", name, *options])), compile_object)
         else:
             compile_object(there)
-        run(*command, f"-I{directory}", f"-I{ROOT}/c/reference", *sources, there / "keywrap.o", "-o", "program")
+        run(*command, f"-I{directory}", f"-I{ROOT}/tests/reference", *sources, there / "keywrap.o", "-o", "program")
         return [*runner, "./program"]
 
     return make
@@ -73,23 +73,19 @@ def made_here():
     if not shutil.which("rt"):
         pytest.skip("no rt on the PATH")
     named = re.search(r"^ \* By (.*)\.$", (DIST / "keywrap.c").read_text(), re.M)[1]
-    here = run(sys.executable, ROOT / "scripts/portable.py", "--tools").strip()
+    here = run(sys.executable, ROOT / "generate/portable.py", "--tools").strip()
     if here != named:
         pytest.skip(f"dist/ is by {named}; here are {here}")
 
 
 @slow
 def test_is_what_the_tree_makes(built):
-    """Each file of dist/, byte by byte, but for those that are written by hand."""
+    """Each file that the script writes, byte by byte."""
     made_here()
-    run(sys.executable, ROOT / "scripts/portable.py", built("keywrap.wasm"), "made")
-    tracked = [name for name in run("git", "-C", ROOT, "ls-files", "dist").split()
-               if not re.fullmatch(r"dist/((command|check/all_inputs)/.*|RUST\.md|Cargo\.toml|.*\.rs|GO\.md|go\.mod|"
-                                   r"\w+\.go)", name)]
-    assert sorted(tracked) == sorted(f"dist/{path.relative_to('made')}"
-                                     for path in pathlib.Path("made").rglob("*") if path.is_file())
-    for name in tracked:
-        assert (ROOT / name).read_bytes() == pathlib.Path("made", name.removeprefix("dist/")).read_bytes(), name
+    run(sys.executable, ROOT / "generate/portable.py", built("keywrap.wasm"), "made")
+    assert sorted(os.listdir("made")) == ["README", "keywrap.c", "keywrap.wasm"]
+    for path in pathlib.Path("made").iterdir():
+        assert (DIST / path.name).read_bytes() == path.read_bytes(), path
 
 
 @pytest.mark.parametrize("compiler", all_of(NATIVE, ["clang"]))
@@ -105,11 +101,12 @@ def test_compiles_without_a_warning(portable, compiler, only, options):
 
 @pytest.mark.parametrize("name", all_of(MACHINES, ["gcc", "gcc, tables", "s390x"], IN_GATE))
 def test_rows(portable_program, name):
-    """All rows natively, and under an emulator those that are kept; with the published cases."""
+    """Those that test_rows.py has not, under an emulator without the long ones, with the published cases."""
     program = portable_program(name, ROWS, "-O2")
-    for table in ("rows", "foreign", *(("more", "nist") if ALL or name == "gcc" else ())):
-        text = published.table(table)
-        assert published.all_right(run(*program, input=text), text) == {}
+    is_native = len(program) == 1
+    more = ["more", "nist"] if name == "gcc" or ALL and is_native else []
+    kept = [] if name.startswith("gcc") else ["rows" if is_native else "short"]
+    faces.check("c", program, *kept, "foreign", *more)
 
 
 @pytest.mark.parametrize("name", all_of(MACHINES, ["gcc"], IN_GATE))
@@ -133,10 +130,10 @@ def random_calls(directory, library, name, *options):
     return [*runner, "./fuzz"]
 
 
-@pytest.mark.parametrize("name", all_of([*NATIVE, "gcc, tables", "an old x86-64"], ["gcc, tables"]))
+@pytest.mark.parametrize("name", all_of([*NATIVE, "gcc, tables", "an old x86-64"], ["gcc, tables"], ["gcc"]))
 def test_as_the_library(portable, library, name):
     """Random calls, right ones and refusals, of all calls and steps: as the library, byte by byte."""
-    cases = 1000000 if ALL and name in NATIVE else 10000 if "old" in name else 40000
+    cases = 200000 if ALL and name in NATIVE else 10000 if "old" in name else 40000
     assert run(*random_calls(portable, library, name), str(cases), "1") == f"{cases} cases agree\n"
 
 
@@ -144,15 +141,14 @@ def test_as_the_library(portable, library, name):
 @pytest.mark.parametrize("table", all_of(["rows", "more"], [], ["rows"]))
 def test_sanitizers(portable_program, name, table):
     need(f"sanitizers of {name}")
-    text = published.table(table)
-    assert published.all_right(run(*portable_program(name, ROWS, "-O2", "-g", *SANITIZED), input=text), text) == {}
+    faces.check("c", portable_program(name, ROWS, "-O2", "-g", *SANITIZED), table)
 
 
-@slow
+@evidence
 def test_valgrind(portable_program):
     need("valgrind")
     program = portable_program("gcc", ROWS, "-O1", "-g")
-    run("valgrind", "-q", "--error-exitcode=9", "--leak-check=full", *program, input=published.table("rows"))
+    faces.check("c", ["valgrind", "-q", "--error-exitcode=9", "--leak-check=full", *program], "rows")
 
 
 @pytest.mark.parametrize("name", all_of(MACHINES, ["gcc"], IN_GATE))
@@ -171,13 +167,14 @@ def secrets_left(portable_program, name, level, **directory):
 
 def documented_secrets(name):
     """The most bytes that SECURITY.md has."""
-    found = re.search(r"at most (\d+) bytes\s+below the stack pointer depend on a KEK or a key, and with AES "
-                      r"instructions at most (\d+)", (ROOT / "SECURITY.md").read_text())
+    found = re.search(r"at most (\d+) bytes below the stack pointer depend on a KEK or a key, and with AES "
+                      r"instructions at most (\d+)", " ".join((ROOT / "SECURITY.md").read_text().split()))
     return int(found[1 if "tables" in name else 2])
 
 
-@pytest.mark.parametrize("name", all_of([*NATIVE, "gcc, tables", "clang, tables"], ["gcc", "gcc, tables"]))
-@pytest.mark.parametrize("level", all_of(["-O1", "-O2", "-O3", "-Os"], ["-O2"]))
+@pytest.mark.parametrize("name", all_of(
+    [*NATIVE, "gcc, tables", "clang, tables"], ["gcc", "gcc, tables"], ["clang"]))
+@pytest.mark.parametrize("level", all_of(["-O1", "-O2", "-O3", "-Os"], ["-O2"], ["-Os"]))
 def test_stack(portable, portable_program, name, level):
     """SECURITY.md's bytes below the stack pointer depend on a KEK or a key."""
     most, copies, calls = secrets_left(portable_program, name, level)
@@ -257,20 +254,12 @@ def test_makefile_for_another_machine(copied):
     assert RIGHT in run("bash", "-ec", line, cwd=copied)
 
 
-def test_check_names_what_is_wrong(copied):
-    need("cc")
-    plant(OWN / "bugs/rotation-to-the-other-side.edit", copied)
-    ended = subprocess.run(["make", "-C", copied, "check", "CPPFLAGS=" + TABLES], capture_output=True, text=True)
-    assert ended.returncode == 2 and "\nvector 1 of 8: wrong\n" in ended.stdout, ended
-
-
-@pytest.mark.parametrize("wrong, line", [(1, "vector 1 of 8"), (2, "vector 7 of 8"), (3, "vector 7 of 8"),
-                                         (4, "vector 1 of 8"), (5, "vector 7 of 8")])
-def test_check_of_a_wrong_unwrap(portable_program, wrong, line):
-    """A wrong key, a wrong length, and a damaged wrapped key that is accepted are found in both forms."""
-    program = portable_program("gcc", [OWN / "wrong_vectors.c"], f"-I{DIST}")
-    ended = subprocess.run(program, capture_output=True, text=True, env={**os.environ, "WRONG": str(wrong)})
-    assert (ended.returncode, ended.stdout) == (int(line.split()[1]), f"{line}: wrong\n"), ended
+def test_check_of_a_wrong_unwrap(portable_program):
+    """The check fails over a library that unwraps to a key with a wrong byte."""
+    pathlib.Path("wrong.c").write_text(
+        '#include "keywrap.h"\n#define keywrap_unwrap(a, b, c, d, key, f) (keywrap_unwrap(a, b, c, d, key, f) ? 5 : '
+        '(*(key) ^= 1, 0))\n#include "check/vectors.c"\n')
+    assert subprocess.run(portable_program("gcc", ["wrong.c"], "-O2"), capture_output=True).returncode == 1
 
 
 def directory_files(directory):
@@ -362,10 +351,10 @@ def test_freestanding(portable):
 
 
 @slow
-@pytest.mark.parametrize("compiler", NATIVE)
+@pytest.mark.parametrize("compiler", ["gcc", pytest.param("clang", marks=evidence)])
 def test_sdist(compiler):
     """pip builds the source distribution without the kit, and the package's tests pass on it. It is the same again."""
-    need(compiler, *[f"import {module}" for module in ("build", "cffi", "ensurepip", "setuptools", "wheel")])
+    need(compiler, "Python.h", *[f"import {name}" for name in ("build", "cffi", "ensurepip", "setuptools", "wheel")])
     kit = pathlib.Path(shutil.which("rt") or "/rt").parent
     path = ":".join(directory for directory in os.environ["PATH"].split(":") if pathlib.Path(directory) != kit)
     env = {**os.environ, "PATH": path, "CC": compiler, "LDSHARED": f"{compiler} -shared",

@@ -9,17 +9,15 @@ import subprocess
 
 import pytest
 
-import published
 from builds import NAMES, ROOT, run
 from machines import SANITIZED, STRICT, WITH_SSE41, WITHOUT_SSE41
-from program import all_of
+from program import all_of, slow
 from tools import need
 from vectors import KEK32, KEY16, WRAPPED32, raw
 
 pytestmark = pytest.mark.needs("cc", "<openssl/evp.h>")
 
 OWN = ROOT / "tests/provider"
-REACH = OWN / "reach"
 PAGE = (ROOT / "docs/OPENSSL.md").read_text()
 RESERVED = "initial value reserved for the padded form"
 NEW_READER = ("openssl req -x509 -newkey ec -pkeyopt ec_paramgen_curve:P-256 -nodes -keyout key.pem -out cert.pem"
@@ -63,15 +61,6 @@ def sanitized(once, library):
     return once("provider-sanitized", build)
 
 
-@pytest.fixture(scope="session")
-def counted(once, library):
-    """The directory with a module that notes its calls of the library."""
-    names = re.findall(r"^COUNTED\((\w+)", (REACH / "counted.c").read_text(), re.M)
-    assert {*re.findall(r"keywrap_(\w+)\(", (ROOT / "c/provider/wrapping.c").read_text())} == {*names}
-    wraps = [f"-Wl,--wrap=keywrap_{name}" for name in names]
-    return once("provider-counted", lambda directory: module(directory, library, *wraps, REACH / "counted.c"))
-
-
 @pytest.fixture
 def modules(thing):
     """The directory with the module, as it is installed."""
@@ -107,15 +96,8 @@ class TestCompared:
         else:
             run(compiled_programs / "direct", modules / "keywrap.so")
 
-    @pytest.mark.parametrize("name", ["rows", "foreign", "nist"])
-    def test_table(self, compiled_programs, modules, name):
-        """The lines of calls that EVP has, with KEKs that it takes. A call of EVP with no bytes does nothing."""
-        form = r"^(?:un)?wrap(?:_padded)? \d kek=(?:[0-9a-f]{16}){2,4} given=[0-9a-f]+(?: out=[0-9a-f]+)?\n"
-        lines = re.findall(form, published.table(name), re.M)
-        said = run(compiled_programs / "compared", modules, "vectors", input="".join(lines))
-        assert f"{len(lines)} cases" in said and len(lines) > 100
-
-    @pytest.mark.parametrize("args", all_of(["", "lengths", "sequences 10000", "parameters", "refusals"], ["lengths"]))
+    @pytest.mark.parametrize("args", all_of(
+        ["", "lengths", "sequences 10000", "parameters", "refusals"], ["lengths"], [""]))
     def test_over_portable_c(self, compiled_programs, over_portable_c, args):
         program = ["compared", over_portable_c, *args.split()] if args else ["direct", over_portable_c / "keywrap.so"]
         run(compiled_programs / program[0], *program[1:])
@@ -128,6 +110,7 @@ class TestCompared:
         else:
             run(sanitized / "direct", sanitized / "keywrap.so")
 
+    @slow
     @pytest.mark.needs("valgrind")
     def test_memcheck(self, compiled_programs, modules):
         memcheck = ["valgrind", "-q", "--error-exitcode=9", "--leak-check=full"]
@@ -257,94 +240,6 @@ def test_script(ours, command):
     assert WRAPPED32 in said and KEY16 in said
     refuses(RESERVED, program, OWN / script, "a65959a600000010", env=ours)
     assert KEY16 in run(program, OWN / script, "a65959a600000010")
-
-
-# Tools, what comes before, what wraps a key, and what unwraps it and prints the text of the file message.
-ENC = f"openssl enc -id-aes256-wrap -iv {'a6' * 8} -K {KEK32}"
-CMS = "openssl cms -binary -outform DER -inform DER"
-KEK_OF_CMS = f"-secretkey {KEK32} -secretkeyid 01"
-TOKEN = "pkcs11-tool --module /usr/lib/softhsm/libsofthsm2.so --login --pin 1234"
-
-
-def softhsm(mechanism):
-    kek = f"{TOKEN} --mechanism {mechanism} --id 01"
-    return ("pkcs11-tool, softhsm2-util", f"""echo "directories.tokendir = $PWD" >softhsm2.conf
-        softhsm2-util --init-token --free --label t --pin 1234 --so-pin 1234
-        {TOKEN} --keygen --key-type AES:32 --id 01 --usage-wrap
-        {TOKEN} --keygen --key-type AES:16 --id 02 --extractable""",
-            f"{kek} --wrap --application-id 02 --output-file wrapped",
-            f"""{kek} --unwrap --input-file wrapped --key-type AES: --application-id 03 --extractable >log
-        {kek} --wrap --application-id 03 --output-file again >log && cmp wrapped again && cat message""")
-
-
-REACHED = {
-    "openssl enc": ("openssl", "", f"{ENC} -in message -out wrapped", f"{ENC} -d -in wrapped"),
-    "openssl cms, KEK": ("openssl", "", f"{CMS} -encrypt -in message -out wrapped {KEK_OF_CMS}",
-                         f"{CMS} -decrypt -in wrapped {KEK_OF_CMS}"),
-    "openssl cms, EC": ("openssl", NEW_READER, f"{CMS} -encrypt -aes-256-cbc -in message -out wrapped cert.pem",
-                        f"{CMS} -decrypt -in wrapped -recip cert.pem -inkey key.pem"),
-    "jose": ("jose", """jose jwk gen -i '{"alg":"A256KW"}' -o key""", "jose jwe enc -I message -k key -o wrapped",
-             "jose jwe dec -i wrapped -k key"),
-    "SoftHSM, plain": softhsm("AES-KEY-WRAP"),
-    # pkcs11-tool has no name for CKM_AES_KEY_WRAP_PAD.
-    "SoftHSM, padded": softhsm("0x210A"),
-}
-PYCA = "/usr/bin/python3 -c 'from cryptography.hazmat.primitives.keywrap import *; KEK = bytes(16); %s'"
-NOT_REACHED = {
-    "pyca": ("import cryptography", "",
-             PYCA % 'open("wrapped", "wb").write(aes_key_wrap(KEK, open("message", "rb").read()))',
-             PYCA % 'print(aes_key_unwrap(KEK, open("wrapped", "rb").read()).decode())'),
-    "xmlsec1": ("xmlsec1", "cp message kek", f"xmlsec1 --encrypt --aeskey:kek kek --session-key aes-128 --binary-data "
-                f"message --output wrapped {REACH}/kw.xml", "xmlsec1 --decrypt --aeskey:kek kek wrapped"),
-    "libcjose": ("<cjose/cjose.h>", f"cc -o cjose {REACH}/libcjose.c -lcjose", "./cjose message", "./cjose message"),
-    "NSS": ("nss.h", f"cc -o nss {REACH}/nss.c $(pkg-config --cflags --libs nss)", "./nss message", "./nss message"),
-    "Java": ("javac", "", f"java {REACH}/Wrap.java", f"java {REACH}/Wrap.java"),
-    "gpg": ("gpg", "chmod 700 . && gpg --batch -q --passphrase '' --quick-gen-key reader future-default",
-            "gpg --batch -q --trust-model always -r reader -o wrapped --encrypt message",
-            "gpg --batch -q --decrypt wrapped && gpgconf --kill all"),
-}
-
-
-# They load the module, and do not call it.
-OVER_LIBCRYPTO = ["pyca", "xmlsec1", "libcjose"]
-
-
-class TestReach:
-    """Which programs make our calls, as the page lists them."""
-
-    @pytest.fixture
-    def calls(self, counted):
-        """Runs lines of the shell. Returns what they print, the library's calls that they make, and whether they load
-        the module."""
-        pathlib.Path("message").write_text("sixteen byte key")
-        env = {**configured("counted.cnf", counted / "keywrap.so"), "KEYWRAP_CALLED": os.path.abspath("called"),
-               "GNUPGHOME": os.getcwd(), "SOFTHSM2_CONF": os.path.abspath("softhsm2.conf")}
-
-        def call(lines):
-            pathlib.Path("called").write_text("")
-            said, made = run("bash", "-ec", lines, env=env), pathlib.Path("called").read_text().split()
-            return said, [name.split("_")[0] for name in made if name != "loaded"], "loaded" in made
-
-        return call
-
-    @pytest.mark.parametrize("name", REACHED)
-    def test_reached(self, calls, name):
-        tools, before, wraps, unwraps = REACHED[name]
-        need(*tools.split(", "))
-        calls(before)
-        assert calls(wraps)[1] == ["wrap"]
-        said, made, _ = calls(unwraps)
-        assert said == "sixteen byte key" and made[0] == "unwrap"
-
-    @pytest.mark.parametrize("name", NOT_REACHED)
-    def test_not_reached(self, calls, name):
-        tools, before, wraps, unwraps = NOT_REACHED[name]
-        need(*tools.split(", "))
-        calls(before)
-        for lines in wraps, unwraps:
-            said, made, is_loaded = calls(lines)
-            assert made == [] and is_loaded == (name in OVER_LIBCRYPTO)
-        assert said.strip() == "sixteen byte key"
 
 
 def test_python(ours):

@@ -1,4 +1,4 @@
-"""The Python package: its wheel is installed as README says, and its own tests, pyca's and published cases run there.
+"""The Python package: its wheel is installed as README says, and its own tests and published cases run there.
 test_handed_out.py compares its files and fields, test_dist.py builds the wheel a second time."""
 
 import os
@@ -10,11 +10,11 @@ import textwrap
 
 import pytest
 
+import faces
 import published
 from builds import NAMES, ROOT, alone, run
 from machines import WITH_SSE41, WITHOUT_SSE41
 from program import SLOW, all_of, evidence, slow
-from tools import need
 from vectors import WRAPPED16, WRAPPED32
 
 TESTS = ROOT / "python/tests"
@@ -29,16 +29,6 @@ def test_make_wheel_without_build(python):
                             f"PYTHON={os.getcwd()}/bare/bin/python3"], capture_output=True, text=True)
     assert ended.returncode != 0 and not os.path.exists("library")
     assert "apt-get install python3-build python3-cffi python3-setuptools python3-wheel" in ended.stderr
-
-
-def test_make_without_headers(python):
-    """For a Python without Python.h, package.py says what to install."""
-    pathlib.Path("sitecustomize.py").write_text("import sysconfig\nsysconfig.get_path = lambda name: '/none'\n")
-    words = [python, ROOT / "packaging/package.py", "needs", python]
-    env = {**os.environ, "PYTHONPATH": os.getcwd()}
-    for headers, said in ([], ""), (["Python.h"], "apt-get install python3-dev, or name another Python"):
-        ended = subprocess.run([*words, *headers], cwd=ROOT, env=env, capture_output=True, text=True)
-        assert ended.returncode == bool(headers) and said in ended.stderr, ended
 
 
 def test_make_wheel_names_it_last(words, python, dist):
@@ -71,7 +61,7 @@ def installed(once, dist, python):
         shutil.copy(wheel, directory)
         (directory / "first").mkdir()
         (directory / "first/python3").symlink_to(python)
-        environment, _, example, of_wheel = LINES
+        environment, _, example, _, of_wheel = LINES
         said = run("bash", "-ec", "\n".join([environment, of_wheel, example]), cwd=directory, env={
             **os.environ, "PATH": f"{directory}/first:{os.environ['PATH']}", "PIP_NO_INDEX": "1"})
         assert said.splitlines()[-1] == "b595a1c0afbe7a89ce43807cb3b2ba5737ff5d71d0a35cd7"
@@ -80,7 +70,8 @@ def installed(once, dist, python):
 
 
 @slow
-@pytest.mark.needs("no network", "git", "cc", "import cffi", "import ensurepip", "import setuptools", "import wheel")
+@pytest.mark.needs("no network", "git", "cc", "import cffi", "import ensurepip", "import setuptools", "import wheel",
+                   "Python.h")
 @pytest.mark.parametrize("address", ["./python", pytest.param("git+file://$PWD#subdirectory=python", marks=evidence)])
 def test_from_a_clone(address):
     """pip installs the package over portable C, without the kit and without a network, from the directory or by its
@@ -154,24 +145,6 @@ def test_hostile_objects_under_the_address_sanitizer(own_tests):
               ASAN_OPTIONS="detect_leaks=0", LD_PRELOAD=sanitizer)
 
 
-@pytest.mark.needs("import cryptography", "import cryptography_vectors", "import pytest_subtests")
-def test_tests_of_pyca(own_tests):
-    """pyca's tests of these calls, from Debian's source package, over keywrap.pyca by their one import."""
-    os.mkdir("source")
-    ended = subprocess.run(["apt-get", "-qq", "source", "--download-only", "python-cryptography"], cwd="source",
-                           capture_output=True, timeout=600)
-    if ended.returncode:
-        pytest.skip("apt-get has no source packages here (deb-src)")
-    packed, = pathlib.Path("source").glob("*.orig.tar.xz") or pathlib.Path("source").glob("*.orig.tar.gz")
-    os.mkdir("pyca")
-    run("tar", "-C", "pyca", "-xf", packed, "--strip-components=1", "--wildcards", "*/tests")
-    file = pathlib.Path("pyca/tests/hazmat/primitives/test_keywrap.py")
-    old, new = "from cryptography.hazmat.primitives import keywrap\n", "from keywrap import pyca as keywrap\n"
-    assert file.read_text().count(old) == 1
-    file.write_text(file.read_text().replace(old, new))
-    own_tests(file.relative_to("pyca"), cwd="pyca")
-
-
 def test_foreign_vectors(installed):
     """keywrap.vectors over the files of Wycheproof and ACVP. The three keys of 0 bytes are refused, as they allow."""
     names = ["kw_test", "kwp_test"]
@@ -189,16 +162,15 @@ def test_foreign_vectors(installed):
 
 @pytest.mark.parametrize("name", ["rows", pytest.param("more", marks=slow), "foreign", "nist"])
 def test_rows(installed, name):
-    text = published.table(name)
-    published.all_right(run(installed, ROOT / "tests/rows_python.py", input=text), text)
+    faces.check("python", [installed, ROOT / "tests/rows_python.py"], name)
 
 
 @pytest.mark.needs("import cryptography")
 class TestSteps:
-    @pytest.mark.parametrize("name", ["rows", "foreign", pytest.param("nist", marks=slow)])
+    @pytest.mark.parametrize("name", [
+        "short", "foreign", *(pytest.param(name, marks=slow) for name in ("rows", "nist"))])
     def test_rows(self, installed, name):
-        text = published.table(name)
-        published.all_right(run(installed, ROOT / "tests/rows_python.py", "steps", input=text), text)
+        faces.check("python steps", [installed, ROOT / "tests/rows_python.py", "steps"], name)
 
     @pytest.mark.needs("import PyKCS11", "softhsm2-util")
     def test_token(self, installed):
@@ -243,18 +215,3 @@ keywrap.steps.wrap(lambda blocks: bytearray(blocks), b"").hex()
         ended = subprocess.run([python, "-m", "mypy", "--strict", "--cache-dir=/dev/null", "--config-file=",
                                 "--python-executable", installed, "wrong.py"], capture_output=True, text=True)
         assert {*re.findall(r"^wrong.py:(\d+): error: ", ended.stdout, re.M)} == {"2", "3"}, ended.stdout
-
-
-def test_wipe_is_not_left_out(thing):
-    """The source of the extension writes by a volatile pointer, so that no compiler drops the writes."""
-    need("gcc")
-    source = (ROOT / "python/build_ffi.py").read_text()
-    wipe = re.search(r"^static (void wipe\(.*?^\})", source, re.M | re.S)[1]
-    pathlib.Path("wipe.c").write_text(f"""#include <stddef.h>
-#include <stdint.h>
-static {wipe}
-void caller(void) {{ uint8_t key[32]; for (int i = 0; i < 32; i++) ((volatile uint8_t *)key)[i] = 1; wipe(key, 32); }}
-""")
-    run("gcc", "-O3", "-S", "-fno-tree-vectorize", "wipe.c")
-    # One loop or row of writes sets the key, a second one clears it.
-    assert re.search(r"movb\s+\$0, ", pathlib.Path("wipe.s").read_text())

@@ -10,10 +10,10 @@ import subprocess
 
 import pytest
 
-from checks import DONE, leaves_input
+from checks import leaves_input
 from commands import CHECK, FILES, JOBS, MAX_FILE, REWRAP, UNWRAP, WRAP
 from program import CLOSED, PIPES, Ended, answered, failing_after, finish, piped, refused, sh, shared, words
-from vectors import (BAD_LENGTH, FULL, KEY16, INTEGRITY, IV, KEK16, KEK32, KEK_LENGTH, NEW_KEK_LENGTH, NOT_OPENED,
+from vectors import (BAD_LENGTH, FULL, KEY16, INTEGRITY, KEK16, KEK32, KEK_LENGTH, NEW_KEK_LENGTH, NOT_OPENED,
                      PADDED16, PADDED7, WRAPPED16, WRAPPED32, WRONG, raw, zeros)
 
 WRAPPED, REWRAPPED, NONE, BAD = answered(WRAPPED16), answered(WRAPPED32), Ended(5, "none\n"), refused(4, BAD_LENGTH)
@@ -174,6 +174,13 @@ class TestFiles:
             with piped(stdin) as pipe:
                 assert keywrap(f"{args} {flag} -i {pipe}") == wanted
 
+    @pytest.mark.parametrize("args, given, ended, empty", RESULTS.values(), ids=RESULTS)
+    def test_standard_input_is_read_from_where_it_is(self, keywrap, args, given, ended, empty):
+        pathlib.Path("two").write_text(f"first\n{given}\n")
+        with open("two", "rb") as file:
+            os.lseek(file.fileno(), len("first\n"), os.SEEK_SET)
+            assert keywrap(args, stdin=file) == ended
+
     @pytest.mark.parametrize("args, sizes", [
         (WRAP, [0, 8, 15, 17, 1048584]), (UNWRAP, [0, 8, 16, 23, 25, 1048592]), (f"{WRAP} --padded", [0, 1048577]),
         (f"{UNWRAP} --padded", [0, 8, 17, 1048592]), (REWRAP, [0, 8, 16, 23, 25, 1048592]),
@@ -213,18 +220,12 @@ class TestFiles:
 
 
 # The order of refusals. A cause is its place in the order, what brings it about, and its refusal. 99: nothing is wrong.
-EACH_KEK = pytest.mark.parametrize("kek", [
-    (99, "kek16.hex", None), (1, "missing", NO_KEK), (5, "digit.hex", refused(6, "key file: no hex digit at byte 1")),
-    (6, "kek15.hex", BAD_KEK)], ids=lambda kek: kek[1])
 NEW_KEKS = [(99, "kek32.hex", None), (2, "missing", refused(6, "new key file: cannot be opened")),
             (7, "digit.hex", refused(6, "new key file: no hex digit at byte 1")), (8, "kek15.hex", BAD_NEW_KEK)]
-INITIAL_VALUES = [(99, IV, None), (0, "0", refused(2, "--iv is not 16 hex digits"))]
 # The wrapped key has the padded form, and the new one the plain form.
 GIVEN = [(99, PADDED16, None), (9, "0g", NOT_HEX), (10, PADDED16[:-2], BAD), (11, PADDED16[:-2] + "d4", NOT_RIGHT),
          (12, PADDED7, BAD)]
-INPUT_FILES = [(3, "missing", refused(6, "input: cannot be opened")), (9, "digit.hex", NOT_HEX)]
 OUTPUTS = [(99, None, None), (13, "/dev/full", refused(6, FULL.format(0)))]
-OUTPUT_FILES = [(99, "file", None), (4, "directory", refused(6, NOT_OPENED))]
 
 
 def combined(*causes):
@@ -233,22 +234,10 @@ def combined(*causes):
         yield [cause[1] for cause in each], min(each, key=lambda cause: cause[0])[2]
 
 
-@EACH_KEK
-def test_order_with_streams(keywrap, kek):
+@pytest.mark.parametrize("kek", [
+    (99, "kek16.hex", None), (1, "missing", NO_KEK), (5, "digit.hex", refused(6, "key file: no hex digit at byte 1")),
+    (6, "kek15.hex", BAD_KEK)], ids=lambda kek: kek[1])
+def test_order(keywrap, kek):
     for (old, new, given, output), refusal in combined([kek], NEW_KEKS, GIVEN, OUTPUTS):
         ended = keywrap(f"rewrap --padded --kek {old} --new-kek {new}", stdin=given + "\n", stdout=output)
         assert ended == (refusal or REWRAPPED), (new, given, output)
-
-
-@pytest.mark.parametrize("args, others, wrapped, wrong, answer", [
-    ("rewrap --new-kek", NEW_KEKS, "wrapped.hex", "wrong.hex", "wrapped32.hex"),
-    ("unwrap --iv", INITIAL_VALUES, "agreed.hex", "wrapped.hex", "key.hex")])
-@EACH_KEK
-def test_order_with_files(keywrap, args, others, wrapped, wrong, answer, kek):
-    """The first cause is reported and the file is unchanged; without a cause the file has the answer."""
-    inputs = [(99, wrapped, None), *INPUT_FILES, (11, wrong, NOT_RIGHT)]
-    for (old, other, given, output), refusal in combined([kek], others, inputs, OUTPUT_FILES):
-        pathlib.Path("file").write_bytes(b"old\n")
-        ended = keywrap(f"{args} {other} --kek {old} -o {output} -i {given}")
-        assert ended == (refusal or DONE), (other, given, output)
-        assert pathlib.Path("file").read_bytes() == (b"old\n" if refusal else FILES[answer])

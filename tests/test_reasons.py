@@ -19,9 +19,9 @@ def more_files():
             "one.hex": b"00\n", "raw17": bytes(17), "colons": b"00:11:22\n", "two.64": b"AA==\nAA==",
             "wrapped23.hex": zeros(23).encode(), "key.long": bytes(1048577), "wrapped.long": bytes(1048592),
             "kek.base64": in_base64(KEK16).encode(), "kek16.base64": in_base64(KEK16).encode() + b"\n",
-            "kek17.base64": in_base64(KEK[:34]).encode(), "kek.digits": KEK16.encode(), "kek.short": KEK[:16].encode(),
+            "kek17.base64": in_base64(KEK[:34]).encode(), "kek.digits": KEK16.encode(),
             "kek.line": KEK[:23].encode() + b"\n", "kek.crlf": KEK[:30].encode() + b"\r\n", "kek.ends": b"\n" * 16,
-            "kek.signs": b"AAEC+wQ/BgcICQoL", "kek.url": b"AAEC-wQ_BgcICQoL",
+            "kek.url": b"AAEC-wQ_BgcICQoL",
             "kek.nul": KEK[:15].encode() + b"\0", "kek.words": b"correct horse ba",
             "kek.other": KEK[:30].encode() + b"ff"}.items():
         pathlib.Path(name).write_bytes(content)

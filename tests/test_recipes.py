@@ -65,5 +65,5 @@ def test_readme(keywrap, files, in_c):
     """README's lines before its first section, in one directory. The program in C is compiled already."""
     typed, shown = typed_and_shown((ROOT / "README.md").read_text().split("\n## ")[0])
     assert typed
-    script = f"cp -a '{in_c.parent}' dist\n" + typed.replace("./keywrap", "keywrap")
+    script = f"cp -a '{in_c.parent}' dist\n{typed}"
     assert follow(keywrap, files, script) == shown

@@ -11,7 +11,8 @@ from builds import NAMES, copied_tree, run
 from test_handed_out import expected
 
 
-@pytest.mark.needs("rpmbuild")
+@pytest.mark.needs("rpmbuild", "import build", "import cffi", "import setuptools", "import wheel", "Python.h",
+                   "<openssl/evp.h>")
 def test_packages(built, pytestconfig, tmp_path):
     tree = copied_tree(tmp_path, pytestconfig.program, built("llvm.a"))
     options = ["--define", f"of_rpm {NAMES['DEBIAN']}", "--define", f"_topdir {tmp_path}/rpm"]

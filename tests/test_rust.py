@@ -10,7 +10,7 @@ import tarfile
 
 import pytest
 
-import published
+import faces
 from builds import ROOT, alone, run
 from hardware.bugs import plant
 from program import all_of, evidence, slow
@@ -175,7 +175,7 @@ def test_formatted():
 
 def program(directory, source, crate, features, more):
     """Writes a package over the crate, with a source of tests/rust."""
-    shutil.copytree(DIST / "tests/common", directory / "common")
+    directory.mkdir()
     shutil.copy(OWN / source, directory)
     (directory / "Cargo.toml").write_text(
         f'{PACKAGE}{more}[dependencies]\nkeywrap = {{ path = "{crate}"{features} }}\n')
@@ -191,14 +191,21 @@ def crate_with_rows(once, crate):
     return once("rust-rows", build) / "copy"
 
 
+def runner(cargo, crate, **more):
+    """Runs rows.rs over these lines."""
+    def call(text):
+        pathlib.Path("lines.txt").write_text(text)
+        env = {"KEYWRAP_ROWS": os.path.abspath("lines.txt"), "CARGO_PROFILE_TEST_OPT_LEVEL": "1", **more}
+        return cargo("test", "--offline", "--test", "rows", "--", "--nocapture", cwd=crate, env=env)
+
+    return call
+
+
+@pytest.mark.needs("<openssl/evp.h>")
 @pytest.mark.parametrize("name", ["rows", *(pytest.param(name, marks=slow) for name in ("more", "foreign", "nist"))])
 def test_rows(cargo, crate_with_rows, name):
-    """Into buffers, in place and as a Vec; the short tables also by steps."""
-    pathlib.Path("table.txt").write_text(published.table(name))
-    env = {"KEYWRAP_ROWS": os.path.abspath("table.txt"), "CARGO_PROFILE_TEST_OPT_LEVEL": "1"}
-    env.update({"KEYWRAP_STEPS": "1"} if name in ("rows", "foreign") else {})
-    said = cargo("test", "--offline", "--test", "rows", "--", "--nocapture", cwd=crate_with_rows, env=env)
-    published.all_right(said, published.table(name))
+    """Into buffers, in place, as a Vec and by steps."""
+    faces.check("rust", runner(cargo, crate_with_rows), name)
 
 
 @slow
@@ -228,28 +235,21 @@ def test_aarch64(home, crate):
     assert counted(said) == len(names_of_tests())
 
 
-@slow
-def test_self_test(cargo, crate):
-    """It fails over C that computes something else."""
-    copy = pathlib.Path(shutil.copytree(crate, "copy"))
-    plant(ROOT / "tests/portable/bugs/rotation-to-the-other-side.edit", copy)
-    words = ["cargo", "test", "--offline", "--test", "calls", "self_test_and_version"]
-    env = {**cargo.env, "CARGO_TARGET_DIR": os.path.abspath("out")}
-    ended = subprocess.run(words, cwd=copy, env=env, capture_output=True, text=True)
-    assert re.search("left: `?Err\\(IntegrityCheckFailed\\)", ended.stdout), ended
-
-
 @evidence
+@pytest.mark.needs("<openssl/evp.h>")
 def test_bugs_are_caught(cargo, crate, crate_with_rows):
     """Each edit of bugs/, one after the other in one copy, without which its tests and the rows pass."""
     copy = pathlib.Path(shutil.copytree(crate_with_rows, "copy"))
     tests = ["cargo", "test", "--offline", "--all-features", "--lib", "--tests"]
-    env = {**cargo.env, "CARGO_TARGET_DIR": os.path.abspath("out"), "KEYWRAP_ROWS": str(ROOT / "tests/rows.txt")}
+    target, lines = os.path.abspath("out"), pathlib.Path("none.txt")
+    lines.touch()
+    env = {**cargo.env, "CARGO_TARGET_DIR": target, "KEYWRAP_ROWS": str(lines.absolute())}
 
     def passes():
         # An edit that does not compile catches nothing.
         run(*tests, "--no-run", cwd=copy, env=env)
-        return subprocess.run(tests, cwd=copy, env=env, capture_output=True).returncode == 0
+        return subprocess.run(tests, cwd=copy, env=env, capture_output=True).returncode == 0 and not faces.has_fault(
+            "rust", runner(cargo, copy, CARGO_TARGET_DIR=target), "rows")
 
     assert passes()
     survived = []

@@ -13,8 +13,8 @@ from program import evidence
 from tools import need
 
 OWN = ROOT / "tests/secrets"
-SOURCES = [OWN / "secrets.c", ROOT / "c/reference/one_table.c"]
-OPTIONS = [*STRICT, "-O1", "-g", f"-I{ROOT}/c/reference"]
+SOURCES = [OWN / "secrets.c", ROOT / "tests/reference/one_table.c"]
+OPTIONS = [*STRICT, "-O1", "-g", f"-I{ROOT}/tests/reference"]
 DECISION = f"--suppressions={OWN}/decision.supp"
 # The longest keys, in bytes.
 LONGEST, LONGEST_UNDER_QEMU = (136, pytest.param(1024, marks=evidence)), 24

@@ -8,7 +8,6 @@ import subprocess
 import pytest
 
 import counting
-from program import SLOW
 
 HERE = pathlib.Path(__file__).resolve().parent
 
@@ -25,33 +24,3 @@ def test_rows(name, pytestconfig, record_property):
     if failed:
         record_property("failed", failed)
         pytest.fail(f"status {ended.returncode}\n{ended.stdout}", pytrace=False)
-
-
-@pytest.mark.parametrize("last, status, counts", [
-    ("7 passed, 0 failed, 2 skipped", 0, (7, 0)), ("7 passed, 3 failed, 2 skipped", 1, (7, 3)),
-    ("7 passed, 0 failed, 2 skipped", 1, (7, 1)), ("7 passed, 1 failed, 2 skipped", 0, (7, 2)), ("", 0, (0, 1)),
-    ("7 passed, 0 failed, 2 skipped\nmore", 0, (0, 1))])
-def test_counts_of_a_script(last, status, counts):
-    said = f"FAILED: one\nSKIPPED: no cc\nSKIPPED: no rt\n{last}\n"
-    assert counting.of_script(said, status) == (*counts, ["no cc", "no rt"])
-
-
-class Report:
-    def __init__(self, reason="", **properties):
-        self.user_properties, self.longrepr = [*properties.items()], ("file", 1, f"Skipped: {reason}")
-
-
-def test_counts_of_reports():
-    """A test counts as one row, a suite as many, and an error of a file, which has no properties, as a failure."""
-    passed, failed = [Report(), Report(passed=40, skipped="no cc")], [Report(passed=7, failed=3), object()]
-    assert counting.of_reports(passed, failed, [Report("no rt"), Report(SLOW)]) == (48, 4, ["no rt", SLOW, "no cc"])
-
-
-@pytest.mark.parametrize("passed, failed, reasons, lines", [
-    (2, 0, [], ["2 passed, 0 failed, 0 skipped"]),
-    (2000, 1, ["no rt"], ["2,001 of 2,002 rows ran; make packages installs what the others need, out/skipped names it",
-                          "2000 passed, 1 failed, 1 skipped"])])
-def test_summary(passed, failed, reasons, lines):
-    assert counting.summary(passed, failed, reasons) == "\n".join(lines)
-    slow = counting.summary(passed, failed, [SLOW, *reasons, SLOW]).splitlines()
-    assert [slow[:-1], slow[-1].partition(", 2 slow left to ")[0]] == [lines[:-1], lines[-1]]

@@ -35,10 +35,10 @@ static uint32_t word_at(const struct aes *aes, unsigned i) {
 }
 
 /* Words are in the order of their bytes in memory. */
-void expand(struct aes *aes, const uint8_t *kek, size_t kek_len) {
-    unsigned n = (unsigned)kek_len / 4;
+void expand(struct aes *aes, const uint8_t *kek) {
+    unsigned n = aes->rounds - 6;
     uint32_t constant = 1;
-    memcpy(aes->keys, kek, kek_len);
+    memcpy(aes->keys, kek, 4 * n);
     for (unsigned i = n; i < 4 * (aes->rounds + 1); i++) {
         uint32_t word = word_at(aes, i - 1);
         if (i % n == 0) {

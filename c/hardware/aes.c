@@ -1,4 +1,4 @@
-/* aes.c: the lengths of a KEK, and the known-answer test. */
+/* aes.c: the schedules of a KEK, and the known-answer test. */
 
 #include "aes.h"
 
@@ -10,18 +10,15 @@ void wipe(void *memory, size_t len) {
 }
 
 /* Key expansion (FIPS 197, section 5.2). */
-int aes_set_encrypt(struct aes *aes, const uint8_t *kek, size_t kek_len) {
-    if (kek_len != 16 && kek_len != 24 && kek_len != 32) return 0;
+void aes_set_encrypt(struct aes *aes, const uint8_t *kek, size_t kek_len) {
     aes->rounds = (unsigned)kek_len / 4 + 6;
-    expand(aes, kek, kek_len);
-    return 1;
+    expand(aes, kek);
 }
 
 /* The schedule of the equivalent inverse cipher (section 5.3.5). */
-int aes_set_decrypt(struct aes *aes, const uint8_t *kek, size_t kek_len) {
-    if (!aes_set_encrypt(aes, kek, kek_len)) return 0;
+void aes_set_decrypt(struct aes *aes, const uint8_t *kek, size_t kek_len) {
+    aes_set_encrypt(aes, kek, kek_len);
     invert(aes);
-    return 1;
 }
 
 void aes_encrypt(const struct aes *aes, uint8_t block[BLOCK]) {
@@ -64,11 +61,11 @@ int aes_known_answers(void) {
     for (unsigned i = 0; i < 8; i++) memcpy(blocks + BLOCK * i, plaintext, BLOCK);
     for (unsigned i = 0; i < 3; i++) {
         struct aes aes;
-        if (!aes_set_encrypt(&aes, kek, 16 + 8 * i)) return 0;
+        aes_set_encrypt(&aes, kek, 16 + 8 * i);
         encrypt_block(&aes, block);
         encrypt_8_blocks(&aes, blocks);
         if (memcmp(block, CIPHERTEXTS[i], BLOCK) != 0 || !are_all(blocks, block)) return 0;
-        if (!aes_set_decrypt(&aes, kek, 16 + 8 * i)) return 0;
+        aes_set_decrypt(&aes, kek, 16 + 8 * i);
         decrypt_block(&aes, block);
         decrypt_8_blocks(&aes, blocks);
         if (memcmp(block, plaintext, BLOCK) != 0 || !are_all(blocks, block)) return 0;

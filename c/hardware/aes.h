@@ -21,10 +21,10 @@ int aes_works(void);
 /* aes_known_answers makes that test, for which the processor needs the instructions. */
 int aes_known_answers(void);
 
-/* aes_set_encrypt and aes_set_decrypt expand a KEK of 16, 24 or 32 bytes. Any other length is
- * refused: they return 0. */
-int aes_set_encrypt(struct aes *aes, const uint8_t *kek, size_t kek_len);
-int aes_set_decrypt(struct aes *aes, const uint8_t *kek, size_t kek_len);
+/* aes_set_encrypt and aes_set_decrypt expand a KEK of 16, 24 or 32 bytes, whose length a proved call
+ * has checked. */
+void aes_set_encrypt(struct aes *aes, const uint8_t *kek, size_t kek_len);
+void aes_set_decrypt(struct aes *aes, const uint8_t *kek, size_t kek_len);
 
 void aes_encrypt(const struct aes *aes, uint8_t block[BLOCK]);
 void aes_decrypt(const struct aes *aes, uint8_t block[BLOCK]);
@@ -39,7 +39,7 @@ void wipe(void *memory, size_t len);
 /* What each processor provides, in x86_64.c and aarch64.c. expand writes the round keys of a KEK, and
  * invert turns them into the round keys of the inverse cipher. The number of rounds is set before. */
 int has_instructions(void);
-void expand(struct aes *aes, const uint8_t *kek, size_t kek_len);
+void expand(struct aes *aes, const uint8_t *kek);
 void invert(struct aes *aes);
 void encrypt_block(const struct aes *aes, uint8_t block[BLOCK]);
 void decrypt_block(const struct aes *aes, uint8_t block[BLOCK]);

@@ -81,11 +81,11 @@ BY_AES static void expand_32(struct aes *aes, __m128i a, __m128i b) {
     }
 }
 
-BY_AES void expand(struct aes *aes, const uint8_t *kek, size_t kek_len) {
+BY_AES void expand(struct aes *aes, const uint8_t *kek) {
     __m128i a = _mm_loadu_si128((const __m128i *)kek);
-    if (kek_len == 16)
+    if (aes->rounds == 10)
         expand_16(aes, a);
-    else if (kek_len == 24)
+    else if (aes->rounds == 12)
         expand_24(aes, a, _mm_loadl_epi64((const __m128i *)(kek + 16)));
     else
         expand_32(aes, a, _mm_loadu_si128((const __m128i *)(kek + 16)));

@@ -40,11 +40,6 @@ static void put(u64 address, unsigned len, u64 value) {
     for (unsigned i = 0; i < len; i++) to[i] = (u8)(value >> 8 * i);
 }
 
-static u32 refuse(int error) {
-    errno = error;
-    return (u32)-1;
-}
-
 /*** Errors ***/
 
 /* The number of an error on Linux, and here. */
@@ -148,7 +143,7 @@ u64 host_rattle_env(u64 name, u64 to, u64 len) {
 
 /*** Files ***/
 
-/* The program opens a file to read it, and makes a new one to write it. */
+/* The program opens a file to read it, and makes a new one to write it. Here and below, what it never does ends it. */
 u32 host_open(u64 path, u32 flags, u64 rest) {
     enum { CREATE = 0100, NEW = 0200, NO_TERMINAL = 0400, CLOSE_ON_EXEC = 02000000, WRITE = 1 };
     switch (flags) {
@@ -157,7 +152,7 @@ u32 host_open(u64 path, u32 flags, u64 rest) {
     case WRITE | CREATE | NEW | NO_TERMINAL | CLOSE_ON_EXEC:
         return (u32)open(AT(path), O_WRONLY | O_CREAT | O_EXCL | O_NOCTTY | O_CLOEXEC, (mode_t)get(rest, 4));
     default:
-        return refuse(EINVAL);
+        abort();
     }
 }
 
@@ -173,10 +168,10 @@ u64 host_write(u32 file, u64 from, u64 len) {
     return (u64)(s64)write((int)file, AT(from), len < SSIZE_MAX ? (size_t)len : SSIZE_MAX);
 }
 
+/* The program moves on from where it is. */
 u64 host_lseek(u32 file, u64 offset, u32 whence) {
-    static const int names[] = {SEEK_SET, SEEK_CUR, SEEK_END};
-    if (whence > 2) return (u64)(s64)(s32)refuse(EINVAL);
-    return (u64)(s64)lseek((int)file, (off_t)offset, names[whence]);
+    if (whence != 1) abort();
+    return (u64)(s64)lseek((int)file, (off_t)offset, SEEK_CUR);
 }
 
 u32 host_fsync(u32 file) {
@@ -197,14 +192,14 @@ u32 host_isatty(u32 file) {
 
 /* The module only duplicates: F_DUPFD_CLOEXEC. */
 u32 host_fcntl(u32 file, u32 command, u64 rest) {
-    if (command != 1030) return refuse(EINVAL);
+    if (command != 1030) abort();
     return (u32)fcntl((int)file, F_DUPFD_CLOEXEC, (int)get(rest, 4));
 }
 
 /* The module's flag is O_CLOEXEC. */
 u32 host_pipe2(u64 files, u32 flags) {
     int ends[2];
-    if (flags != 02000000) return refuse(EINVAL);
+    if (flags != 02000000) abort();
 #ifdef __APPLE__
     if (pipe(ends)) return (u32)-1;
     fcntl(ends[0], F_SETFD, FD_CLOEXEC);
@@ -333,11 +328,6 @@ void host___lshrti3(u64 result, u64 low, u64 high, u32 by) {
     abort();
 }
 
-/* After `--version` alone a second line says which build this is. */
-static int is_version(int count, char **words) {
-    return count == 2 && (!strcmp(words[1], "--version") || !strcmp(words[1], "-V"));
-}
-
 int main(int count, char **words) {
     static const char BUILD[] = "built from C (dist/command)\n";
     int status;
@@ -345,6 +335,9 @@ int main(int count, char **words) {
     args = words;
     memcpy(memory + TOP, constants, sizeof constants);
     status = (int)module_main(0, 0);
-    if (status == 0 && is_version(count, words) && write(1, BUILD, sizeof BUILD - 1) < 0) status = 6;
+    /* After `--version` alone a second line says which build this is. */
+    if (status == 0 && count == 2 && (!strcmp(words[1], "--version") || !strcmp(words[1], "-V"))
+        && (size_t)write(1, BUILD, sizeof BUILD - 1) != sizeof BUILD - 1)
+        status = 6;
     return status;
 }

@@ -48,13 +48,10 @@ INLINE u64 stack_at(u64 top) {
     return top;
 }
 
-/* The bytes of a number in the other order. */
+/* The bytes of a number in the other order. With the loop gcc takes three times as long for s390x. */
 INLINE u64 reversed(u64 value, unsigned len) {
 #ifdef __GNUC__
-    return len == 8 ? __builtin_bswap64(value)
-           : len == 4 ? __builtin_bswap32((u32)value)
-           : len == 2 ? __builtin_bswap16((u16)value)
-                      : value;
+    return __builtin_bswap64(value) >> (64 - 8 * len);
 #else
     u64 result = 0;
     for (unsigned i = 0; i < len; i++) result |= (value >> 8 * i & 255) << 8 * (len - 1 - i);

@@ -2,7 +2,7 @@
 
 use crate::error::{result_of, Error, Result};
 use crate::sys::{
-    self, KEYWRAP_KEEP_FORM, KEYWRAP_MAX_KEY, KEYWRAP_NEW_PADDED, KEYWRAP_OLD_PADDED,
+    self, call, KEYWRAP_KEEP_FORM, KEYWRAP_MAX_KEY, KEYWRAP_NEW_PADDED, KEYWRAP_OLD_PADDED,
     KEYWRAP_PASS_NEW,
 };
 use crate::{padded_text_len, room, text_len};
@@ -13,16 +13,6 @@ use core::ops::Deref;
 use crate::sys::KEYWRAP_MAX_TEXT;
 #[cfg(feature = "alloc")]
 use alloc::{vec, vec::Vec};
-
-type TwoBuffers = unsafe extern "C" fn(*const u8, usize, *const u8, usize, *mut u8, usize) -> i32;
-#[rustfmt::skip]
-type TwoBuffersWith = unsafe extern "C" fn(
-    *const u8, usize, *const u8, usize, *const u8, usize, *mut u8, usize,
-) -> i32;
-#[rustfmt::skip]
-type EitherForm = unsafe extern "C" fn(
-    *const u8, usize, *const u8, usize, *mut u8, usize, *mut u32, *mut usize,
-) -> i32;
 
 /// A key-encryption key (KEK) of `N` bytes: 16, 24 or 32. With the feature `zeroize` it is cleared
 /// when it is dropped.
@@ -99,7 +89,7 @@ pub struct KekSlice([u8]);
 /// The form in which a key is wrapped.
 #[derive(Clone, Copy, Debug, PartialEq, Eq)]
 pub enum Form {
-    /// RFC 3394, with the default initial value. A key has 16, 24, 32 .. bytes.
+    /// RFC 3394, with the default initial value. A key has 16 bytes or more, a multiple of 8.
     Plain,
     /// RFC 5649. A key has 1 byte or more.
     Padded,
@@ -200,32 +190,32 @@ impl KekSlice {
 
     /// Wraps the key `data` in the plain form.
     pub fn wrap(&self, data: &[u8], out: &mut [u8]) -> Result<()> {
-        let status = self.two_buffers(sys::keywrap_wrap, data, out);
+        let status = call!(sys::keywrap_wrap, in self, in data, out out);
         self.wrap_result(status, Form::Plain, data.len())
     }
 
     /// Wraps the key `data` in the plain form, under an initial value that both ends agreed on.
     pub fn wrap_with_iv(&self, iv: &[u8; 8], data: &[u8], out: &mut [u8]) -> Result<()> {
-        let status = self.two_buffers_with(sys::keywrap_wrap_with, iv, data, out);
+        let status = call!(sys::keywrap_wrap_with, in self, in iv, in data, out out);
         self.wrap_result(status, Form::Plain, data.len())
     }
 
     /// Wraps the key `data` in the padded form.
     pub fn wrap_with_padding(&self, data: &[u8], out: &mut [u8]) -> Result<()> {
-        let status = self.two_buffers(sys::keywrap_wrap_padded, data, out);
+        let status = call!(sys::keywrap_wrap_padded, in self, in data, out out);
         self.wrap_result(status, Form::Padded, data.len())
     }
 
     /// Unwraps `data` in the plain form: `out` is the key.
     pub fn unwrap(&self, data: &[u8], out: &mut [u8]) -> Result<()> {
-        let status = self.two_buffers(sys::keywrap_unwrap, data, out);
+        let status = call!(sys::keywrap_unwrap, in self, in data, out out);
         self.unwrap_result(status, Form::Plain, data.len())
     }
 
     /// Unwraps `data` in the plain form, under an initial value that both ends agreed on: `out` is
     /// the key.
     pub fn unwrap_with_iv(&self, iv: &[u8; 8], data: &[u8], out: &mut [u8]) -> Result<()> {
-        let status = self.two_buffers_with(sys::keywrap_unwrap_with, iv, data, out);
+        let status = call!(sys::keywrap_unwrap_with, in self, in iv, in data, out out);
         self.unwrap_result(status, Form::Plain, data.len())
     }
 
@@ -233,18 +223,7 @@ impl KekSlice {
     /// come after it.
     pub fn unwrap_with_padding<'a>(&self, data: &[u8], out: &'a mut [u8]) -> Result<&'a [u8]> {
         let mut key_len = 0;
-        // SAFETY: the rules of `sys`.
-        let status = unsafe {
-            sys::keywrap_unwrap_padded(
-                self.as_ptr(),
-                self.len(),
-                data.as_ptr(),
-                data.len(),
-                out.as_mut_ptr(),
-                out.len(),
-                &mut key_len,
-            )
-        };
+        let status = call!(sys::keywrap_unwrap_padded, in self, in data, out out, &mut key_len);
         self.unwrap_result(status, Form::Padded, data.len())?;
         out.get(..key_len).ok_or(Error::IntegrityCheckFailed)
     }
@@ -252,10 +231,13 @@ impl KekSlice {
     /// Unwraps `data` in the form that it has. Returns the form and the key, which is the start of
     /// `out`. Zeros come after it.
     pub fn unwrap_any<'a>(&self, data: &[u8], out: &'a mut [u8]) -> Result<(Form, &'a [u8])> {
-        let (status, kind) = self.either_form(sys::keywrap_unwrap_any, data, out);
+        let (mut padded, mut key_len) = (0, 0);
+        let status = call!(
+            sys::keywrap_unwrap_any, in self, in data, out out, &mut padded, &mut key_len
+        );
         self.unwrap_result(status, Form::Padded, data.len())?;
-        let key = out.get(..kind.key_len).ok_or(Error::IntegrityCheckFailed)?;
-        Ok((kind.form, key))
+        let key = out.get(..key_len).ok_or(Error::IntegrityCheckFailed)?;
+        Ok((Form::of(padded), key))
     }
 
     /// Finds the form of the wrapped key `data` and the length of its key. The buffer `scratch` has
@@ -263,34 +245,26 @@ impl KekSlice {
     ///
     /// A length that neither form has is [`Error::IntegrityCheckFailed`].
     pub fn kind(&self, data: &[u8], scratch: &mut [u8]) -> Result<Kind> {
-        let (status, kind) = self.either_form(sys::keywrap_kind, data, scratch);
+        let (mut padded, mut key_len) = (0, 0);
+        let status = call!(
+            sys::keywrap_kind, in self, in data, out scratch, &mut padded, &mut key_len
+        );
         self.result(status, true, room(data.len()))?;
-        Ok(kind)
+        let form = Form::of(padded);
+        Ok(Kind { form, key_len })
     }
 
     /// Wraps the key that begins at `buffer[8]` and goes to the end, in the plain form. Then the
     /// buffer is the wrapped key. After an error it is unchanged.
     pub fn wrap_in_place(&self, buffer: &mut [u8]) -> Result<()> {
-        // SAFETY: the rules of `sys`.
-        let status = unsafe {
-            sys::keywrap_wrap_in_place(self.as_ptr(), self.len(), buffer.as_mut_ptr(), buffer.len())
-        };
+        let status = call!(sys::keywrap_wrap_in_place, in self, out buffer);
         self.result(status, false, 0)
     }
 
     /// Wraps the key of `key_len` bytes that begins at `buffer[8]`, in the padded form. Then the
     /// buffer, of [`padded_text_len`] bytes, is the wrapped key. After an error it is unchanged.
     pub fn wrap_with_padding_in_place(&self, buffer: &mut [u8], key_len: usize) -> Result<()> {
-        // SAFETY: the rules of `sys`.
-        let status = unsafe {
-            sys::keywrap_wrap_padded_in_place(
-                self.as_ptr(),
-                self.len(),
-                buffer.as_mut_ptr(),
-                buffer.len(),
-                key_len,
-            )
-        };
+        let status = call!(sys::keywrap_wrap_padded_in_place, in self, out buffer, key_len);
         self.wrap_result(status, Form::Padded, key_len)
     }
 
@@ -298,15 +272,7 @@ impl KekSlice {
     /// bytes. After [`Error::IntegrityCheckFailed`] the buffer is all zeros: to keep the wrapped
     /// key, copy it first.
     pub fn unwrap_in_place<'a>(&self, buffer: &'a mut [u8]) -> Result<&'a mut [u8]> {
-        // SAFETY: the rules of `sys`.
-        let status = unsafe {
-            sys::keywrap_unwrap_in_place(
-                self.as_ptr(),
-                self.len(),
-                buffer.as_mut_ptr(),
-                buffer.len(),
-            )
-        };
+        let status = call!(sys::keywrap_unwrap_in_place, in self, out buffer);
         self.result(status, false, 0)?;
         buffer.get_mut(8..).ok_or(Error::InvalidDataSize)
     }
@@ -316,16 +282,7 @@ impl KekSlice {
     /// to keep the wrapped key, copy it first.
     pub fn unwrap_with_padding_in_place<'a>(&self, buffer: &'a mut [u8]) -> Result<&'a mut [u8]> {
         let mut key_len = 0;
-        // SAFETY: the rules of `sys`.
-        let status = unsafe {
-            sys::keywrap_unwrap_padded_in_place(
-                self.as_ptr(),
-                self.len(),
-                buffer.as_mut_ptr(),
-                buffer.len(),
-                &mut key_len,
-            )
-        };
+        let status = call!(sys::keywrap_unwrap_padded_in_place, in self, out buffer, &mut key_len);
         self.result(status, false, 0)?;
         let key = buffer.get_mut(8..).and_then(|rest| rest.get_mut(..key_len));
         key.ok_or(Error::InvalidDataSize)
@@ -344,19 +301,10 @@ impl KekSlice {
         pass_new: bool,
     ) -> Result<Rewrapped> {
         let mut already = 0;
-        // SAFETY: the rules of `sys`.
-        let status = unsafe {
-            sys::keywrap_rewrap(
-                self.as_ptr(),
-                self.len(),
-                new_kek.as_ptr(),
-                new_kek.len(),
-                buffer.as_mut_ptr(),
-                buffer.len(),
-                forms.flags(pass_new),
-                &mut already,
-            )
-        };
+        let status = call!(
+            sys::keywrap_rewrap, in self, in new_kek, out buffer, forms.flags(pass_new),
+            &mut already
+        );
         result_of(status, self.refused_with(new_kek), Error::InvalidDataSize)?;
         Ok(if already == 0 {
             Rewrapped::Fresh
@@ -374,55 +322,6 @@ impl KekSlice {
 
     pub(crate) fn len(&self) -> usize {
         self.0.len()
-    }
-
-    fn two_buffers(&self, call: TwoBuffers, data: &[u8], out: &mut [u8]) -> i32 {
-        let (kek, text, filled) = (self.as_ptr(), data.as_ptr(), out.as_mut_ptr());
-        // SAFETY: the rules of `sys`.
-        unsafe { call(kek, self.len(), text, data.len(), filled, out.len()) }
-    }
-
-    fn two_buffers_with(
-        &self,
-        call: TwoBuffersWith,
-        iv: &[u8; 8],
-        data: &[u8],
-        out: &mut [u8],
-    ) -> i32 {
-        let (kek, text, filled) = (self.as_ptr(), data.as_ptr(), out.as_mut_ptr());
-        // SAFETY: the rules of `sys`.
-        unsafe {
-            call(
-                kek,
-                self.len(),
-                iv.as_ptr(),
-                iv.len(),
-                text,
-                data.len(),
-                filled,
-                out.len(),
-            )
-        }
-    }
-
-    fn either_form(&self, call: EitherForm, data: &[u8], out: &mut [u8]) -> (i32, Kind) {
-        let (kek, text, filled) = (self.as_ptr(), data.as_ptr(), out.as_mut_ptr());
-        let (mut padded, mut key_len) = (0, 0);
-        // SAFETY: the rules of `sys`.
-        let status = unsafe {
-            call(
-                kek,
-                self.len(),
-                text,
-                data.len(),
-                filled,
-                out.len(),
-                &mut padded,
-                &mut key_len,
-            )
-        };
-        let form = Form::of(padded);
-        (status, Kind { form, key_len })
     }
 
     /// The result of a call with this KEK.

@@ -22,8 +22,8 @@
 //!
 //! - [`Kek`] and its aliases hold a KEK. [`KekSlice`] has the calls, and also borrows a KEK whose
 //!   length is only known at run time.
-//! - The plain form takes keys of 16, 24, 32 .. bytes, the padded form of 1 byte or more. Both take
-//!   up to [`KEYWRAP_MAX_KEY`] bytes.
+//! - The plain form takes keys of 16 bytes or more, a multiple of 8, the padded form of 1 or more.
+//!   Both take up to [`KEYWRAP_MAX_KEY`] bytes.
 //! - [`steps`] wraps by a block cipher of the caller, for a KEK that never leaves a token.
 //! - No call panics. Only the calls that end in `_vec` allocate.
 //!

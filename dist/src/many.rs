@@ -2,7 +2,7 @@
 
 use crate::error::{result_of, Error, Result};
 use crate::sys::{
-    self, KEYWRAP_ALREADY_NEW, KEYWRAP_INTEGRITY, KEYWRAP_NEW_PADDED, KEYWRAP_OLD_PADDED,
+    self, call, KEYWRAP_ALREADY_NEW, KEYWRAP_INTEGRITY, KEYWRAP_NEW_PADDED, KEYWRAP_OLD_PADDED,
 };
 use crate::{room, Form, Forms, KekSlice, Kind, Rewrapped};
 
@@ -48,19 +48,10 @@ impl KekSlice {
         key_len: usize,
         statuses: &mut [Status],
     ) -> Result<()> {
-        // SAFETY: the rules of `sys`. A Status is transparent, and takes any byte.
-        let status = unsafe {
-            sys::keywrap_wrap_many(
-                self.as_ptr(),
-                self.len(),
-                slots.as_mut_ptr(),
-                slots.len(),
-                key_len,
-                form.flag(KEYWRAP_NEW_PADDED),
-                statuses.as_mut_ptr().cast(),
-                statuses.len(),
-            )
-        };
+        let status = call!(
+            sys::keywrap_wrap_many, in self, out slots, key_len, form.flag(KEYWRAP_NEW_PADDED),
+            statuses.as_mut_ptr().cast(), statuses.len()
+        );
         self.result(status, false, 0)
     }
 
@@ -74,20 +65,10 @@ impl KekSlice {
         key_lens: &'a mut [usize],
         statuses: &'a mut [Status],
     ) -> Result<impl Iterator<Item = Result<&'a [u8]>>> {
-        // SAFETY: the rules of `sys`. A Status is transparent, and takes any byte.
-        let status = unsafe {
-            sys::keywrap_unwrap_many(
-                self.as_ptr(),
-                self.len(),
-                slots.as_mut_ptr(),
-                slots.len(),
-                form.flag(KEYWRAP_OLD_PADDED),
-                key_lens.as_mut_ptr(),
-                key_lens.len(),
-                statuses.as_mut_ptr().cast(),
-                statuses.len(),
-            )
-        };
+        let status = call!(
+            sys::keywrap_unwrap_many, in self, out slots, form.flag(KEYWRAP_OLD_PADDED),
+            out key_lens, statuses.as_mut_ptr().cast(), statuses.len()
+        );
         self.result(status, key_lens.len() != statuses.len(), statuses.len())?;
         let all = slots.chunks(slot_len(slots, statuses).max(1));
         let all = all.zip(key_lens.iter().zip(statuses.iter()));
@@ -107,20 +88,10 @@ impl KekSlice {
         pass_new: bool,
         statuses: &'a mut [Status],
     ) -> Result<impl Iterator<Item = Result<Rewrapped>> + 'a> {
-        // SAFETY: the rules of `sys`. A Status is transparent, and takes any byte.
-        let status = unsafe {
-            sys::keywrap_rewrap_many(
-                self.as_ptr(),
-                self.len(),
-                new_kek.as_ptr(),
-                new_kek.len(),
-                slots.as_mut_ptr(),
-                slots.len(),
-                forms.flags(pass_new),
-                statuses.as_mut_ptr().cast(),
-                statuses.len(),
-            )
-        };
+        let status = call!(
+            sys::keywrap_rewrap_many, in self, in new_kek, out slots, forms.flags(pass_new),
+            statuses.as_mut_ptr().cast(), statuses.len()
+        );
         result_of(status, self.refused_with(new_kek), Error::InvalidDataSize)?;
         Ok(statuses.iter().map(|status| status.rewrapped()))
     }
@@ -136,23 +107,10 @@ impl KekSlice {
         key_lens: &'a mut [usize],
         statuses: &'a mut [Status],
     ) -> Result<impl Iterator<Item = Result<Kind>> + 'a> {
-        // SAFETY: the rules of `sys`. A Status is transparent, and takes any byte.
-        let status = unsafe {
-            sys::keywrap_kind_many(
-                self.as_ptr(),
-                self.len(),
-                slots.as_ptr(),
-                slots.len(),
-                scratch.as_mut_ptr(),
-                scratch.len(),
-                padded.as_mut_ptr(),
-                padded.len(),
-                key_lens.as_mut_ptr(),
-                key_lens.len(),
-                statuses.as_mut_ptr().cast(),
-                statuses.len(),
-            )
-        };
+        let status = call!(
+            sys::keywrap_kind_many, in self, in slots, out scratch, out padded, out key_lens,
+            statuses.as_mut_ptr().cast(), statuses.len()
+        );
         let (count, scratch_len) = (statuses.len(), room(slot_len(slots, statuses)));
         let bad_length = if padded.len() != count || key_lens.len() != count {
             Error::InvalidOutputSize { expected: count }

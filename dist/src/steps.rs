@@ -35,7 +35,8 @@
 //! later, also by a panic of the function, `out` is all zeros.
 
 use crate::error::{result_of, Error, Result};
-use crate::{room, sys, Form, Forms, Rewrapped, IV};
+use crate::sys::{self, call};
+use crate::{room, Form, Forms, Rewrapped, IV};
 use core::fmt;
 use core::sync::atomic::{compiler_fence, Ordering};
 
@@ -118,17 +119,9 @@ impl<'a> Wrapping<'a> {
             out,
         )?;
         let mut new = Self::empty();
-        // SAFETY: the rules of `sys`. A block has 16 bytes.
-        let status = unsafe {
-            sys::keywrap_begin_wrap(
-                iv.as_ptr(),
-                iv.len(),
-                data.as_ptr(),
-                data.len(),
-                &mut new.done,
-                new.block.as_mut_ptr(),
-            )
-        };
+        let status = call!(
+            sys::keywrap_begin_wrap, in iv, in data, &mut new.done, new.block.as_mut_ptr()
+        );
         result_of(status, 0, Error::InvalidDataSize)?;
         new.hold(data, out);
         Ok(new)
@@ -144,16 +137,10 @@ impl<'a> Wrapping<'a> {
         let mut new = Self::empty();
         new.hold(data, out);
         let (_, registers) = split(new.out);
-        // SAFETY: the rules of `sys`. A block has 16 bytes.
-        let status = unsafe {
-            sys::keywrap_begin_wrap_padded(
-                data.len(),
-                registers.as_mut_ptr(),
-                registers.len(),
-                &mut new.done,
-                new.block.as_mut_ptr(),
-            )
-        };
+        let status = call!(
+            sys::keywrap_begin_wrap_padded, data.len(), out registers, &mut new.done,
+            new.block.as_mut_ptr()
+        );
         result_of(status, 0, Error::InvalidDataSize)?;
         Ok(new)
     }
@@ -199,30 +186,17 @@ impl<'a> Wrapping<'a> {
 
     fn advance(&mut self) -> Result<()> {
         let (_, registers) = split(self.out);
-        // SAFETY: the rules of `sys`. A block has 16 bytes.
-        stepped(unsafe {
-            sys::keywrap_step_wrap(
-                registers.as_mut_ptr(),
-                registers.len(),
-                &mut self.done,
-                self.block.as_mut_ptr(),
-            )
-        })
+        stepped(call!(
+            sys::keywrap_step_wrap, out registers, &mut self.done, self.block.as_mut_ptr()
+        ))
     }
 
     /// Ends the wrapping after the last step. Then `out` is the wrapped key.
     pub fn end(mut self) -> Result<()> {
         let (first, registers) = split(self.out);
-        // SAFETY: the rules of `sys`. There are 8 bytes before the registers, and a block has 16.
-        stepped(unsafe {
-            sys::keywrap_end_wrap(
-                first.as_mut_ptr(),
-                registers.as_ptr(),
-                registers.len(),
-                self.done,
-                self.block.as_ptr(),
-            )
-        })?;
+        stepped(call!(
+            sys::keywrap_end_wrap, first.as_mut_ptr(), in registers, self.done, self.block.as_ptr()
+        ))?;
         // The drop does not clear it.
         self.out = &mut [];
         Ok(())
@@ -307,16 +281,8 @@ impl<'a> Unwrapping<'a> {
             block: [0; 16],
             check,
         };
-        // SAFETY: the rules of `sys`. There are 8 bytes before the registers, and a block has 16.
-        let status = unsafe {
-            begin(
-                first.as_ptr(),
-                registers.as_ptr(),
-                registers.len(),
-                &mut new.left,
-                new.block.as_mut_ptr(),
-            )
-        };
+        let (left, block) = (&mut new.left, new.block.as_mut_ptr());
+        let status = call!(begin, first.as_ptr(), in registers, left, block);
         result_of(status, 0, Error::InvalidDataSize)?;
         out.copy_from_slice(registers);
         new.out = out;
@@ -343,15 +309,9 @@ impl<'a> Unwrapping<'a> {
     }
 
     fn advance(&mut self) -> Result<()> {
-        // SAFETY: the rules of `sys`. A block has 16 bytes.
-        stepped(unsafe {
-            sys::keywrap_step_unwrap(
-                self.out.as_mut_ptr(),
-                self.out.len(),
-                &mut self.left,
-                self.block.as_mut_ptr(),
-            )
-        })
+        stepped(call!(
+            sys::keywrap_step_unwrap, out self.out, &mut self.left, self.block.as_mut_ptr()
+        ))
     }
 
     /// Ends the unwrapping after the last step, and returns the key, which is the start of `out`.
@@ -455,17 +415,10 @@ impl<'a> Rewrapping<'a> {
             status: 0,
             block: [0; 16],
         };
-        // SAFETY: the rules of `sys`. A block has 16 bytes.
-        let status = unsafe {
-            sys::keywrap_begin_rewrap(
-                new.flags,
-                data.as_ptr(),
-                data.len(),
-                &mut new.phase,
-                &mut new.steps,
-                new.block.as_mut_ptr(),
-            )
-        };
+        let status = call!(
+            sys::keywrap_begin_rewrap, new.flags, in data, &mut new.phase, &mut new.steps,
+            new.block.as_mut_ptr()
+        );
         result_of(status, 0, Error::InvalidDataSize)?;
         out.copy_from_slice(data);
         new.out = out;
@@ -506,15 +459,7 @@ impl<'a> Rewrapping<'a> {
             sys::keywrap_step_unwrap
         };
         let (_, registers) = split(self.out);
-        // SAFETY: the rules of `sys`. A block has 16 bytes.
-        stepped(unsafe {
-            step(
-                registers.as_mut_ptr(),
-                registers.len(),
-                &mut self.steps,
-                self.block.as_mut_ptr(),
-            )
-        })?;
+        stepped(call!(step, out registers, &mut self.steps, self.block.as_mut_ptr()))?;
         self.left -= 1;
         if self.left == 0 {
             self.turn();
@@ -524,19 +469,10 @@ impl<'a> Rewrapping<'a> {
 
     /// Ends a run. The call says which comes next.
     fn turn(&mut self) {
-        // SAFETY: the rules of `sys`. A block has 16 bytes.
-        self.status = unsafe {
-            sys::keywrap_next_rewrap_from(
-                self.flags,
-                self.data.as_ptr(),
-                self.data.len(),
-                self.out.as_mut_ptr(),
-                self.out.len(),
-                &mut self.phase,
-                &mut self.steps,
-                self.block.as_mut_ptr(),
-            )
-        };
+        self.status = call!(
+            sys::keywrap_next_rewrap_from, self.flags, in self.data, out self.out,
+            &mut self.phase, &mut self.steps, self.block.as_mut_ptr()
+        );
         self.begin_run();
     }
 

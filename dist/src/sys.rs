@@ -1,10 +1,10 @@
 //! The calls and constants of keywrap.c, with their names in keywrap.h and keywrap_steps.h. The
 //! tests compare both with the headers.
 //!
-//! The headers have rules for the caller. This crate keeps them in every call:
+//! The headers have rules for the caller. This crate keeps them in every call, by `call!`:
 //!
 //! - A pointer comes from the slice or the reference whose length comes with it. It is not null,
-//!   not even for an empty slice.
+//!   not even for an empty slice. A block has 16 bytes, and before registers are 8.
 //! - Everything that a call writes is borrowed by `&mut`. So it overlaps no other argument, and no
 //!   other thread uses it.
 
@@ -21,6 +21,25 @@ macro_rules! calls {
         )),*];
     };
 }
+
+/// Makes a call: of a slice (`in`, or `out` if it is written) it gets the pointer and the length.
+macro_rules! call {
+    (@ $call:expr, [$($done:expr,)*]) => {
+        // SAFETY: the rules above.
+        unsafe { $call($($done),*) }
+    };
+    (@ $call:expr, [$($done:expr,)*] in $slice:expr $(, $($more:tt)*)?) => {
+        $crate::sys::call!(@ $call, [$($done,)* $slice.as_ptr(), $slice.len(),] $($($more)*)?)
+    };
+    (@ $call:expr, [$($done:expr,)*] out $slice:expr $(, $($more:tt)*)?) => {
+        $crate::sys::call!(@ $call, [$($done,)* $slice.as_mut_ptr(), $slice.len(),] $($($more)*)?)
+    };
+    (@ $call:expr, [$($done:expr,)*] $other:expr $(, $($more:tt)*)?) => {
+        $crate::sys::call!(@ $call, [$($done,)* $other,] $($($more)*)?)
+    };
+    ($call:expr, $($argument:tt)*) => { $crate::sys::call!(@ $call, [] $($argument)*) };
+}
+pub(crate) use call;
 
 /// Defines the constants. The tests see them with their names.
 macro_rules! constants {

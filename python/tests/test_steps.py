@@ -1,7 +1,6 @@
-"""keywrap.steps: wraps and unwraps by a callable for AES, here of pyca or of a token, as the published cases say."""
+"""keywrap.steps: wraps and unwraps by a callable for AES, here of pyca or of a token. tests/rows.txt has the calls."""
 
 import functools
-import re
 
 import pytest
 
@@ -68,43 +67,16 @@ def test_each_length(padded, kek_len):
             assert token.counted() == due
 
 
-def test_an_initial_value():
-    token = Token()
-    wrapped = keywrap.wrap(KEK, bytes(24), IV)
-    for kind in bytes, bytearray:
-        assert steps.wrap(token.encrypt, bytes(24), kind(IV)) == wrapped
-        assert steps.unwrap(token.decrypt, wrapped, iv=kind(IV)) == bytes(24)
-    assert steps.wrap(token.encrypt, bytes(24), b"\xa6" * 8) == pyca.aes_key_wrap(KEK, bytes(24))
-    for iv in None, IV[::-1]:
-        with pytest.raises(keywrap.IntegrityFailed):
-            steps.unwrap(token.decrypt, wrapped, iv)
-
-
-REFUSED = [
-    (steps.wrap, bytes(15), {}, keywrap.BadLength),
-    (steps.wrap, bytes(8), {}, keywrap.BadLength),
-    (steps.wrap, b"", {}, keywrap.BadLength),
-    (steps.wrap, bytes(1048584), {}, keywrap.BadLength),
-    (steps.wrap, bytes(15), {"iv": IV}, keywrap.BadLength),
+@pytest.mark.parametrize("call, text, more, refusal", [
+    (steps.wrap, bytes(15), {}, keywrap.BadLength), (steps.wrap_padded, b"", {}, keywrap.BadLength),
+    (steps.unwrap, bytes(16), {}, keywrap.BadLength), (steps.unwrap_padded, bytes(17), {}, keywrap.BadLength),
     (steps.wrap, bytes(16), {"iv": IV[1:]}, keywrap.BadInitialValue),
-    (steps.wrap, bytes(16), {"iv": bytes.fromhex("a65959a600000010")}, keywrap.BadInitialValue),
-    (steps.unwrap, bytes(24), {"iv": b""}, keywrap.BadInitialValue),
     (steps.unwrap, bytes(24), {"iv": bytes.fromhex("a65959a600000010")}, keywrap.BadInitialValue),
-    (steps.wrap_padded, b"", {}, keywrap.BadLength),
-    (steps.wrap_padded, bytes(1048577), {}, keywrap.BadLength),
-    *((steps.unwrap, bytes(length), {}, keywrap.BadLength) for length in (0, 1, 7, 8, 9, 16, 25, 1048592)),
-    *((steps.unwrap_padded, bytes(length), {}, keywrap.BadLength) for length in (0, 1, 8, 15, 17, 1048592)),
-]
-
-
-@pytest.mark.parametrize("call, text, more, refusal", REFUSED)
+    (steps.wrap_many, [bytes(15)], {}, keywrap.BadLength), (steps.unwrap_many, [bytes(17)], {}, keywrap.BadLength),
+    (steps.wrap_many, ["0123456789abcdef"], {}, TypeError)])
 def test_refused_without_a_call(call, text, more, refusal):
-    """As the call over a KEK refuses it, in the same words."""
-    with pytest.raises(refusal) as raised:
+    with pytest.raises(refusal):
         call(pytest.fail, text, **more)
-    with pytest.raises(refusal) as due:
-        getattr(keywrap, call.__name__)(KEK, text, **more)
-    assert (type(raised.value), str(raised.value)) == (type(due.value), str(due.value))
 
 
 @pytest.fixture
@@ -241,23 +213,8 @@ def test_many(padded, count):
         for given, each in (wrapped, None), (b"".join(wrapped), len(wrapped[0])):
             assert steps.unwrap_many(token.decrypt, given, each, padded=padded) == keys
             assert token.counted() == due
-        for place in range(count):
-            damaged = [text if at != place else bytes([text[0] ^ 128]) + text[1:] for at, text in enumerate(wrapped)]
-            found = steps.unwrap_many(token.decrypt, damaged, padded=padded)
-            assert type(found[place]) is keywrap.IntegrityFailed
-            assert found[:place] + found[place + 1 :] == keys[:place] + keys[place + 1 :]
-            assert token.counted() == due
-
-
-def test_many_refused():
-    for call, text in (steps.wrap_many, bytes(16)), (steps.unwrap_many, bytes(24)):
-        assert call(pytest.fail, []) == call(pytest.fail, b"", 16) == []
-        with pytest.raises(keywrap.BadLength):
-            call(pytest.fail, [text[1:], text[1:]])
-        with pytest.raises(keywrap.BadLength, match="another one"):
-            call(pytest.fail, [text, text + bytes(8)])
-        with pytest.raises(TypeError):
-            call(pytest.fail, ["0123456789abcdef"])
+    for call in steps.wrap_many, steps.unwrap_many:
+        assert call(pytest.fail, []) == call(pytest.fail, b"", 24) == []
 
 
 @pytest.mark.parametrize("call", [steps.wrap, steps.unwrap, steps.wrap_padded, steps.unwrap_padded])
@@ -291,53 +248,13 @@ def test_a_step_that_is_refused(monkeypatch):
         assert token.counted() == [1]
 
 
-@each_form
-@pytest.mark.parametrize("length", [8, 16, 24, 40, 4096])
-def test_unwrap_any(padded, length):
-    """The form, and a key of each length that it has; a wrapped key in neither form is refused."""
-    token, key = Token(), bytes(at % 249 for at in range(length - 3 * padded))
-    if not padded and length == 8:
-        return
-    wrapped = WRAPS[padded](KEK, key)
-    assert steps.unwrap_any(token.decrypt, bytearray(wrapped)) == (key, list(keywrap.Kind)[padded])
-    with pytest.raises(keywrap.IntegrityFailed):
-        steps.unwrap_any(token.decrypt, bytes([wrapped[0] ^ 1]) + wrapped[1:])
-    with pytest.raises(keywrap.BadLength):
-        steps.unwrap_any(token.decrypt, wrapped[:-1])
-
-
-NEW_KEK = bytes(range(100, 124))
-FLAGS = [dict(zip(("old_padded", "new_padded", "keep_form"), flags)) for flags in (
-    (False, False, False), (False, True, False), (True, False, False), (True, True, False), (False, False, True))]
-
-
-@pytest.mark.parametrize("flags", FLAGS, ids=str)
-@pytest.mark.parametrize("pass_new", [False, True])
-def test_rewrap(flags, pass_new):
-    """The result or the refusal of the call with both KEKs, of texts under each KEK in each form, and of none."""
-    old, new = Token(), Token(NEW_KEK)
-    texts = [WRAPS[padded](kek, bytes(length)) for padded in (False, True) for kek in (KEK, NEW_KEK)
-             for length in (5, 8, 16, 24, 27, 40) if padded or length >= 16 and length % 8 == 0]
-    for text in [*texts, bytes(24), bytes(16), bytes(20), b"", bytes([texts[0][0] ^ 1]) + texts[0][1:]]:
-        def by_steps(text=text):
-            return steps.rewrap(old.decrypt, new.encrypt, text, **flags, pass_new=new.decrypt if pass_new else None)
-
-        try:
-            due = keywrap.rewrap(KEK, NEW_KEK, text, **flags, pass_new=pass_new)
-        except keywrap.KeywrapError as error:
-            with pytest.raises(type(error), match=re.escape(str(error))):
-                by_steps()
-        else:
-            assert by_steps() == by_steps(bytearray(text)) == due
-
-
 def test_rewrap_with_a_callable_that_fails():
     """It passes through, after the buffers are wiped, and the caller's text is as it was."""
     def fails(blocks):
         raise OSError("no token")
 
     text = bytearray(pyca.aes_key_wrap(KEK, bytes(16)))
-    for ciphers_of in (fails, Token(NEW_KEK).encrypt), (Token().decrypt, fails):
+    for ciphers_of in (fails, Token(bytes(24)).encrypt), (Token().decrypt, fails):
         with pytest.raises(OSError, match="no token"):
             steps.rewrap(*ciphers_of, text)
     assert text == pyca.aes_key_wrap(KEK, bytes(16))

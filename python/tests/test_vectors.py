@@ -1,4 +1,4 @@
-"""NIST's vectors (CAVP, SP 800-38F), Botan's of RFC 5649, and `python3 -m keywrap.vectors`."""
+"""`python3 -m keywrap.vectors`, over NIST's vectors (CAVP, SP 800-38F) and small files of the other formats."""
 
 import json
 import re
@@ -8,7 +8,6 @@ import sys
 import pytest
 
 import keywrap
-from keywrap._vector_files import Verdict, read
 
 REASON = "no cryptography_vectors (apt-get install python3-cryptography-vectors)"
 vectors = pytest.importorskip("cryptography_vectors", reason=REASON)
@@ -20,32 +19,6 @@ FILES = [f"{form}_{direction}_{bits}" for form in ("KW", "KWP") for direction in
 def text_of(name):
     with vectors.open_vector_file(f"keywrap/{name}", "rb") as file:
         return file.read().decode()
-
-
-@pytest.mark.parametrize("name", FILES)
-def test_nist_both_ways(name):
-    refused = 0
-    cases = read(text_of(f"kwtestvectors/{name}.txt")).cases
-    for case in (turned for case in cases for turned in case.both_ways()):
-        call = getattr(keywrap, case.call.value)
-        if case.verdict is Verdict.INVALID:
-            refused += 1
-            with pytest.raises(keywrap.IntegrityFailed):
-                call(case.kek, case.given)
-        else:
-            assert case.verdict is Verdict.VALID
-            assert call(case.kek, case.given) == case.answer
-    assert (len(cases), refused) == (500, 100 if "AD" in name else 0)
-
-
-def test_botan_both_ways():
-    blocks = text_of("kwp_botan.txt").split("\n\n")
-    found = [dict(re.findall(r"^(\w+) = ([0-9A-Fa-f]+)$", block, re.M)) for block in blocks if "COUNT" in block]
-    assert len(found) > 20
-    for row in found:
-        kek, key, wrapped = (bytes.fromhex(row[name]) for name in ("Key", "Input", "Output"))
-        assert keywrap.wrap_padded(kek, key) == wrapped
-        assert keywrap.unwrap_padded(kek, wrapped) == key
 
 
 class TestCommand:

@@ -1,13 +1,13 @@
-// Makes the calls of the lines of tests/rows.txt, in the file that KEYWRAP_ROWS names, by the library's AES, and those
-// for one key also by Go's.
+// Makes the calls of the lines that faces.py writes, in the file that KEYWRAP_ROWS names, by the library's AES and, if
+// there is such a call, by Go's: both have to return the same.
 
 package keywrap_test
 
 import (
-	"bufio"
-	"bytes"
 	"encoding/hex"
+	"fmt"
 	"os"
+	"reflect"
 	"strconv"
 	"strings"
 	"testing"
@@ -15,252 +15,124 @@ import (
 	"keywrap.example/keywrap"
 )
 
-type row map[string]string
-
-// bytesOf returns the bytes of a text. The text ^ is what the row before has written.
-func bytesOf(text string, last []byte) []byte {
-	if text == "^" {
-		return last
-	}
-	if digits, times, found := strings.Cut(text, "*"); found {
-		n, _ := strconv.Atoi(times)
-		return bytes.Repeat(bytesOf(digits, nil), n)
-	}
-	b, err := hex.DecodeString(text)
+func bytesOf(text string) []byte {
+	b, err := hex.DecodeString(strings.TrimPrefix(text, "-"))
 	if err != nil {
 		panic(err)
 	}
 	return b
 }
 
-func shows(found []byte, text string) bool {
-	ends, length, isCut := strings.Cut(text, "/")
-	if !isCut {
-		return bytes.Equal(found, bytesOf(text, nil))
-	}
-	begin, end, _ := strings.Cut(ends, "..")
-	n, _ := strconv.Atoi(length)
-	return len(found) == n && bytes.HasPrefix(found, bytesOf(begin, nil)) && bytes.HasSuffix(found, bytesOf(end, nil))
+// The statuses of the C library. Of each refusal there is one error.
+var statuses = map[error]int{nil: 0, keywrap.ErrBadIV: 2, keywrap.ErrBadKEK: 3, keywrap.ErrBadLength: 4,
+	keywrap.ErrIntegrity: 5, keywrap.ErrKeyNotPlain: 8}
+
+// How results are printed.
+var formats = map[string]string{
+	"[]uint8": " out=%x", "[][]uint8": " out=%x", "keywrap.Form": " form=%d", "[]keywrap.Form": " forms=%d",
+	"int": " len=%d", "[]int": " lens=%d", "bool": " already=%t", "[]bool": " already=%t"}
+
+// listed has commas in the place of brackets and blanks.
+func listed(format string, value any) string {
+	return format[:1] + strings.NewReplacer("[", "", "]", "", " ", ",").Replace(fmt.Sprintf(format[1:], value))
 }
 
-// reason returns why a line is left out.
-func reason(call string, r row) string {
-	for _, name := range []string{"room", "size", "count", "lens_count", "forms_count"} {
-		if _, found := r[name]; found {
-			return "the package makes the buffers"
+// answer is what a call has returned, without nil, 0 and false, and with the room behind bytes, where secrets could be.
+func answer(values ...any) string {
+	status, words, text := 0, "", ""
+	for _, value := range values {
+		switch value := value.(type) {
+		case nil:
+		case keywrap.Refusals:
+			numbers := []int{}
+			for _, err := range value {
+				numbers = append(numbers, statuses[err])
+			}
+			words, text = words+listed(" statuses=%d", numbers), " text="+value.Error()
+		case error:
+			status, text = statuses[value], " text="+value.Error()
+		default:
+			if b, isBytes := value.([]byte); isBytes && b != nil {
+				value = b[:cap(b)]
+			}
+			if !reflect.ValueOf(value).IsZero() {
+				words += listed(formats[fmt.Sprintf("%T", value)], value)
+			}
 		}
 	}
-	if call == "rewrap_in_place" {
-		return "the call of version 1.0 is not in the package"
-	}
-	return ""
+	return fmt.Sprintf("status=%d%s%s", status, words, text)
 }
 
-// A result is what a call returns of one key.
-type result struct {
-	bytes   []byte
-	form    keywrap.Form
-	keyLen  int
-	already bool
-	err     error
-}
-
-func (got result) isDue(status, out, form, length string, given []byte) bool {
-	number, _ := strconv.Atoi(status)
-	if number > 1 {
-		return got.err == keywrap.Refusal(number) && got.bytes == nil && got.form == 0 && got.keyLen == 0 && !got.already
-	}
-	isRight := got.err == nil && got.already == (number == 1) && cap(got.bytes) == len(got.bytes)
-	if form != "" {
-		isRight = isRight && got.form == map[string]keywrap.Form{"0": keywrap.Plain, "1": keywrap.Padded}[form]
-	}
-	if got.keyLen != 0 {
-		return isRight && strconv.Itoa(got.keyLen) == length
-	}
-	if number == 1 {
-		return isRight && bytes.Equal(got.bytes, given)
-	}
-	return isRight && shows(got.bytes, out)
-}
-
-func one(bytes []byte, err error) result { return result{bytes: bytes, err: err} }
-
-// single makes a call for one key.
-func single(call string, r row, flags keywrap.Flags, kek, given []byte) (got result) {
-	value := bytesOf(r["iv"], nil)
+// called has the answers to a call, by the library's AES and by Go's.
+func called(call string, kek, newKEK, iv []byte, flags keywrap.Flags, given []byte, items [][]byte) (string, string) {
+	c, newC := cipherOf(kek), cipherOf(newKEK)
 	switch call {
 	case "wrap":
-		return one(keywrap.Wrap(kek, given))
+		return answer(keywrap.Wrap(kek, given)), answer(c.Wrap(given))
 	case "unwrap":
-		return one(keywrap.Unwrap(kek, given))
+		return answer(keywrap.Unwrap(kek, given)), answer(c.Unwrap(given))
 	case "wrap_padded":
-		return one(keywrap.WrapPadded(kek, given))
+		return answer(keywrap.WrapPadded(kek, given)), answer(c.WrapPadded(given))
 	case "unwrap_padded":
-		return one(keywrap.UnwrapPadded(kek, given))
+		return answer(keywrap.UnwrapPadded(kek, given)), answer(c.UnwrapPadded(given))
 	case "wrap_with":
-		return one(keywrap.WrapWithIV(kek, value, given))
+		return answer(keywrap.WrapWithIV(kek, iv, given)), answer(c.WrapWithIV(iv, given))
 	case "unwrap_with":
-		return one(keywrap.UnwrapWithIV(kek, value, given))
+		return answer(keywrap.UnwrapWithIV(kek, iv, given)), answer(c.UnwrapWithIV(iv, given))
 	case "unwrap_any":
-		got.bytes, got.form, got.err = keywrap.UnwrapAny(kek, given)
-	case "kind":
-		got.form, got.keyLen, got.err = keywrap.Kind(kek, given)
+		return answer(keywrap.UnwrapAny(kek, given)), answer(c.UnwrapAny(given))
 	case "rewrap":
-		got.bytes, got.already, got.err = keywrap.Rewrap(kek, bytesOf(r["new"], nil), given, flags)
+		return answer(keywrap.Rewrap(kek, newKEK, given, flags)), answer(c.Rewrap(newC, given, flags))
+	case "kind":
+		return answer(keywrap.Kind(kek, given)), ""
+	case "wrap_many":
+		return answer(keywrap.WrapMany(kek, items, flags)), ""
+	case "rewrap_many":
+		return answer(keywrap.RewrapMany(kek, newKEK, items, flags)), ""
+	case "kind_many":
+		return answer(keywrap.KindMany(kek, items)), ""
 	}
-	return got
+	again := ""
+	if flags == keywrap.OldPadded {
+		again = answer(keywrap.UnwrapManyPadded(kek, items))
+	}
+	return answer(keywrap.UnwrapMany(kek, items, flags)), again
 }
 
-// byCipher makes a call for one key by Go's AES, if there is such a call.
-func byCipher(call string, r row, flags keywrap.Flags, kek, given []byte) (got result, found bool) {
-	newKEK := kek
-	if text, found := r["new"]; found {
-		newKEK = bytesOf(text, nil)
-	}
-	for _, length := range []int{len(kek), len(newKEK)} {
-		if length != 16 && length != 24 && length != 32 {
-			return got, false
-		}
+// cipherOf is a Cipher over a KEK, or, if no KEK has its length, over another one.
+func cipherOf(kek []byte) *keywrap.Cipher {
+	if n := len(kek); n%8 != 0 || n < 16 || n > 32 {
+		kek = make([]byte, 16)
 	}
 	c, err := keywrap.NewCipher(aesOf(kek))
 	if err != nil {
 		panic(err)
 	}
-	switch call {
-	case "wrap":
-		got = one(c.Wrap(given))
-	case "unwrap":
-		got = one(c.Unwrap(given))
-	case "wrap_padded":
-		got = one(c.WrapPadded(given))
-	case "unwrap_padded":
-		got = one(c.UnwrapPadded(given))
-	case "wrap_with":
-		got = one(c.WrapWithIV(bytesOf(r["iv"], nil), given))
-	case "unwrap_with":
-		got = one(c.UnwrapWithIV(bytesOf(r["iv"], nil), given))
-	case "unwrap_any":
-		got.bytes, got.form, got.err = c.UnwrapAny(given)
-	case "rewrap":
-		renewed, _ := keywrap.NewCipher(aesOf(newKEK))
-		got.bytes, got.already, got.err = c.Rewrap(renewed, given, flags)
-	default:
-		return got, false
-	}
-	return got, true
-}
-
-// many makes a call for many keys. Without a refusal of the whole it returns the result of each.
-func many(call string, r row, flags keywrap.Flags, kek []byte, given [][]byte) ([]result, error) {
-	var texts [][]byte
-	var already []bool
-	var forms []keywrap.Form
-	var lens []int
-	var err error
-	switch call {
-	case "wrap_many":
-		texts, err = keywrap.WrapMany(kek, given, flags)
-	case "unwrap_many":
-		texts, err = keywrap.UnwrapMany(kek, given, flags)
-	case "rewrap_many":
-		texts, already, err = keywrap.RewrapMany(kek, bytesOf(r["new"], nil), given, flags)
-	case "kind_many":
-		forms, lens, err = keywrap.KindMany(kek, given)
-	}
-	if texts == nil && forms == nil && already == nil && lens == nil {
-		return nil, err
-	}
-	got := make([]result, len(given))
-	refusals, _ := err.(keywrap.Refusals)
-	for i := range got {
-		if texts != nil {
-			got[i].bytes = texts[i]
-		}
-		if already != nil {
-			got[i].already = already[i]
-		}
-		if forms != nil {
-			got[i].form, got[i].keyLen = forms[i], lens[i]
-		}
-		if refusals != nil {
-			got[i].err = refusals[i]
-		}
-	}
-	return got, nil
-}
-
-func item(texts string, i int) string {
-	if texts == "" {
-		return ""
-	}
-	return strings.Split(texts, ",")[i]
+	return c
 }
 
 func TestRows(t *testing.T) {
-	file, err := os.Open(os.Getenv("KEYWRAP_ROWS"))
+	text, err := os.ReadFile(os.Getenv("KEYWRAP_ROWS"))
 	if err != nil {
 		t.Fatal(err)
 	}
-	defer file.Close()
-	lines := bufio.NewScanner(file)
-	lines.Buffer(nil, 1<<24)
-	left, right := map[string]int{}, 0
-	var last []byte
-	for lines.Scan() {
-		words := strings.Split(lines.Text(), " ")
-		if words[0] == "" || words[0][0] == '#' {
-			continue
-		}
-		call, status, r := words[0], words[1], row{}
-		for _, word := range words[2:] {
-			name, value, _ := strings.Cut(word, "=")
-			r[name] = value
-		}
-		if why := reason(call, r); why != "" {
-			left[why]++
-			continue
-		}
-		number, _ := strconv.ParseUint(r["flags"], 10, 32)
-		flags, kek := keywrap.Flags(number), bytesOf(r["kek"], nil)
-		isRight := true
-		if strings.HasSuffix(call, "_many") {
-			var given [][]byte
-			if texts, found := r["given"]; found {
-				for _, text := range strings.Split(texts, ",") {
-					given = append(given, bytesOf(text, nil))
-				}
+	for _, line := range strings.Split(strings.TrimSpace(string(text)), "\n") {
+		words := strings.Split(line, " ")
+		number, _ := strconv.ParseUint(words[4], 10, 32)
+		given, items := []byte{}, [][]byte{}
+		if !strings.HasSuffix(words[0], "_many") {
+			given = bytesOf(words[5])
+		} else if words[5] != "-" {
+			for _, item := range strings.Split(words[5], ",") {
+				items = append(items, bytesOf(item))
 			}
-			got, err := many(call, r, flags, kek, given)
-			if status != "0" {
-				isRight = got == nil && result{err: err}.isDue(status, "", "", "", nil)
-			} else {
-				isRight = err == nil && len(got) == len(given)
-				for i := range got {
-					isRight = isRight && got[i].isDue(item(r["statuses"], i), item(r["out"], i), item(r["forms"], i),
-						item(r["lens"], i), given[i])
-				}
-			}
-		} else {
-			given := bytesOf(r["given"], last)
-			before := append([]byte{}, given...)
-			if r["already"] == "1" {
-				status = "1"
-			}
-			got := single(call, r, flags, kek, given)
-			isRight = got.isDue(status, r["out"], r["form"], r["len"], given) && bytes.Equal(given, before)
-			if got, found := byCipher(call, r, flags, kek, given); found {
-				isRight = isRight && got.isDue(status, r["out"], r["form"], "", given) && bytes.Equal(given, before)
-			}
-			last = got.bytes
 		}
-		if !isRight {
-			t.Errorf("wrong: %.300s", lines.Text())
-			continue
+		before := fmt.Sprint(given, items)
+		kek, newKEK, iv := bytesOf(words[1]), bytesOf(words[2]), bytesOf(words[3])
+		said, again := called(words[0], kek, newKEK, iv, keywrap.Flags(number), given, items)
+		if again != said && again != "" && !strings.HasPrefix(said, "status=3") || fmt.Sprint(given, items) != before {
+			said += " changed, or not " + again
 		}
-		right++
+		fmt.Println(said)
 	}
-	for why, number := range left {
-		t.Logf("left out: %d: %s", number, why)
-	}
-	t.Logf("%d right", right)
 }

@@ -13,11 +13,13 @@ import sys
 import tempfile
 
 ROOT = pathlib.Path(__file__).resolve().parent.parent.parent
-COMPILE = "cc -std=c99 -O2 -Wall -Wextra -Ic/include -Ic/reference -o program "
+sys.path[:0] = [str(ROOT / "tests"), str(ROOT / "tests/lib")]
+import faces  # noqa: E402
+
+COMPILE = "cc -std=c99 -O2 -Wall -Wextra -Ic/include -Itests/reference -o program "
 CALLS = "tests/rows.c c/hardware/*.c proved.a"
-# The rows that are kept, and then those that are not.
-ROWS = "./program <tests/rows.txt && ./program <more"
-NO_FAULT = r"(\d+ right\n){2}"
+# It is asked for the rows that are kept, and for those that are not.
+ROWS = "rows"
 # Each program, in this order: its sources and options, how it is run, and what is written if no fault is found.
 PROGRAMS = {
     "chooses": ("tests/hardware/chosen.c c/hardware/aes.c c/hardware/x86_64.c",
@@ -30,15 +32,15 @@ PROGRAMS = {
     "tests_itself": ("tests/hardware/self_test.c tests/hardware/wrong_aes.c c/hardware/keywrap.c c/hardware/aes.c "
                      "proved.a",
                      "qemu-x86_64 -cpu max ./program", "0 5\n"),
-    "calls": (CALLS, ROWS, NO_FAULT),
+    "calls": (CALLS, ROWS, ""),
     "beside_them": ("tests/library/own.c c/hardware/*.c proved.a", "./program", r"\d+ passed, 0 failed\n"),
     # At most 16 bytes below the stack pointer depend on a secret: they are a block of the wrapped key. With -flto the
     # compiler sees that nothing reads what is cleared.
     "clears": ("tests/secrets/stack.c c/hardware/*.c proved.a -flto -Wl,-z,now",
                "set -o pipefail; ./program | awk 'NR > 1 && ($4 > 16 || $5 > 16 || $6 > 16)'", ""),
     # -Os aligns no variable beyond its type.
-    "sanitized": (CALLS + " -Os -g -fsanitize=undefined -fno-sanitize-recover=all", ROWS, NO_FAULT),
-    "addresses": (CALLS + " -g -fsanitize=address", ROWS, NO_FAULT),
+    "sanitized": (CALLS + " -Os -g -fsanitize=undefined -fno-sanitize-recover=all", ROWS, ""),
+    "addresses": (CALLS + " -g -fsanitize=address", ROWS, ""),
 }
 
 
@@ -54,29 +56,35 @@ def plant(edit, directory):
     path.write_text(code)
 
 
-def caught_by(archive, more, bug):
+def has_fault(directory, command, wanted):
+    """Whether the program in the directory finds one, or ends otherwise than it should."""
+    if command == ROWS:
+        return faces.has_fault("c", [f"{directory}/program"], "rows", "more")
+    ended = subprocess.run(["bash", "-c", command], cwd=directory, capture_output=True, text=True)
+    return ended.returncode or not re.fullmatch(wanted, ended.stdout, re.S)
+
+
+def caught_by(archive, bug):
     """The first program that finds a fault over a copy with the bug, or None."""
     with tempfile.TemporaryDirectory() as directory:
-        for name in "c/hardware", "c/include", "c/reference", "tests":
+        for name in "c/hardware", "c/include", "tests":
             shutil.copytree(ROOT / name, f"{directory}/{name}")
+        os.symlink(ROOT / "dist", f"{directory}/dist")
         subprocess.run(["objcopy", "--redefine-syms=c/hardware/names", archive, "proved.a"], cwd=directory, check=True)
-        pathlib.Path(directory, "more").write_text(more)
         if bug:
             plant(bug, directory)
         for name, (sources, command, wanted) in PROGRAMS.items():
             # What does not build is a bug of the edit.
             subprocess.run(COMPILE + sources, shell=True, cwd=directory, check=True)
-            ended = subprocess.run(["bash", "-c", command], cwd=directory, capture_output=True, text=True)
-            if ended.returncode or not re.fullmatch(wanted, ended.stdout, re.S):
+            if has_fault(directory, command, wanted):
                 return name
 
 
 def main(archive):
-    made = subprocess.run([sys.executable, ROOT / "tests/rows.py", "more"], check=True, capture_output=True, text=True)
-    more = made.stdout
+    faces.asked("c", "rows", "more")
     bugs = [None, *sorted(pathlib.Path(__file__).parent.glob("bugs/*.edit"))]
     with concurrent.futures.ThreadPoolExecutor(os.cpu_count()) as pool:
-        found = list(pool.map(lambda bug: caught_by(archive, more, bug), bugs))
+        found = list(pool.map(lambda bug: caught_by(archive, bug), bugs))
     for bug, program in zip(bugs, found):
         print(f"{bug.stem if bug else 'no bug'}: {program or 'not caught'}")
     return int(len(bugs) == 1 or found[0] is not None or None in found[1:])

@@ -1,7 +1,6 @@
 /* steps.c: the calls of keywrap_steps.h around OpenSSL's AES: every form and length against the
- * calls of keywrap.h, one by one and many at once, a tampered text, and each refusal, which changes
- * nothing. STEPS_OF_WORD and STEPS_OF_ONE_WORD are the header's numbers of steps. The last line is
- * 'N passed, M failed'. */
+ * calls of keywrap.h, one by one and many at once, and tampered texts. STEPS_OF_WORD and
+ * STEPS_OF_ONE_WORD are the header's numbers of steps. The last line is 'N passed, M failed'. */
 
 #include <keywrap.h>
 #include <keywrap_steps.h>
@@ -131,87 +130,6 @@ static void padded(size_t kek_len, size_t len) {
     check(is_zero(text + 8, room) && is_zero(block, 16), "padded, all zeros", len);
 }
 
-/* What is refused at each call leaves registers, number and block as they were. */
-static void refusals(void) {
-    static const size_t LENS[] = {0, 1, 7, 12, 15, KEYWRAP_MAX_KEY + 8, (size_t)-8};
-    uint8_t registers[32], block[16], first[8], before[32], was[16], were[8];
-    uint64_t n;
-    size_t found;
-    memset(registers, 0x5a, sizeof registers);
-    memset(block, 0xa5, sizeof block);
-    memset(first, 0x77, sizeof first);
-    memcpy(before, registers, sizeof before);
-    memcpy(was, block, sizeof was);
-    memcpy(were, first, sizeof were);
-#define REFUSED(call, status, number, what, at)                                                    \
-    do {                                                                                           \
-        n = (number);                                                                              \
-        found = 9;                                                                                 \
-        int is = (call) == (status) && n == (number) && !memcmp(registers, before, sizeof before)  \
-                 && !memcmp(block, was, sizeof was) && !memcmp(first, were, sizeof were);          \
-        check(is, what, at);                                                                       \
-    } while (0)
-    for (size_t i = 0; i < sizeof LENS / sizeof *LENS; i++) {
-        size_t len = LENS[i];
-        REFUSED(keywrap_begin_wrap(IV, 8, registers, len, &n, block), KEYWRAP_BAD_LENGTH, 3,
-                "begin_wrap", len);
-        REFUSED(keywrap_begin_wrap_padded(len, registers, len, &n, block), KEYWRAP_BAD_LENGTH, 3,
-                "begin_wrap_padded", len);
-        REFUSED(keywrap_step_wrap(registers, len, &n, block), KEYWRAP_BAD_LENGTH, 0, "step_wrap",
-                len);
-        REFUSED(keywrap_end_wrap(first, registers, len, 0, block), KEYWRAP_BAD_LENGTH, 0,
-                "end_wrap", len);
-        REFUSED(keywrap_begin_unwrap(first, registers, len, &n, block), KEYWRAP_BAD_LENGTH, 3,
-                "begin_unwrap", len);
-        REFUSED(keywrap_begin_unwrap_padded(first, registers, len, &n, block), KEYWRAP_BAD_LENGTH,
-                3, "begin_unwrap_padded", len);
-        REFUSED(keywrap_step_unwrap(registers, len, &n, block), KEYWRAP_BAD_LENGTH, 1,
-                "step_unwrap", len);
-        REFUSED(keywrap_end_unwrap(IV, 8, registers, len, 0, block), KEYWRAP_BAD_LENGTH, 0,
-                "end_unwrap", len);
-        REFUSED(keywrap_end_unwrap_padded(registers, len, 0, block, &found), KEYWRAP_BAD_LENGTH, 0,
-                "end_unwrap_padded", len);
-        check(found == 0, "no length of a key that is refused", len);
-    }
-    static const uint64_t AFTER[] = {24, 25, UINT64_MAX};
-    for (size_t i = 0; i < sizeof AFTER / sizeof *AFTER; i++)
-        REFUSED(keywrap_step_wrap(registers, 32, &n, block), KEYWRAP_BAD_LENGTH, AFTER[i],
-                "a step after the last", i);
-    REFUSED(keywrap_step_wrap(registers, 8, &n, block), KEYWRAP_BAD_LENGTH, 1,
-            "a second step of one word", 8);
-    static const uint64_t EARLY[] = {0, 23, 25, UINT64_MAX};
-    for (size_t i = 0; i < sizeof EARLY / sizeof *EARLY; i++)
-        REFUSED(keywrap_end_wrap(first, registers, 32, EARLY[i], block), KEYWRAP_BAD_LENGTH, 0,
-                "an end of a wrap", i);
-    static const uint64_t LEFT[] = {0, 25, UINT64_MAX};
-    for (size_t i = 0; i < sizeof LEFT / sizeof *LEFT; i++)
-        REFUSED(keywrap_step_unwrap(registers, 32, &n, block), KEYWRAP_BAD_LENGTH, LEFT[i],
-                "a step that is not left", i);
-    for (uint64_t left = 1; left < 3; left++) {
-        REFUSED(keywrap_end_unwrap(IV, 8, registers, 32, left, block), KEYWRAP_BAD_LENGTH, 0,
-                "an early end", left);
-        REFUSED(keywrap_end_unwrap_padded(registers, 32, left, block, &found), KEYWRAP_BAD_LENGTH,
-                0, "an early end, padded", left);
-    }
-    REFUSED(keywrap_begin_wrap(IV, 8, registers, 8, &n, block), KEYWRAP_BAD_LENGTH, 3,
-            "plain, one word", 8);
-    REFUSED(keywrap_begin_unwrap(first, registers, 8, &n, block), KEYWRAP_BAD_LENGTH, 3,
-            "plain, one word", 8);
-    REFUSED(keywrap_end_unwrap(IV, 8, registers, 8, 0, block), KEYWRAP_BAD_LENGTH, 0,
-            "plain, one word", 8);
-    REFUSED(keywrap_begin_wrap_padded(8, registers, 16, &n, block), KEYWRAP_BAD_LENGTH, 3,
-            "another room", 8);
-    REFUSED(keywrap_begin_wrap_padded(25, registers, 24, &n, block), KEYWRAP_BAD_LENGTH, 3,
-            "another room", 25);
-    static const uint8_t RESERVED[8] = {0xa6, 0x59, 0x59, 0xa6, 0, 0, 0, 16};
-    REFUSED(keywrap_begin_wrap(RESERVED, 8, registers, 16, &n, block), KEYWRAP_BAD_IV, 3,
-            "reserved", 16);
-    REFUSED(keywrap_begin_wrap(IV, 7, registers, 15, &n, block), KEYWRAP_BAD_IV, 3,
-            "7 bytes of an initial value", 7);
-    REFUSED(keywrap_end_unwrap(RESERVED, 8, registers, 16, 0, block), KEYWRAP_BAD_IV, 0, "reserved",
-            16);
-}
-
 enum { LANES = 25 };
 
 static uint8_t texts[LANES * (LONGEST + 8)], expected[LANES * (LONGEST + 8)], blocks[LANES * 16];
@@ -289,162 +207,6 @@ static void many(size_t kek_len, size_t len, size_t count) {
     many_undone(len, count);
 }
 
-/* What is refused leaves texts, number, blocks and statuses as they were. */
-static void many_refusals(void) {
-    static const struct {
-        size_t texts_len, text_len, blocks_len;
-    } LENS[] = {{80, 40, 16},  {80, 40, 48},   {79, 40, 32},   {80, 40, 31},  {32, 16, 32},
-                {72, 36, 32},  {0, 40, 16},    {80, 0, 32},    {80, 8, 32},   {40, 40, 24},
-                {80, (size_t)-8, 32}, {0, 2097152, 0}};
-    uint8_t before[80], was[48], statuses[3] = {9, 9, 9};
-    uint64_t n;
-    memset(texts, 0x5a, sizeof texts);
-    memset(blocks, 0xa5, sizeof blocks);
-    memcpy(before, texts, sizeof before);
-    memcpy(was, blocks, sizeof was);
-#define MANY_REFUSED(call, status, number, what, at)                                               \
-    do {                                                                                           \
-        n = (number);                                                                              \
-        int is = (call) == (status) && n == (number) && !memcmp(texts, before, sizeof before)      \
-                 && !memcmp(blocks, was, sizeof was) && statuses[0] == 9 && statuses[1] == 9;      \
-        check(is, what, at);                                                                       \
-    } while (0)
-    for (size_t i = 0; i < sizeof LENS / sizeof *LENS; i++) {
-        const size_t all = LENS[i].texts_len, each = LENS[i].text_len, room = LENS[i].blocks_len;
-        MANY_REFUSED(keywrap_begin_wrap_many(IV, 8, texts, all, each, &n, blocks, room),
-                     KEYWRAP_BAD_LENGTH, 3, "begin_wrap_many", i);
-        MANY_REFUSED(keywrap_step_wrap_many(texts, all, each, &n, blocks, room), KEYWRAP_BAD_LENGTH,
-                     0, "step_wrap_many", i);
-        MANY_REFUSED(keywrap_end_wrap_many(texts, all, each, 24, blocks, room), KEYWRAP_BAD_LENGTH,
-                     0, "end_wrap_many", i);
-        MANY_REFUSED(keywrap_begin_unwrap_many(texts, all, each, &n, blocks, room),
-                     KEYWRAP_BAD_LENGTH, 3, "begin_unwrap_many", i);
-        MANY_REFUSED(keywrap_step_unwrap_many(texts, all, each, &n, blocks, room),
-                     KEYWRAP_BAD_LENGTH, 1, "step_unwrap_many", i);
-        MANY_REFUSED(keywrap_end_unwrap_many(IV, 8, texts, all, each, 0, blocks, room, statuses, 2),
-                     KEYWRAP_BAD_LENGTH, 0, "end_unwrap_many", i);
-    }
-    for (uint64_t done = 24; done < 27; done++)
-        MANY_REFUSED(keywrap_step_wrap_many(texts, 80, 40, &n, blocks, 32), KEYWRAP_BAD_LENGTH,
-                     done, "many, a step after the last", done);
-    for (uint64_t done = 0; done < 26; done += done == 0 ? 23 : 2)
-        MANY_REFUSED(keywrap_end_wrap_many(texts, 80, 40, done, blocks, 32), KEYWRAP_BAD_LENGTH, 0,
-                     "many, an end of a wrap", done);
-    static const uint64_t LEFT[] = {0, 25, UINT64_MAX};
-    for (size_t i = 0; i < sizeof LEFT / sizeof *LEFT; i++)
-        MANY_REFUSED(keywrap_step_unwrap_many(texts, 80, 40, &n, blocks, 32), KEYWRAP_BAD_LENGTH,
-                     LEFT[i], "many, a step that is not left", i);
-    MANY_REFUSED(keywrap_end_unwrap_many(IV, 8, texts, 80, 40, 1, blocks, 32, statuses, 2),
-                 KEYWRAP_BAD_LENGTH, 0, "many, an early end", 1);
-    for (size_t count = 0; count < 4; count++)
-        if (count != 2)
-            MANY_REFUSED(keywrap_end_unwrap_many(IV, 8, texts, 80, 40, 0, blocks, 32, statuses,
-                                                 count),
-                         KEYWRAP_BAD_LENGTH, 0, "many, another number of statuses", count);
-    MANY_REFUSED(keywrap_begin_wrap_many(IV, 7, texts, 80, 40, &n, blocks, 32), KEYWRAP_BAD_IV, 3,
-                 "many, 7 bytes of an initial value", 7);
-    MANY_REFUSED(keywrap_end_unwrap_many(IV, 9, texts, 80, 40, 0, blocks, 32, statuses, 2),
-                 KEYWRAP_BAD_IV, 0, "many, 9 bytes of an initial value", 9);
-}
-
-/* By the two lowest bits of a phase: the AES that it asks for, under the old KEK and the new one. */
-static EVP_CIPHER_CTX *asked[4];
-
-/* Rewraps by steps, with or without a copy of the text. */
-static int32_t rewrapped_by(uint32_t flags, uint8_t *text, size_t len, const uint8_t *copy) {
-    uint8_t block[16];
-    uint64_t steps;
-    uint32_t phase;
-    int32_t status = keywrap_begin_rewrap(flags, text, len, &phase, &steps, block);
-    while (phase != 0) {
-        for (uint64_t left = keywrap_step_count(len - 8); left > 0; left--) {
-            ecb(asked[phase & (KEYWRAP_DECRYPT | KEYWRAP_NEW)], block);
-            if ((phase & KEYWRAP_DECRYPT ? keywrap_step_unwrap(text + 8, len - 8, &steps, block)
-                                         : keywrap_step_wrap(text + 8, len - 8, &steps, block))
-                != KEYWRAP_OK)
-                return -1;
-        }
-        status = copy ? keywrap_next_rewrap_from(flags, copy, len, text, len, &phase, &steps, block)
-                      : keywrap_next_rewrap(flags, text, len, &phase, &steps, block);
-    }
-    return status;
-}
-
-/* A text of each length in each form, under each KEK or damaged, is rewrapped as by the call with both KEKs. */
-static void rewraps(void) {
-    static const uint8_t KEKS[2][32] = {{1, 2, 3}, {4, 5, 6}};
-    static const size_t LENS[] = {5, 8, 16, 21, 24, 40};
-    uint8_t key[40] = {7, 8, 9}, text[48], due[48], made[48];
-    for (size_t i = 0; i < 4; i++) {
-        memcpy(kek, KEKS[i / 2], sizeof kek);
-        asked[i] = keyed(sizeof kek, i % 2 == 0);
-    }
-    for (uint32_t flags = 0; flags < 17; flags++)
-        for (size_t i = 0; i < 8 * (sizeof LENS / sizeof *LENS); i++) {
-            const size_t key_len = LENS[i / 8], len = (i & 1 ? (key_len + 7) / 8 * 8 : key_len) + 8;
-            const uint8_t *under = KEKS[i >> 1 & 1];
-            memset(text, 1, sizeof text);
-            /* In the plain form some lengths are refused, and then the text is none. */
-            if ((i & 1 ? keywrap_wrap_padded(under, 32, key, key_len, text, len)
-                       : keywrap_wrap(under, 32, key, key_len, text, len))
-                    == KEYWRAP_OK
-                && i & 4)
-                text[9] ^= 1;
-            for (int copied = 0; copied < 2; copied++) {
-                uint32_t already;
-                memcpy(due, text, sizeof due);
-                memcpy(made, text, sizeof made);
-                int32_t status = keywrap_rewrap(KEKS[0], 32, KEKS[1], 32, due, len, flags, &already);
-                if (already) status = KEYWRAP_ALREADY_NEW;
-                check(rewrapped_by(flags, made, len, copied ? text : NULL) == status
-                          && !memcmp(made, due, sizeof due),
-                      "a rewrap", i + 1000 * flags);
-            }
-        }
-}
-
-/* No phase, a step that is left, other flags and a copy of another length are refused. The text stays. */
-static void rewrap_refusals(void) {
-    static const uint32_t PHASES[] = {1, 2, 6, 16, 18, 19, 20, 22, 23, 32, 34, 35};
-    uint8_t text[40] = {1, 2, 3}, before[40], copy[40] = {4}, block[16] = {5}, was[16];
-    memcpy(before, text, sizeof text);
-    memcpy(was, block, sizeof block);
-    for (uint32_t number = 0; number < 300; number++) {
-        int is_phase = 0;
-        for (size_t i = 0; i < sizeof PHASES / sizeof *PHASES; i++) is_phase |= number == PHASES[i];
-        for (uint64_t left = 0; left < 26; left++) {
-            if (is_phase && left == (number & KEYWRAP_DECRYPT ? 0 : 24)) continue;
-            for (int from = 0; from < 2; from++) {
-                uint32_t phase = number;
-                uint64_t steps = left;
-                const int32_t status =
-                    from ? keywrap_next_rewrap_from(0, copy, 40, text, 40, &phase, &steps, block)
-                         : keywrap_next_rewrap(0, text, 40, &phase, &steps, block);
-                check(status == KEYWRAP_BAD_LENGTH && phase == 0 && steps == left && !memcmp(text, before, 40)
-                          && !memcmp(block, was, 16),
-                      "no phase, or a step that is left", number);
-            }
-        }
-    }
-    for (size_t len = 39; len < 42; len += 2) {
-        uint8_t other[41] = {0};
-        uint32_t phase = 1;
-        uint64_t steps = 0;
-        check(keywrap_next_rewrap_from(0, other, len, text, 40, &phase, &steps, block) == KEYWRAP_BAD_LENGTH
-                  && phase == 0 && !memcmp(text, before, 40),
-              "a copy of another length", len);
-    }
-    for (uint32_t flags = 0; flags < 32; flags++) {
-        uint32_t phase = 1;
-        uint64_t steps = 0;
-        if (flags < 16 && flags % 8 < 5) continue;
-        check(keywrap_next_rewrap(flags, text, 40, &phase, &steps, block) == KEYWRAP_BAD_LENGTH && phase == 0
-                  && keywrap_begin_rewrap(flags, text, 40, &phase, &steps, block) == KEYWRAP_BAD_LENGTH && phase == 0
-                  && !memcmp(text, before, 40),
-              "other flags", flags);
-    }
-}
-
 int main(void) {
     for (size_t kek_len = 16; kek_len <= sizeof kek; kek_len += 8) {
         for (size_t i = 0; i < sizeof kek; i++) kek[i] = (uint8_t)(kek_len * 3 + i);
@@ -458,10 +220,6 @@ int main(void) {
         EVP_CIPHER_CTX_free(encrypting);
         EVP_CIPHER_CTX_free(decrypting);
     }
-    refusals();
-    many_refusals();
-    rewraps();
-    rewrap_refusals();
     printf("%u passed, %u failed\n", passed, failed);
     return failed != 0;
 }

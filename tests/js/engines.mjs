@@ -1,21 +1,21 @@
-// Opens a page in an engine. The page runs the tests and posts what they came to. A server on this
-// machine, only for this run, has the package, the tests and the tables of rows.
+// Opens a page in an engine. The page runs the tests and posts what they came to, and the answers to lines.txt. A
+// server on this machine, only for this run, has the package, the tests and the lines.
 //
-// usage: node engines.mjs ENGINE PROGRAM WORKDIR PACKAGE BUNDLES TABLES
+// usage: node engines.mjs ENGINE PROGRAM WORKDIR PACKAGE BUNDLES
 //            ENGINE: chromium, firefox or webkit (whose program is MiniBrowser)
 //            WORKDIR: an empty directory for the engine's own files
-//            BUNDLES, TABLES: the directories of the bundles ('' if there are none) and of the tables
+//            BUNDLES: the directory of the bundles ('' if there are none)
 
 import { readFile } from 'node:fs/promises';
 import { createServer } from 'node:http';
 import { basename } from 'node:path';
 import { ISOLATED, postedBy } from './engine.mjs';
 
-const [, , engine, program, workdir, packed, bundles, tables] = process.argv;
+const [, , engine, program, workdir, packed, bundles] = process.argv;
 const TESTS = new URL('.', import.meta.url).pathname;
-const DIRECTORIES = { keywrap: packed, tests: TESTS, page: `${TESTS}page`, bundles, tables };
+const DIRECTORIES = { keywrap: packed, tests: TESTS, page: `${TESTS}page`, bundles };
 const NAMES = [
-    'page_self', 'rows', 'calls', 'objects', 'example', ...bundles ? ['bundles'] : [],
+    'page_self', 'calls', 'objects', 'example', ...bundles ? ['bundles'] : [],
 ];
 const PAGE = `<!DOCTYPE html><meta charset="utf-8"><title>tests</title><body>
 <script type="importmap">${JSON.stringify({ imports: {
@@ -33,6 +33,8 @@ const PAGE = `<!DOCTYPE html><meta charset="utf-8"><title>tests</title><body>
         }
         const { runAll } = await import('node:test');
         Object.assign(found, await runAll());
+        const { answers } = await import('/tests/rows.mjs');
+        found.answers = answers(await (await fetch('/tests/lines.txt')).text());
     } catch (error) {
         found.failures = ['the page: ' + error + ' ' + error.stack];
     }
@@ -64,6 +66,7 @@ async function answer(url) {
     return found ?? readFile(`${DIRECTORIES[directory]}/${basename(name)}`);
 }
 
-const { agent, count, failures } = await postedBy(engine, program, workdir, answer);
-console.log([agent, ...failures, `${count} tests, ${failures.length} failed`].join('\n'));
-process.exit(failures.length === 0 && count >= 30 ? 0 : 1);
+const { agent, answers, count, failures } = await postedBy(engine, program, workdir, answer);
+const said = [agent, ...answers || [], ...failures, `${count} tests, ${failures.length} failed`, ''].join('\n');
+// A pipe takes it in parts.
+process.stdout.write(said, () => process.exit(failures.length === 0 && count >= 30 ? 0 : 1));

@@ -1,8 +1,8 @@
-// The page example.html in a frame, in each engine: a key of 16 bytes, its steps, and base64.
+// The page example.html in a frame, in each engine.
 
 import assert from 'node:assert/strict';
 import { test } from 'node:test';
-import { KEK16 as KEK, KEY16 as KEY, WRAPPED16 as WRAPPED } from './vectors.mjs';
+import { KEK16 as KEK, KEK5649, KEY16 as KEY, KEY20, WRAPPED16 as WRAPPED, WRAPPED20 } from './vectors.mjs';
 
 // Waits until the condition holds, for ten seconds at most.
 async function until(holds, what) {
@@ -25,22 +25,27 @@ async function opened() {
     return { field, type };
 }
 
-test('the example page shows the steps of a wrap', async () => {
+test('the example page wraps, unwraps and checks a key, and says why it refuses one', async () => {
     const { field, type } = await opened();
-    type('kek', KEK);
-    type('text', KEY);
-    field('wrap').click();
-    assert.equal(field('answer').textContent, WRAPPED);
-    assert.equal(field('base64').textContent, 'H6aLCoEStEeu80vY+1p7gp0+hiNx0s/l');
-    await until(() => field('steps_told').textContent, 'the steps are shown');
-    const rows = Array.from(field('steps').tBodies[0].rows, (row) =>
-        Array.from(row.cells, (cell) => cell.textContent));
-    assert.equal(rows.length, 13);
-    // RFC 3394, section 4.1, prints each step; these are its first one and its last one.
-    assert.deepEqual(rows[0], ['0', 'a6a6a6a6a6a6a6a6', KEY.slice(0, 16), KEY.slice(16)]);
-    assert.deepEqual(rows[1], ['1', 'f4740052e82a2250', '74ce86fbd7b805e7', KEY.slice(16)]);
-    assert.deepEqual(rows[12], ['12', ...WRAPPED.match(/.{16}/g)]);
-    assert.ok(field('steps_told').textContent.startsWith('The same wrap'));
-    type('text', KEY.slice(2));
-    assert.equal(field('steps').hidden, true);
+    const done = (kek, text, button) => {
+        type('kek', kek);
+        type('text', text);
+        field(button).click();
+        return [field('told').textContent, field('answer').textContent, field('told').className === 'refused'];
+    };
+    assert.deepEqual(done(KEK, KEY, 'wrap'), ['Wrapped key, 24 bytes:', WRAPPED, false]);
+    const bytes = WRAPPED.match(/../g).map((digits) => parseInt(digits, 16));
+    assert.equal(field('base64').textContent, btoa(String.fromCharCode(...bytes)));
+    assert.deepEqual(done(KEK, WRAPPED, 'unwrap'), ['Key, 16 bytes:', KEY, false]);
+    const spaced = WRAPPED.toUpperCase().replace(/.{16}/g, '$& \t');
+    assert.deepEqual(done(KEK, spaced, 'check'), ['It is a wrapped key: plain, of 16 bytes.', '', false]);
+    for (const [kek, text, reason] of [
+        [KEK, `${WRAPPED.slice(0, -1)}4`, 'integrity check failed: no wrapped key under this KEK.'],
+        [KEK.slice(2), WRAPPED, 'the KEK is 15 bytes long; it must be 16, 24 or 32 bytes.'],
+        [KEK, '0g', 'the second field is not hex digits in pairs.'],
+    ]) {
+        assert.deepEqual(done(kek, text, 'unwrap'), [`Refused: ${reason}`, '', true]);
+    }
+    field('padded').click();
+    assert.deepEqual(done(KEK5649, KEY20, 'wrap'), ['Wrapped key, 32 bytes:', WRAPPED20, false]);
 });

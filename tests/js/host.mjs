@@ -16,9 +16,6 @@ const { resolve: resolved } = createRequire(import.meta.url);
 export const readModule = async () =>
     new Uint8Array(await readFile(resolved('keywrap/keywrap.wasm')));
 
-// A file of published cases, in the directory that the command line names. Without one it is empty.
-export const readTable = (name) => readFile(`${process.argv[2]}/${name}`, 'utf8').catch(() => '');
-
 // The same bytes, as a Uint8Array of another realm.
 export const inOtherRealm = (given) => runInNewContext('Uint8Array.from(given)', { given });
 

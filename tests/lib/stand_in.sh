@@ -7,10 +7,13 @@
 # shellcheck source=tests/lib/workdir.sh
 . "${BASH_SOURCE[0]%/*}/workdir.sh"
 
-mkdir -p 'a tree'/{bin,tmp,tests/library} && cd 'a tree' || exit
-cp -R "$root"/{.ci,keywrap,Makefile,c,command,packaging,scripts,python,docs,java} .
+mkdir -p 'a tree'/{bin,tmp,tests/library,crates} && cd 'a tree' || exit
+cp -R "$root"/{.ci,keywrap,Makefile,c,command,packaging,generate,scripts,python,docs,java} .
 cp -R "$root"/{js,dist} "$root"/{SECURITY,CHANGELOG}.md .
+rm -f dist/keywrap dist/keywrap.built_from
 cp "$root/tests/library/build.sh" tests/library
+# The completions are made of its tables.
+cp -R "$root/crates/keywrap_args" crates
 sed -i "1s|.*|#!${SH:-/bin/sh}|" keywrap
 # crates LINE..: writes crates.txt, and makes a directory for each crate that has none yet.
 crates() {
@@ -28,7 +31,7 @@ crates block_pair: 'aes_block: block_pair byteorder' 'keywrap_c staticlib: block
 echo 1.2.3-dev >VERSION
 program=crates/keywrap/out/keywrap archive=crates/keywrap_c/out/libkeywrap_c.a
 export tree=$PWD helpers=$root/tests/lib/expect.sh PATH=$PWD/bin:$PATH TMPDIR=$PWD/tmp TERM=xterm processors=4
-unset MAKEFLAGS MAKELEVEL TESTS KEYWRAP KEYWRAP_ARCHIVES KEYWRAP_BUILT KEYWRAP_JS KEYWRAP_ALL
+unset MAKEFLAGS MAKELEVEL TESTS KEYWRAP KEYWRAP_ARCHIVES KEYWRAP_BUILT KEYWRAP_ALL
 exec 9<&-
 
 # The fake rt and rattle: in the crates that the pattern $at names they run $event, with $launcher as the process above

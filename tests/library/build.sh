@@ -21,4 +21,4 @@ if [ ! -e "$1/llvm.a" ]; then
 fi
 [[ " $* " != *' arm64 '* ]] || [ -e "$1/arm64/built_from-aarch64-unknown-linux-gnu" ] || of_arm "$1/arm64"
 [[ " $* " != *' keywrap.wasm '* ]] || [ -e "$1/keywrap.wasm" ] ||
-    { ../../scripts/module.sh "$1/new.wasm" && mv "$1/new.wasm" "$1/keywrap.wasm"; } || rm -f "$1/new.wasm"
+    { ../../generate/module.sh "$1/new.wasm" && mv "$1/new.wasm" "$1/keywrap.wasm"; } || rm -f "$1/new.wasm"

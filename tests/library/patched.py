@@ -12,7 +12,7 @@ import pathlib
 import sys
 import tempfile
 
-sys.path.insert(0, str(pathlib.Path(__file__).resolve().parent.parent))
+sys.path.insert(0, str(pathlib.Path(__file__).resolve().parent.parent / "lib"))
 from vectors import (KEY20, KEY24_UNDER_24, KEY24_UNDER_32, KEY32_UNDER_32, KEY7, WRAPPED16, WRAPPED20, WRAPPED24,
                      WRAPPED32, WRAPPED7)
 

@@ -1,7 +1,7 @@
 /* main.c: compares OpenSSL's own provider with ours, which is keywrap.so in the directory.
  *
- * usage: provider DIRECTORY PART [COUNT|few]        (PART: lengths, sequences, parameters, refusals,
- * vectors; few: without the longest keys, since an emulator takes seconds for each) */
+ * usage: provider DIRECTORY PART [COUNT|few]        (PART: lengths, sequences, parameters, refusals;
+ * few: without the longest keys, since an emulator takes seconds for each) */
 
 #include <stdio.h>
 #include <stdlib.h>
@@ -17,7 +17,6 @@ int main(int argc, char **argv) {
     if (strcmp(part, "sequences") == 0) try_sequences((unsigned)atoi(argc > 3 ? argv[3] : "1000"));
     if (strcmp(part, "parameters") == 0) try_parameters();
     if (strcmp(part, "refusals") == 0) try_refusals(argc > 3);
-    if (strcmp(part, "vectors") == 0) try_vectors();
     unload_sides();
     printf("%u right, %u wrong\n", passed, failed);
     return failed != 0 || passed == 0;

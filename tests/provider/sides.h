@@ -75,6 +75,5 @@ void try_lengths(void);
 void try_sequences(unsigned count);
 void try_parameters(void);
 void try_refusals(int few);
-void try_vectors(void);
 
 #endif

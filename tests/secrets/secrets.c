@@ -3,18 +3,15 @@
  * a report. tests/test_secrets.py compiles it, runs it and reads what it prints: a line for each call
  * with the reports that no suppression took, over all KEK sizes and lengths of key. */
 
-#include <keywrap.h>
 #include <stdio.h>
 #include <stdlib.h>
-#include <string.h>
 #include <valgrind/memcheck.h>
 
 #include "one_table.h"
 
 enum { LONGEST = 1024, ROOM = LONGEST + 8, LONGEST_DAMAGED = 40 };
-
-/* One call on the bytes below, with a KEK and a key of these lengths. Returns its status. */
-typedef int32_t call(size_t kek_len, size_t len);
+#define PUBLIC(bytes) (void)VALGRIND_MAKE_MEM_DEFINED(bytes, sizeof bytes)
+#include "calls.h"
 
 #ifdef __aarch64__
 /* In this build the decision returns its outcome as a value, and its callers branch on it again.
@@ -39,156 +36,32 @@ struct outcome I_WRAP_SONAME_FNNAME_ZZ(NONE,
 }
 #endif
 
-static const uint8_t IV[8] = {0x01, 0x23, 0x45, 0x67, 0x89, 0xab, 0xcd, 0xef};
-
-static uint8_t kek[32], new_kek[32], key[ROOM], text[ROOM], out[2 * ROOM];
-static size_t out_len;
-static uint32_t forms, padded, already;
-
-static size_t padded_len(size_t len) {
-    return KEYWRAP_PADDED_TEXT_LEN(len);
+/* Puts the wrapped key where the calls in place and in slots take it. */
+static void put_text(void) {
+    for (size_t i = 1; i < slots; i++) memcpy(text + i * whole, text, whole);
+    memcpy(out, text, slots * whole);
 }
 
-static int32_t wrap(size_t kek_len, size_t len) {
-    return keywrap_wrap(kek, kek_len, key, len, out, len + 8);
-}
-
-static int32_t wrap_with(size_t kek_len, size_t len) {
-    return keywrap_wrap_with(kek, kek_len, IV, 8, key, len, out, len + 8);
-}
-
-static int32_t wrap_in_place(size_t kek_len, size_t len) {
-    memcpy(out + 8, key, len);
-    return keywrap_wrap_in_place(kek, kek_len, out, len + 8);
-}
-
-static int32_t wrap_padded(size_t kek_len, size_t len) {
-    return keywrap_wrap_padded(kek, kek_len, key, len, out, padded_len(len));
-}
-
-static int32_t wrap_padded_in_place(size_t kek_len, size_t len) {
-    memcpy(out + 8, key, len);
-    return keywrap_wrap_padded_in_place(kek, kek_len, out, padded_len(len), len);
-}
-
-static int32_t unwrap(size_t kek_len, size_t len) {
-    return keywrap_unwrap(kek, kek_len, text, len + 8, out, len);
-}
-
-static int32_t unwrap_with(size_t kek_len, size_t len) {
-    return keywrap_unwrap_with(kek, kek_len, IV, 8, text, len + 8, out, len);
-}
-
-static int32_t unwrap_in_place(size_t kek_len, size_t len) {
-    memcpy(out, text, len + 8);
-    return keywrap_unwrap_in_place(kek, kek_len, out, len + 8);
-}
-
-static int32_t unwrap_padded(size_t kek_len, size_t len) {
-    size_t room = padded_len(len) - 8;
-    return keywrap_unwrap_padded(kek, kek_len, text, room + 8, out, room, &out_len);
-}
-
-static int32_t unwrap_padded_in_place(size_t kek_len, size_t len) {
-    memcpy(out, text, padded_len(len));
-    return keywrap_unwrap_padded_in_place(kek, kek_len, out, padded_len(len), &out_len);
-}
-
-static int32_t kind(size_t kek_len, size_t len) {
-    return keywrap_kind(kek, kek_len, text, len + 8, out, len, &padded, &out_len);
-}
-
-static int32_t kind_padded(size_t kek_len, size_t len) {
-    size_t room = padded_len(len) - 8;
-    return keywrap_kind(kek, kek_len, text, room + 8, out, room, &padded, &out_len);
-}
-
-static int32_t unwrap_any(size_t kek_len, size_t len) {
-    size_t room = padded_len(len) - 8;
-    return keywrap_unwrap_any(kek, kek_len, text, room + 8, out, room, &padded, &out_len);
-}
-
-static int32_t rewrap_in_place(size_t kek_len, size_t len) {
-    size_t text_len = padded_len(len);
-    memcpy(out, text, text_len);
-    return keywrap_rewrap_in_place(kek, kek_len, new_kek, kek_len, out, text_len, forms);
-}
-
-static int32_t rewrap(size_t kek_len, size_t len) {
-    size_t text_len = padded_len(len);
-    memcpy(out, text, text_len);
-    return keywrap_rewrap(kek, kek_len, new_kek, kek_len, out, text_len, forms, &already);
-}
-
-/* The calls for many keys, with two slots. Returns the status of the second one. */
-static uint8_t statuses[2], slot_forms[2];
-static size_t slot_lens[2];
-
-static int32_t of_second(int32_t status) {
-    if (status != KEYWRAP_OK) return status;
-    (void)VALGRIND_MAKE_MEM_DEFINED(statuses, sizeof statuses);
-    return statuses[1] == KEYWRAP_ALREADY_NEW ? KEYWRAP_OK : statuses[1];
-}
-
-static void in_slots(const uint8_t *bytes, size_t at, size_t len, size_t slot_len) {
-    memcpy(out + at, bytes, len);
-    memcpy(out + slot_len + at, bytes, len);
-}
-
-static int32_t wrap_many(size_t kek_len, size_t len) {
-    const size_t slot = padded_len(len);
-    in_slots(key, 8, len, slot);
-    return of_second(keywrap_wrap_many(kek, kek_len, out, 2 * slot, len, forms, statuses, 2));
-}
-
-static int32_t unwrap_many(size_t kek_len, size_t len) {
-    const size_t slot = padded_len(len);
-    in_slots(text, 0, slot, slot);
-    return of_second(
-        keywrap_unwrap_many(kek, kek_len, out, 2 * slot, forms, slot_lens, 2, statuses, 2));
-}
-
-static int32_t kind_many(size_t kek_len, size_t len) {
-    static uint8_t texts[2 * ROOM];
-    const size_t slot = padded_len(len);
-    memcpy(texts, text, slot);
-    memcpy(texts + slot, text, slot);
-    return of_second(keywrap_kind_many(kek, kek_len, texts, 2 * slot, out, slot - 8, slot_forms, 2,
-                                       slot_lens, 2, statuses, 2));
-}
-
-static int32_t rewrap_many(size_t kek_len, size_t len) {
-    const size_t slot = padded_len(len);
-    in_slots(text, 0, slot, slot);
-    return of_second(keywrap_rewrap_many(kek, kek_len, new_kek, kek_len, out, 2 * slot, forms,
-                                         statuses, 2));
-}
-
-/* A wrapped key that is already under the new KEK. */
-static int32_t wrap_new(size_t kek_len, size_t len) {
-    return keywrap_wrap(new_kek, kek_len, key, len, out, len + 8);
-}
-
-static int32_t wrap_new_padded(size_t kek_len, size_t len) {
-    return keywrap_wrap_padded(new_kek, kek_len, key, len, out, padded_len(len));
+static void wrap_new_padded(void) {
+    status = keywrap_wrap_padded(new_kek, kek_len, key, key_len, out, text_len);
 }
 
 /* An AES that looks its tables up by secrets, to see that memcheck reports it. */
-static int32_t tables(size_t kek_len, size_t len) {
+static void tables(void) {
     struct one_table keys;
     one_table_schedule(&keys, kek, kek_len);
-    one_table_wrap(&keys, 0xA6A6A6A6A6A6A6A6u, key, len, out);
-    return KEYWRAP_OK;
+    one_table_wrap(&keys, 0xA6A6A6A6A6A6A6A6u, key, key_len, out);
+    status = KEYWRAP_OK;
 }
 
 /* The calls: which one makes the text that it takes, the lengths of its keys, the flags, and the
  * status if the text is not damaged. */
 static const struct watched {
     const char *name;
-    call *run, *prepare;
+    void (*run)(void), (*prepare)(void);
     size_t shortest, step, most;
     uint32_t forms;
-    int32_t status;
+    int32_t ends;
 } CALLS[] = {
     {"keywrap_wrap", wrap, NULL, 16, 8, LONGEST, 0, 0},
     {"keywrap_wrap_with", wrap_with, NULL, 16, 8, LONGEST, 0, 0},
@@ -201,7 +74,7 @@ static const struct watched {
     {"keywrap_unwrap_padded", unwrap_padded, wrap_padded, 1, 1, LONGEST, 0, 0},
     {"keywrap_unwrap_padded_in_place", unwrap_padded_in_place, wrap_padded, 1, 1, LONGEST, 0, 0},
     {"keywrap_kind", kind, wrap, 16, 8, LONGEST, 0, 0},
-    {"keywrap_kind, padded", kind_padded, wrap_padded, 1, 1, LONGEST, 0, 0},
+    {"keywrap_kind, padded", kind, wrap_padded, 1, 1, LONGEST, 0, 0},
     {"keywrap_unwrap_any", unwrap_any, wrap, 16, 8, LONGEST, 0, 0},
     {"keywrap_unwrap_any, padded", unwrap_any, wrap_padded, 1, 1, LONGEST, 0, 0},
     {"keywrap_rewrap_in_place", rewrap_in_place, wrap, 16, 8, LONGEST, 0, 0},
@@ -253,22 +126,28 @@ static void mark(int undefined) {
 
 /* The reports of one call on secret bytes. The same call on bytes that are not secret must have the
  * same result. With damage the text fails its integrity check. */
-static unsigned reports(const struct watched *watched, size_t kek_len, size_t len, int damage) {
+static unsigned reports(const struct watched *watched, size_t of_kek, size_t of_key, int damage) {
     static uint8_t expected[2 * ROOM];
-    int32_t wanted = damage ? KEYWRAP_INTEGRITY : watched->status;
+    int32_t wanted = damage ? KEYWRAP_INTEGRITY : watched->ends;
     forms = watched->forms;
+    slots = 2;
+    set_lengths(of_kek, of_key);
     mark(0);
     if (watched->prepare) {
-        if (watched->prepare(kek_len, len) != KEYWRAP_OK) exit(2);
-        memcpy(text, out, sizeof text);
+        watched->prepare();
+        if (status != KEYWRAP_OK) exit(2);
+        memcpy(text, out, whole);
     }
     if (damage) text[0] ^= 1;
-    if (watched->run(kek_len, len) != wanted) exit(2);
+    watched->prepare ? put_text() : put_key();
+    watched->run();
+    if (status != wanted) exit(2);
     memcpy(expected, out, sizeof expected);
 
     mark(1);
+    watched->prepare ? put_text() : put_key();
     unsigned before = (unsigned)VALGRIND_COUNT_ERRORS;
-    int32_t status = watched->run(kek_len, len);
+    watched->run();
     unsigned found = (unsigned)VALGRIND_COUNT_ERRORS - before;
     (void)VALGRIND_MAKE_MEM_DEFINED(&status, sizeof status);
     (void)VALGRIND_MAKE_MEM_DEFINED(out, sizeof out);
@@ -279,10 +158,10 @@ static unsigned reports(const struct watched *watched, size_t kek_len, size_t le
 /* Watches a call with all lengths of KEK and keys of up to this length, and prints its line. */
 static void watch(const struct watched *watched, size_t longest, int damage) {
     unsigned found = 0, calls = 0;
-    for (size_t kek_len = 16; kek_len <= 32; kek_len += 8)
+    for (size_t of_kek = 16; of_kek <= 32; of_kek += 8)
         for (size_t len = watched->shortest; len <= longest && len <= watched->most;
              len += watched->step, calls++)
-            found += reports(watched, kek_len, len, damage);
+            found += reports(watched, of_kek, len, damage);
     printf("%s%s: %u reports in %u calls\n", watched->name, damage ? ", damaged" : "", found, calls);
     fflush(stdout);
 }
@@ -292,6 +171,7 @@ int main(int argc, char **argv) {
     size_t longest = argc == 2 ? strtoul(argv[1], NULL, 10) : 0;
     if (longest < 16 || longest > LONGEST || !RUNNING_ON_VALGRIND) return 64;
     one_table_start();
+    memcpy(iv, "keywrap", sizeof iv);
     for (size_t i = 0; i < sizeof kek; i++) {
         kek[i] = (uint8_t)(7 * i + 1);
         new_kek[i] = (uint8_t)(5 * i + 2);

@@ -8,13 +8,13 @@
 
 #define _XOPEN_SOURCE 700
 
-#include <keywrap.h>
 #include <stdio.h>
 #include <stdlib.h>
-#include <string.h>
 #include <ucontext.h>
 
-enum { STACK = 1 << 16, KEY_LEN = 32, TEXT_LEN = KEY_LEN + 8 };
+enum { STACK = 1 << 16, KEY_LEN = 32, ROOM = KEY_LEN + 8 };
+#define PUBLIC(bytes) (void)(bytes)
+#include "calls.h"
 
 /* The ways in which a call ends, each with its status. */
 enum way { DONE, DAMAGED, BAD_IV, BAD_KEK, BAD_NEW_KEK, SHORT, BAD_FLAGS, BAD_KEY, NOT_PLAIN, WAYS };
@@ -34,32 +34,6 @@ static const struct {
     {"not_plain", KEYWRAP_KEY_NOT_PLAIN},
 };
 
-static uint8_t kek[32], new_kek[32], key[TEXT_LEN], text[TEXT_LEN], out[TEXT_LEN];
-static uint8_t iv[8];
-static size_t kek_len, new_kek_len, text_len, key_len, out_len;
-static uint32_t forms, padded, already;
-static int32_t status;
-
-static void wrap(void) {
-    status = keywrap_wrap(kek, kek_len, key, KEY_LEN, out, text_len);
-}
-
-static void wrap_with(void) {
-    status = keywrap_wrap_with(kek, kek_len, iv, 8, key, KEY_LEN, out, text_len);
-}
-
-static void wrap_in_place(void) {
-    status = keywrap_wrap_in_place(kek, kek_len, out, text_len);
-}
-
-static void wrap_padded(void) {
-    status = keywrap_wrap_padded(kek, kek_len, key, key_len, out, text_len);
-}
-
-static void wrap_padded_in_place(void) {
-    status = keywrap_wrap_padded_in_place(kek, kek_len, out, text_len, key_len);
-}
-
 static void wrap_short(void) {
     status = keywrap_wrap_padded(kek, kek_len, key, 8, out, 16);
 }
@@ -68,86 +42,14 @@ static void wrap_short_in_place(void) {
     status = keywrap_wrap_padded_in_place(kek, kek_len, out, 16, 8);
 }
 
-static void unwrap(void) {
-    status = keywrap_unwrap(kek, kek_len, text, text_len, out, KEY_LEN);
-}
-
-static void unwrap_with(void) {
-    status = keywrap_unwrap_with(kek, kek_len, iv, 8, text, text_len, out, KEY_LEN);
-}
-
-static void unwrap_in_place(void) {
-    status = keywrap_unwrap_in_place(kek, kek_len, out, text_len);
-}
-
-static void unwrap_padded(void) {
-    status = keywrap_unwrap_padded(kek, kek_len, text, text_len, out, KEY_LEN, &out_len);
-}
-
-static void unwrap_padded_in_place(void) {
-    status = keywrap_unwrap_padded_in_place(kek, kek_len, out, text_len, &out_len);
-}
-
-/* The wrong length is the scratch buffer's. */
-static void kind(void) {
-    status = keywrap_kind(kek, kek_len, text, TEXT_LEN, out, text_len - 8, &padded, &out_len);
-}
-
-/* The wrong length is the key's buffer's. */
-static void unwrap_any(void) {
-    status = keywrap_unwrap_any(kek, kek_len, text, TEXT_LEN, out, text_len - 8, &padded, &out_len);
-}
-
-static void rewrap_in_place(void) {
-    status = keywrap_rewrap_in_place(kek, kek_len, new_kek, new_kek_len, out, text_len, forms);
-}
-
-static void rewrap(void) {
-    status = keywrap_rewrap(kek, kek_len, new_kek, new_kek_len, out, text_len, forms, &already);
-}
-
-/* The calls for many keys, with one slot, and the status of the slot. */
-static uint8_t slot_status, slot_form;
-
-static int32_t of_slot(int32_t answer) {
-    if (answer != KEYWRAP_OK) return answer;
-    return slot_status == KEYWRAP_ALREADY_NEW ? KEYWRAP_OK : slot_status;
-}
-
-static void wrap_many(void) {
-    status = of_slot(
-        keywrap_wrap_many(kek, kek_len, out, text_len, KEY_LEN, forms, &slot_status, 1));
-}
-
-static void unwrap_many(void) {
-    status = of_slot(keywrap_unwrap_many(kek, kek_len, out, text_len, forms, &out_len, 1,
-                                         &slot_status, 1));
-}
-
-static void kind_many(void) {
-    status = of_slot(keywrap_kind_many(kek, kek_len, text, TEXT_LEN, out, text_len - 8, &slot_form,
-                                       1, &out_len, 1, &slot_status, 1));
-}
-
-static void rewrap_many(void) {
-    status = of_slot(keywrap_rewrap_many(kek, kek_len, new_kek, new_kek_len, out, text_len, forms,
-                                         &slot_status, 1));
-}
-
 /* With a text under the old KEK beside it: the steps of the two are made apart. */
 static void rewrap_two(void) {
     static uint8_t two[128];
-    uint8_t statuses[2];
     memcpy(two, out, text_len);
     status = keywrap_wrap(kek, kek_len, key, KEY_LEN, two + text_len, text_len);
     if (status != KEYWRAP_OK) return;
     status = keywrap_rewrap_many(kek, kek_len, new_kek, kek_len, two, 2 * text_len, forms, statuses, 2);
     if (statuses[0] != KEYWRAP_ALREADY_NEW || statuses[1] != KEYWRAP_OK) status = KEYWRAP_INTEGRITY;
-}
-
-/* A text that is new already. */
-static void wrap_new(void) {
-    status = keywrap_wrap(new_kek, kek_len, key, KEY_LEN, out, text_len);
 }
 
 static void self_test(void) {
@@ -222,15 +124,14 @@ static ucontext_t start;
 
 /* The arguments of a call that is done, and the text that it takes. */
 static void prepare(const struct watched *watched, enum way way, size_t len) {
-    kek_len = new_kek_len = len;
-    text_len = TEXT_LEN;
-    key_len = way == BAD_KEY || way == NOT_PLAIN ? KEY_LEN - 1 : KEY_LEN;
+    set_lengths(len, way == BAD_KEY || way == NOT_PLAIN ? KEY_LEN - 1 : KEY_LEN);
+    slots = 1;
     forms = watched->forms;
     memset(iv, 1, sizeof iv);
-    memcpy(out + 8, key, KEY_LEN);
+    put_key();
     if (watched->prepare) {
         watched->prepare();
-        memcpy(text, out, sizeof text);
+        memcpy(text, out, whole);
     }
 }
 

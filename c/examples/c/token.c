@@ -90,33 +90,6 @@ static void plain(void) {
     puts("plain: unwrapped");
 }
 
-/* A key of 20 bytes is wrapped with padding and unwrapped, and a changed bit is found. */
-static void padded(void) {
-    uint8_t key[20], wrapped[8 + 24], changed[8 + 24], block[16];
-    uint64_t done, left;
-    size_t len;
-    for (size_t i = 0; i < sizeof key; i++) key[i] = (uint8_t)(5 * i + 2);
-    memcpy(wrapped + 8, key, sizeof key);
-    must(keywrap_begin_wrap_padded(20, wrapped + 8, 24, &done, block) == KEYWRAP_OK, "begin");
-    finish_wrap(wrapped, 24, block);
-    memcpy(changed, wrapped, sizeof changed);
-    changed[31] ^= 1;
-
-    must(keywrap_begin_unwrap_padded(wrapped, wrapped + 8, 24, &left, block) == KEYWRAP_OK,
-         "begin");
-    run_steps(kek, 1, wrapped + 8, 24, &left, block);
-    must(keywrap_end_unwrap_padded(wrapped + 8, 24, left, block, &len) == KEYWRAP_OK, "integrity");
-    must(len == 20 && !memcmp(wrapped + 8, key, 20), "another key");
-    puts("padded: wrapped and unwrapped");
-
-    must(keywrap_begin_unwrap_padded(changed, changed + 8, 24, &left, block) == KEYWRAP_OK,
-         "begin");
-    run_steps(kek, 1, changed + 8, 24, &left, block);
-    must(keywrap_end_unwrap_padded(changed + 8, 24, left, block, &len) == KEYWRAP_INTEGRITY,
-         "taken");
-    puts("padded: a changed bit is refused");
-}
-
 /* Rewraps a text. Which steps come next, and under which KEK, is in the phase. */
 static int32_t rewrap(uint8_t *text, size_t text_len, uint32_t flags) {
     uint8_t block[16];
@@ -195,7 +168,6 @@ int main(int argc, char **argv) {
     kek = generate();
     new_kek = generate();
     plain();
-    padded();
     rewrapped();
     token->C_Finalize(NULL);
     return 0;

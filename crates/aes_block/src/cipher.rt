@@ -6,8 +6,8 @@
 ghost use Rattle.std.specs.Prelude.{◌≡◌};
 ghost use Rattle.fips197.specs.Rounds.{add_round_key};
 ghost use Rattle.fips197.specs.Rounds.{inv_mix_columns, inv_shift_rows, inv_sub_bytes};
-ghost use Rattle.fips197.specs.Cipher.{round, last_round, cipher, inv_cipher};
-ghost use Rattle.fips197.specs.CipherLaw.{cipher_inverse};
+ghost use Rattle.fips197.specs.Cipher.{round, last_round, cipher_by, inv_cipher_by};
+ghost use Rattle.fips197.specs.CipherLaw.{cipher_by_inverse};
 ghost use Rattle.fips197.specs.Words.{block_of};
 
 use crate::columns::{
@@ -17,9 +17,9 @@ use crate::schedule::Aes;
 use block_pair::BlockPair;
 
 impl BlockPair for Aes {
-    ghost encrypted = { cipher };
+    ghost encrypted = { cipher_by };
 
-    ghost decrypted = { inv_cipher };
+    ghost decrypted = { inv_cipher_by };
 
     // Cipher (FIPS 197, 5.1).
     fn enc(&self, b: [u8; 16]) -> [u8; 16] {
@@ -45,7 +45,7 @@ impl BlockPair for Aes {
         block_of(inv_last_round(self.round_key(0), state))
     }
 
-    ghost lawful = { cipher_inverse };
+    ghost lawful = { cipher_by_inverse };
 }
 
 // AddRoundKey (FIPS 197, 5.1.4).

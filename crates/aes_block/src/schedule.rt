@@ -1,16 +1,17 @@
 //! The key schedule (FIPS 197, section 5.2).
 
 ghost use Rattle.std.specs.Prelude.{◌≡◌, ◌≤◌, ◌+◌, ◌*◌, length, take};
-ghost use Rattle.fips197.specs.Keyed.{IsRoundCount, MakesAes};
+ghost use Rattle.fips197.specs.Keyed.{HasRounds, MakesAes};
+ghost use Rattle.fips197.specs.ScheduleBytes.{LoadsAes};
 ghost use Rattle.fips197.specs.Words.{block_of};
-ghost use Rattle.fips197.specs.KeyExpansion.{IsKekLength, key_expansion, round_key, rounds_of};
+ghost use Rattle.fips197.specs.KeyExpansion.{IsKekLength, key_expansion, rounds_of};
+ghost use Rattle.fips197.specs.KeyExpansion.{round_key, rounds_in};
 
 use crate::sbox;
-use fips197::{BadKekLength, MAX_WORDS, SubWord, expand_key};
+use fips197::{BadKekLength, MAX_WORDS, SubWord, expand_key, read_schedule};
 use std::marker::Model;
 
-/// AES under one key, with the key's schedule. Contracts see it as the key: a list of 16, 24 or 32
-/// bytes.
+/// AES under one key. Contracts see it as the key's schedule: a list of 44, 52 or 60 words.
 #[derive(Drop)]
 pub struct Aes {
     // Words past the last round key are not used.
@@ -19,15 +20,14 @@ pub struct Aes {
 }
 
 impl Model for Aes {
-    ghost use Rattle.std.specs.Prelude.{ℕ, List};
-    ghost use Rattle.fips197.specs.Words.{key_of};
-    ghost use Rattle.aes_block.specs.Schedule.{IsSchedule};
+    ghost use Rattle.std.specs.Prelude.{ℕ, ◌+◌, ◌*◌, List, take};
+    ghost use Rattle.fips197.specs.Keyed.{HasRounds};
 
     ghost Value = { List ℕ };
 
-    ghost view = { λ a. key_of a.rounds a.schedule };
+    ghost view = { λ a. take (4 * (a.rounds + 1)) a.schedule };
 
-    ghost invariant = { λ a. IsSchedule a.rounds a.schedule };
+    ghost invariant = { λ a. HasRounds (take (4 * (a.rounds + 1)) a.schedule) a.rounds };
 }
 
 impl Aes {
@@ -47,16 +47,27 @@ impl Aes {
         })
     }
 
+    /// AES by a key schedule that `KeyInit::expand` wrote: 176, 208 or 240 bytes.
+    pub fn from_schedule(bytes: &[u8]) -> Option<Aes>
+        ensures { LoadsAes bytes.now result }
+    {
+        let mut schedule = [0; MAX_WORDS];
+        match read_schedule(bytes, &mut schedule) {
+            Some(rounds) => Some(Aes { schedule, rounds }),
+            None => None,
+        }
+    }
+
     /// How many rounds the cipher has under this key: 10, 12 or 14 (FIPS 197, 5, table 3).
     pub fn rounds(&self) -> u8
-        ensures { IsRoundCount self.now result }
+        ensures { HasRounds self.now result }
     {
         self.rounds
     }
 
     // Round key `k`: its four columns.
     pub(crate) fn round_key(&self, k: usize) -> [u32; 4]
-        requires { k ≤ rounds_of self.now }
+        requires { k ≤ rounds_in self.now }
         ensures { block_of result ≡ round_key self.now k }
     {
         let words = &self.schedule;
@@ -80,7 +91,7 @@ fn expand(kek: &[u8]) -> [u32; MAX_WORDS]
 }
 
 // SubWord by the table of the S-box.
-struct ByTable;
+pub(crate) struct ByTable;
 
 impl SubWord for ByTable {
     fn sub_word(word: u32) -> u32 {

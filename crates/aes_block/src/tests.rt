@@ -4,7 +4,7 @@ ghost use Rattle.std.specs.Prelude.{◌≡◌};
 ghost use Rattle.fips197.specs.Field.{inverse, product};
 ghost use Rattle.fips197.specs.SBox.{inv_s_box, s_box};
 
-use crate::{Aes, BadKekLength};
+use crate::{Aes, BadKekLength, KeyInit};
 use block_pair::BlockPair;
 use std::test::Fail;
 
@@ -14,6 +14,10 @@ const KEY: [u8; 16] = *b"\x2B\x7E\x15\x16\x28\xAE\xD2\xA6\xAB\xF7\x15\x88\x09\xC
 const PLAINTEXT: [u8; 16] = *b"\x32\x43\xF6\xA8\x88\x5A\x30\x8D\x31\x31\x98\xA2\xE0\x37\x07\x34";
 
 const CIPHERTEXT: [u8; 16] = *b"\x39\x25\x84\x1D\x02\xDC\x09\xFB\xDC\x11\x85\x97\x19\x6A\x0B\x32";
+
+// FIPS 197, appendix A.1: the last round key of KEY.
+const LAST_ROUND_KEY: [u8; 16] =
+    *b"\xD0\x14\xF9\xA8\xC9\xEE\x25\x89\xE1\x3F\x0C\xC8\xB6\x63\x0C\xA6";
 
 // FIPS 197, appendix C, whose keys are the first 16, 24 and 32 of these bytes.
 const KEYS: [u8; 32] = *b"\x00\x01\x02\x03\x04\x05\x06\x07\x08\x09\x0A\x0B\x0C\x0D\x0E\x0F\
@@ -53,6 +57,16 @@ fn answers_the_standards_vectors(rt: HostRuntime) {
         assert_eq!(rt; aes.enc(plaintext), ciphertext, "under {} bytes", key.len());
         assert_eq!(rt; aes.dec(ciphertext), plaintext, "under {} bytes", key.len());
     }
+}
+
+#[test]
+fn a_written_schedule_is_the_standards(rt: HostRuntime) {
+    let mut schedule = [0; 176];
+    assert!(rt; Aes::expand(&KEY, (), &mut schedule).is_ok());
+    assert!(rt; schedule.ends_with(&LAST_ROUND_KEY));
+    let aes = Aes::from_schedule(&schedule).expect(&rt, "a legal length");
+    assert_eq!(rt; aes.enc(PLAINTEXT), CIPHERTEXT);
+    assert_eq!(rt; aes.dec(CIPHERTEXT), PLAINTEXT);
 }
 
 #[test]

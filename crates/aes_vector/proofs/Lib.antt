@@ -2,7 +2,7 @@
 pub mod Adding
 pub mod Computed
 pub mod EveryByte
-pub mod FirstBlocks
+pub mod KeptWords
 pub mod KeyForms
 pub mod Mixing
 pub mod ZeroSchedules

@@ -1,7 +1,7 @@
 //! The cipher and the inverse cipher: AES as a block permutation.
 
-ghost use Rattle.fips197.specs.Cipher.{cipher, inv_cipher};
-ghost use Rattle.fips197.specs.CipherLaw.{cipher_inverse};
+ghost use Rattle.fips197.specs.Cipher.{cipher_by, inv_cipher_by};
+ghost use Rattle.fips197.specs.CipherLaw.{cipher_by_inverse};
 
 use crate::lanes::{bytes_of, vector_of};
 use crate::lent::LentAes;
@@ -10,9 +10,9 @@ use crate::rounds::{first_state, inv_first_state, inv_last_round, inv_round, las
 use block_pair::BlockPair;
 
 impl<'a> BlockPair for LentAes<'a> {
-    ghost encrypted = { cipher };
+    ghost encrypted = { cipher_by };
 
-    ghost decrypted = { inv_cipher };
+    ghost decrypted = { inv_cipher_by };
 
     // Cipher (FIPS 197, 5.1).
     #[inline(always)]
@@ -39,13 +39,13 @@ impl<'a> BlockPair for LentAes<'a> {
         bytes_of(inv_last_round(rows, self.last_dec_key(), state))
     }
 
-    ghost lawful = { cipher_inverse };
+    ghost lawful = { cipher_by_inverse };
 }
 
 impl BlockPair for VectorAes {
-    ghost encrypted = { cipher };
+    ghost encrypted = { cipher_by };
 
-    ghost decrypted = { inv_cipher };
+    ghost decrypted = { inv_cipher_by };
 
     #[inline(always)]
     fn enc(&self, b: [u8; 16]) -> [u8; 16] {
@@ -57,5 +57,5 @@ impl BlockPair for VectorAes {
         self.lent().dec(b)
     }
 
-    ghost lawful = { cipher_inverse };
+    ghost lawful = { cipher_by_inverse };
 }

@@ -1,12 +1,14 @@
 //! Round keys in the forms in which the rounds take them.
 
-ghost use Rattle.std.specs.Prelude.{◌≡◌, ◌≤◌, ◌<◌, ℕ, map};
+ghost use Rattle.std.specs.Prelude.{◌≡◌, ◌≤◌, ◌+◌, ◌*◌, map, take};
+ghost use Rattle.fips197.specs.KeyExpansion.{round_key};
+ghost use Rattle.fips197.specs.Keyed.{IsRoundCount};
 ghost use Rattle.fips197.specs.Words.{block_of};
 ghost use Rattle.fips197.specs.Rounds.{inv_mix_columns};
 ghost use Rattle.aes_vector.specs.Tables.{linear};
 ghost use Rattle.aes_vector.specs.Tower.{affine_element, key_byte};
 ghost use Rattle.aes_vector.specs.VectorSchedule.{IsFirstKey, IsLastKey, IsMiddleKey};
-ghost use Rattle.aes_vector.specs.VectorSchedule.{key_at, key_block};
+ghost use Rattle.aes_vector.specs.VectorSchedule.{IsVectorSchedule, words_of};
 
 use crate::lanes::{linear, vector_of};
 use crate::rows::{turned_1, turned_2, turned_3};
@@ -28,12 +30,9 @@ pub(crate) struct RoundKey {
 // The round keys of a schedule, into `keys`. Those past the last stay.
 #[inline(always)]
 pub(crate) fn round_keys(words: &[u32; MAX_WORDS], rounds: usize, keys: &mut [RoundKey; MAX_KEYS])
-    requires some { 1 ≤ rounds }
-    requires within { rounds ≤ 14 }
-    ensures first { IsFirstKey (key_at keys.new 0) (key_block words.now 0) }
-    ensures middle { (k : ℕ) → 0 < k → k < rounds
-        → IsMiddleKey (key_at keys.new k) (key_block words.now k) }
-    ensures last { IsLastKey (key_at keys.new rounds) (key_block words.now rounds) }
+    requires { IsRoundCount rounds }
+    ensures schedule { IsVectorSchedule rounds keys.new }
+    ensures words { words_of rounds keys.new ≡ take (4 * (rounds + 1)) words.now }
 {
     keys[0] = first_key(key_block(words, 0));
     for k in 1..rounds {
@@ -105,7 +104,7 @@ fn inv_mixed(key: u8x16) -> u8x16
 #[inline(always)]
 fn key_block(words: &[u32; MAX_WORDS], k: usize) -> u8x16
     requires { k ≤ 14 }
-    ensures { result ≡ key_block words.now k }
+    ensures { result ≡ round_key words.now k }
 {
     vector_of(&block_of([
         words[4 * k],

@@ -1,22 +1,23 @@
 //! AES under one key, in a buffer that is lent, and its round keys.
 
 ghost use Rattle.std.specs.Prelude.{◌≡◌, ◌<◌, map};
-ghost use Rattle.fips197.specs.Keyed.{IsRoundCount, MakesAes};
-ghost use Rattle.fips197.specs.KeyExpansion.{round_key, rounds_of};
+ghost use Rattle.fips197.specs.Keyed.{HasRounds, MakesAes};
+ghost use Rattle.fips197.specs.ScheduleBytes.{LoadsAes};
+ghost use Rattle.fips197.specs.KeyExpansion.{round_key, rounds_in};
 ghost use Rattle.fips197.specs.Rounds.{inv_mix_columns};
 ghost use Rattle.aes_vector.specs.Tower.{affine_element, key_byte, last_key_byte};
 
 use crate::key_schedule::KeySchedule;
-use crate::keys::{MAX_KEYS, RoundKey};
+use crate::keys::{MAX_KEYS, RoundKey, round_keys};
 use crate::rows::InvRows;
 use crate::schedule::fill;
 use crate::tables::{INV_ROWS_0, INV_ROWS_1, INV_ROWS_2, INV_ROWS_3};
-use fips197::BadKekLength;
+use fips197::{BadKekLength, read_schedule};
 use std::marker::Model;
 use std::simd::prelude::*;
 
 /// AES under one key, with its schedule in a buffer of the caller, who clears it afterwards.
-/// Contracts see it as the key, like `VectorAes`.
+/// Contracts see it as the words of the schedule, like `VectorAes`.
 #[derive(Drop)]
 pub struct LentAes<'a> {
     // Those past the rounds are not used.
@@ -26,11 +27,11 @@ pub struct LentAes<'a> {
 
 impl<'a> Model for LentAes<'a> {
     ghost use Rattle.std.specs.Prelude.{ℕ, List};
-    ghost use Rattle.aes_vector.specs.VectorSchedule.{IsVectorSchedule, key_of};
+    ghost use Rattle.aes_vector.specs.VectorSchedule.{IsVectorSchedule, words_of};
 
     ghost Value = { List ℕ };
 
-    ghost view = { λ a. key_of a.rounds a.keys.now };
+    ghost view = { λ a. words_of a.rounds a.keys.now };
 
     ghost invariant = { λ a. IsVectorSchedule a.rounds a.keys.now };
 }
@@ -50,9 +51,26 @@ impl<'a> LentAes<'a> {
         })
     }
 
+    /// Returns AES by a key schedule that `KeyInit::expand` wrote, with its round keys in this buffer.
+    /// Fails unless it is 176, 208 or 240 bytes long.
+    pub fn from_schedule(bytes: &[u8], schedule: &'a mut KeySchedule) -> Option<LentAes<'a>>
+        ensures { LoadsAes bytes.now result }
+    {
+        match read_schedule(bytes, &mut schedule.words) {
+            Some(rounds) => {
+                round_keys(&schedule.words, rounds as usize, &mut schedule.keys);
+                Some(LentAes {
+                    keys: &schedule.keys,
+                    rounds,
+                })
+            }
+            None => None,
+        }
+    }
+
     /// How many rounds the cipher has under this key: 10, 12 or 14 (FIPS 197, 5, table 3).
     pub fn rounds(&self) -> u8
-        ensures { IsRoundCount self.now result }
+        ensures { HasRounds self.now result }
     {
         self.rounds
     }
@@ -70,7 +88,7 @@ impl<'a> LentAes<'a> {
     #[inline(always)]
     pub(crate) fn enc_key(&self, k: usize) -> u8x16
         requires some { 0 < k }
-        requires within { k < rounds_of self.now }
+        requires within { k < rounds_in self.now }
         ensures { map key_byte result ≡ round_key self.now k }
     {
         let keys = &self.keys;
@@ -80,7 +98,7 @@ impl<'a> LentAes<'a> {
     // The last round key, with which the cipher ends.
     #[inline(always)]
     pub(crate) fn last_enc_key(&self) -> u8x16
-        ensures { map last_key_byte result ≡ round_key self.now (rounds_of self.now) }
+        ensures { map last_key_byte result ≡ round_key self.now (rounds_in self.now) }
     {
         let keys = &self.keys;
         keys[self.rounds as usize].enc
@@ -89,7 +107,7 @@ impl<'a> LentAes<'a> {
     // The last round key, with which the inverse cipher begins.
     #[inline(always)]
     pub(crate) fn first_dec_key(&self) -> u8x16
-        ensures { map affine_element result ≡ round_key self.now (rounds_of self.now) }
+        ensures { map affine_element result ≡ round_key self.now (rounds_in self.now) }
     {
         let keys = &self.keys;
         keys[self.rounds as usize].dec
@@ -99,7 +117,7 @@ impl<'a> LentAes<'a> {
     #[inline(always)]
     pub(crate) fn dec_key(&self, k: usize) -> u8x16
         requires some { 0 < k }
-        requires within { k < rounds_of self.now }
+        requires within { k < rounds_in self.now }
         ensures { map affine_element result ≡ inv_mix_columns (round_key self.now k) }
     {
         let keys = &self.keys;

@@ -1,7 +1,7 @@
 //! AES under one key, with the memory for its round keys.
 
 ghost use Rattle.std.specs.Prelude.{◌≡◌};
-ghost use Rattle.fips197.specs.Keyed.{IsRoundCount, MakesAes};
+ghost use Rattle.fips197.specs.Keyed.{HasRounds, MakesAes};
 
 use crate::key_schedule::no_keys;
 use crate::keys::{MAX_KEYS, RoundKey};
@@ -10,8 +10,8 @@ use crate::schedule::fill;
 use fips197::{BadKekLength, MAX_WORDS};
 use std::marker::Model;
 
-/// AES under one key, with the key's schedule in both directions. Contracts see it as the key: a
-/// list of 16, 24 or 32 bytes.
+/// AES under one key, with the key's schedule in both directions. Contracts see it as the schedule:
+/// a list of 44, 52 or 60 words.
 #[derive(Drop)]
 pub struct VectorAes {
     // Those past the rounds are not used.
@@ -21,11 +21,11 @@ pub struct VectorAes {
 
 impl Model for VectorAes {
     ghost use Rattle.std.specs.Prelude.{ℕ, List};
-    ghost use Rattle.aes_vector.specs.VectorSchedule.{IsVectorSchedule, key_of};
+    ghost use Rattle.aes_vector.specs.VectorSchedule.{IsVectorSchedule, words_of};
 
     ghost Value = { List ℕ };
 
-    ghost view = { λ a. key_of a.rounds a.keys };
+    ghost view = { λ a. words_of a.rounds a.keys };
 
     ghost invariant = { λ a. IsVectorSchedule a.rounds a.keys };
 }
@@ -45,7 +45,7 @@ impl VectorAes {
 
     /// How many rounds the cipher has under this key: 10, 12 or 14 (FIPS 197, 5, table 3).
     pub fn rounds(&self) -> u8
-        ensures { IsRoundCount self.now result }
+        ensures { HasRounds self.now result }
     {
         self.rounds
     }

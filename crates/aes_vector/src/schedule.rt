@@ -2,8 +2,8 @@
 
 ghost use Rattle.std.specs.Prelude.{◌≡◌, ◌*◌, ◌↔◌, length};
 ghost use Rattle.std.specs.Prelude.{IsOk, IsErr, IfOk};
-ghost use Rattle.fips197.specs.KeyExpansion.{IsKekLength};
-ghost use Rattle.aes_vector.specs.VectorSchedule.{IsVectorSchedule, key_of};
+ghost use Rattle.fips197.specs.KeyExpansion.{IsKekLength, key_expansion};
+ghost use Rattle.aes_vector.specs.VectorSchedule.{IsVectorSchedule, words_of};
 
 use crate::expansion::ByShuffles;
 use crate::keys::{MAX_KEYS, RoundKey, round_keys};
@@ -18,7 +18,7 @@ pub(crate) fn fill(
     ensures accepted { IsOk result ↔ IsKekLength (length kek.now) }
     ensures refused { IsErr result ↔ ¬ IsKekLength (length kek.now) }
     ensures schedule { IfOk result (λ rounds. IsVectorSchedule rounds keys.new) }
-    ensures key { IfOk result (λ rounds. key_of rounds keys.new ≡ kek.now) }
+    ensures words { IfOk result (λ rounds. words_of rounds keys.new ≡ key_expansion kek.now) }
     ensures kept { IsErr result → (keys.new ≡ keys.old) × (words.new ≡ words.old) }
 {
     match kek.len() {
@@ -29,7 +29,7 @@ pub(crate) fn fill(
     }
 }
 
-// The same for a key of so many words.
+// The same for a key of `key_words` words.
 #[inline(always)]
 fn with_words(
     kek: &[u8],
@@ -40,7 +40,7 @@ fn with_words(
     requires legal { IsKekLength (length kek.now) }
     requires words { length kek.now ≡ 4 * key_words }
     ensures schedule { IsVectorSchedule result keys.new }
-    ensures key { key_of result keys.new ≡ kek.now }
+    ensures words { words_of result keys.new ≡ key_expansion kek.now }
 {
     let rounds = key_words + 6;
     expand_key::<ByShuffles>(kek, key_words, words);

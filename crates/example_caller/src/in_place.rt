@@ -2,7 +2,7 @@
 
 ghost use Rattle.std.specs.Prelude.{◌≡◌, ◌↔◌, ℕ, List, length, drop, All, Err, IfOk, IsOk};
 ghost use Rattle.std.specs.Prelude.{IsOkUnless};
-ghost use Rattle.aes_block.specs.Cipher.{cipher};
+ghost use Rattle.aes_block.specs.Cipher.{cipher_by};
 ghost use Rattle.key_wrap.specs.BlockCalls.{block_calls};
 ghost use Rattle.key_wrap.specs.Lengths.{IsPlainTextLength};
 ghost use Rattle.key_wrap.specs.Plain.{Plain, default_iv};
@@ -18,7 +18,7 @@ pub fn wrap_here(aes: &Aes, buffer: &mut [u8]) -> Result<u64, InPlaceFault>
         ↔ ¬ IsPlainTextLength (length buffer.old) }
     ensures only_fault { IsOkUnless result InPlaceFault.BadLength }
     ensures answer { IfOk result (λ _.
-        Plain (cipher aes.now) default_iv (drop 8 buffer.old) buffer.new) }
+        Plain (cipher_by aes.now) default_iv (drop 8 buffer.old) buffer.new) }
     ensures calls { IfOk result (λ calls. calls ≡ block_calls (length buffer.old)) }
 {
     let mut meter = Meter::new(aes);
@@ -31,10 +31,10 @@ pub fn wrap_here(aes: &Aes, buffer: &mut [u8]) -> Result<u64, InPlaceFault>
 pub fn unwrap_here(aes: &Aes, buffer: &mut [u8]) -> Result<u64, InPlaceFault>
     ensures bad_length { (result ≡ Err InPlaceFault.BadLength)
         ↔ ¬ IsPlainTextLength (length buffer.old) }
-    ensures accepts { (key : List ℕ) → Plain (cipher aes.now) default_iv key buffer.old
+    ensures accepts { (key : List ℕ) → Plain (cipher_by aes.now) default_iv key buffer.old
         → IsOk result }
     ensures answer { IfOk result (λ _.
-        Plain (cipher aes.now) default_iv (drop 8 buffer.new) buffer.old) }
+        Plain (cipher_by aes.now) default_iv (drop 8 buffer.new) buffer.old) }
     ensures cleared { result ≡ Err InPlaceFault.Integrity → All (λ byte. byte ≡ 0) buffer.new }
     ensures calls { IfOk result (λ calls. calls ≡ block_calls (length buffer.old)) }
 {

@@ -3,8 +3,6 @@
 #![tactic(auto)]
 
 pub mod in_place;
-pub mod key_store;
-pub mod reversal;
 #[cfg(test)]
 mod tests;
 pub mod under_kek;

@@ -1,8 +1,6 @@
-//! The examples at a vector of RFC 3394, and over the block that is read backward.
+//! The examples at a vector of RFC 3394.
 
 use crate::in_place::{unwrap_here, wrap_here};
-use crate::key_store::{load, store, store_and_load};
-use crate::reversal::Reversal;
 use crate::under_kek::{unwrap_under, wrap_under};
 use aes_block::Aes;
 use key_wrap::WrapFault;
@@ -41,15 +39,5 @@ fn wraps_and_unwraps_in_a_buffer(rt: HostRuntime) -> Result<(), Fail> {
     assert_eq!(rt; buffer, WRAPPED);
     assert_eq!(rt; unwrap_here(&aes, &mut buffer), Ok(12));
     assert!(rt; buffer.starts_with(&[0; 8]) && buffer.ends_with(&KEY));
-    Ok(())
-}
-
-#[test]
-fn loads_what_was_stored(rt: HostRuntime) -> Result<(), Fail> {
-    let stored = store(rt.alloc(), &Reversal, &KEY)?;
-    let loaded = load(rt.alloc(), &Reversal, &stored)?;
-    assert_eq!(rt; loaded.as_slice(), KEY.as_slice());
-    let same = store_and_load(rt.alloc(), &Reversal, &KEY)?;
-    assert_eq!(rt; same.as_slice(), KEY.as_slice());
     Ok(())
 }

@@ -2,6 +2,7 @@
 
 ghost use Rattle.std.specs.Prelude.{◌≡◌, ◌↔◌, length, Err, IfOk, IsOkUnless, MatchOption};
 ghost use Rattle.aes_block.specs.Cipher.{cipher};
+ghost use Rattle.aes_block.specs.KeyExpansion.{key_expansion};
 ghost use Rattle.key_wrap.specs.NoKey.{NoKey};
 ghost use Rattle.key_wrap.specs.Lengths.{IsPlainKeyLength, IsPlainTextLength};
 ghost use Rattle.key_wrap.specs.Plain.{Plain, default_iv};
@@ -41,7 +42,7 @@ pub fn unwrap_under(
 
 // AES under a KEK of a legal length, which is not refused.
 fn aes_256(kek: &[u8; 32]) -> Aes
-    ensures { result ≡ kek.now }
+    ensures { result ≡ key_expansion kek.now }
 {
     Aes::new(kek).unwrap()
 }

@@ -1,17 +1,15 @@
--- What a key schedule computes at each step, and what it keeps: laws for each implementation of AES.
+-- What a key schedule computes at each step, and its round keys: laws for each implementation of AES.
 -- The code's words are compared with the definition's place by place; bytes become words, and words bytes, four at a time.
 use Rattle.std.proofs.Common.{◌≡◌, ◌≢◌, ℕ, ◌+◌, ◌-◌, ◌*◌, ◌/◌, ◌%◌, ◌^◌, ◌<◌, ◌≤◌, bit_xor, w32, zero, suc, List, [], ◌∷◌, ◌++◌, length, get_or, take, drop}
-use Rattle.std.proofs.Common.{slice_index, refl, sym, ap, ap₂, ◌∙◌, arith, eq-eqb, ne_eqb, add-zero, lit<, drop-cons, length-drop, length-take}
+use Rattle.std.proofs.Common.{slice_index, refl, sym, ap, ap₂, ◌∙◌, arith, eq-eqb, ne_eqb, add-zero, lit<, drop-cons, length-drop}
 use Rattle.std.proofs.Common.{take-append-drop}
 use Rattle.std.specs.Int.{rotate_left, to_be_bytes}
 use Rattle.std.specs.List.{flat_map}
-use Rattle.std.proofs.lemmas.List.{ext_get_or, get_or-drop, get_or-take, length-take-le, take_all}
+use Rattle.std.proofs.lemmas.List.{ext_get_or, get_or-drop, take_all}
 use Rattle.std.proofs.lemmas.Nat.{or_shifted, be_bytes_4}
 use Rattle.byteorder.specs.Endian.{big_number}
-use Rattle.fips197.specs.KeyExpansionLaw.{key_expansion_is, legal_words}
 use Rattle.fips197.specs.Words.{block_of}
-use Rattle.fips197.specs.Words.{key_of}
-use Rattle.fips197.specs.KeyExpansion.{IsKekLength, key_words, rounds_of, key_word, key_expansion, round_key, rot_word, sub_word, round_constants, temp}
+use Rattle.fips197.specs.KeyExpansion.{key_word, round_key, rot_word, sub_word, round_constants, temp}
 
 -- RotWord is a rotation by one byte
 pub rotated_word : (w : ℕ) → w < 2 ^ 32 → rotate_left w32 w 8 ≡ rot_word w
@@ -56,10 +54,6 @@ pub read_word : (K : List ℕ) (i : ℕ) → big_number 4 (drop (4 * i) K) ≡ k
 read_word K i =
     rw (get_or-drop (4 * i) K 0 0, get_or-drop (4 * i) K 1 0, get_or-drop (4 * i) K 2 0, get_or-drop (4 * i) K 3 0, add-zero (4 * i)) (omega arith)
 
--- a word of the schedule is the word of the list that it begins with
-pub word_at : (n j : ℕ) (s w : List ℕ) → take n s ≡ w → j < n → slice_index s j ≡ slice_index w j
-word_at n j s w e h = sym (get_or-take n s j 0 h) ∙ ap (λ (t : List ℕ). get_or t j 0) e
-
 -- four words in a row
 four_words : (s : List ℕ) (m : ℕ) → m + 4 ≤ length s
     → take 4 (drop m s) ≡ slice_index s (m + 0) ∷ slice_index s (m + 1) ∷ slice_index s (m + 2) ∷ slice_index s (m + 3) ∷ []
@@ -74,12 +68,6 @@ four_words s m h =
     let e3 : m + 3 ≡ suc (suc (suc m)) = omega arith in
     rw (e0, e1, e2, e3, drop-cons s m 0, drop-cons s (suc m) 0, drop-cons s (suc (suc m)) 0, drop-cons s (suc (suc (suc m))) 0) refl
 
--- a list that begins with the key expansion is as long
-pub schedule_long : (K s : List ℕ) → IsKekLength (length K) → take (4 * (rounds_of K + 1)) s ≡ key_expansion K → 4 * (rounds_of K + 1) ≤ length s
-schedule_long K s legal words =
-    let whole = ap length words ∙ (key_expansion_is K legal).count in
-    omega (arith, length-take (4 * (rounds_of K + 1)) s, whole)
-
 -- the block of four words from the bytes of each
 pub joined : (a b c d : ℕ) (v w x y : List ℕ) → to_be_bytes w32 a ≡ v → to_be_bytes w32 b ≡ w → to_be_bytes w32 c ≡ x → to_be_bytes w32 d ≡ y
     → block_of (a ∷ b ∷ c ∷ d ∷ []) ≡ v ++ (w ++ (x ++ (y ++ [])))
@@ -87,20 +75,22 @@ joined a b c d v w x y ea eb ec ed =
     ap₂ (λ (s t : List ℕ). s ++ t) ea (ap₂ (λ (s t : List ℕ). s ++ t) eb (ap₂ (λ (s t : List ℕ). s ++ t) ec (ap (λ (s : List ℕ). s ++ []) ed)))
 
 -- the four words of round key k
-pub words_key : (K s : List ℕ) (k : ℕ) → IsKekLength (length K) → take (4 * (rounds_of K + 1)) s ≡ key_expansion K → k ≤ rounds_of K
-    → block_of (slice_index s (4 * k) ∷ slice_index s (4 * k + 1) ∷ slice_index s (4 * k + 2) ∷ slice_index s (4 * k + 3) ∷ []) ≡ round_key K k
+pub words_key : (w : List ℕ) (k : ℕ)
+    → block_of (slice_index w (4 * k) ∷ slice_index w (4 * k + 1) ∷ slice_index w (4 * k + 2) ∷ slice_index w (4 * k + 3) ∷ []) ≡ round_key w k
 unfolding round_key
-words_key K s k legal words h =
-    let at = λ (c : ℕ) (hc : c < 4). word_at (4 * (rounds_of K + 1)) (4 * k + c) s (key_expansion K) words (omega arith) in
+words_key w k =
     let first : 4 * k ≡ 4 * k + 0 = omega arith in
-    joined _ _ _ _ _ _ _ _
-    (ap (to_be_bytes w32) (ap (slice_index s) first ∙ at 0 (lit< tt)))
-    (ap (to_be_bytes w32) (at 1 (lit< tt)))
-    (ap (to_be_bytes w32) (at 2 (lit< tt)))
-    (ap (to_be_bytes w32) (at 3 (lit< tt)))
+    ap (λ i. block_of (slice_index w i ∷ slice_index w (4 * k + 1) ∷ slice_index w (4 * k + 2) ∷ slice_index w (4 * k + 3) ∷ [])) first
+
+-- a round key is of its four words alone
+pub round_key_same : (v w : List ℕ) (k : ℕ) → ((c : ℕ) → c < 4 → slice_index v (4 * k + c) ≡ slice_index w (4 * k + c)) → round_key v k ≡ round_key w k
+unfolding round_key
+round_key_same v w k same =
+    let at = λ (c : ℕ) (h : c < 4). ap (to_be_bytes w32) (same c h) in
+    joined _ _ _ _ _ _ _ _ (at 0 (lit< tt)) (at 1 (lit< tt)) (at 2 (lit< tt)) (at 3 (lit< tt))
 
 -- the words of a key past its first four bytes
-key_word-drop : (K : List ℕ) (i : ℕ) → key_word K (suc i) ≡ key_word (drop 4 K) i
+pub key_word-drop : (K : List ℕ) (i : ℕ) → key_word K (suc i) ≡ key_word (drop 4 K) i
 key_word-drop K i =
     let e0 : 4 * suc i ≡ 4 + 4 * i = omega arith in
     let e1 : 4 + 4 * i + 1 ≡ 4 + (4 * i + 1) = omega arith in
@@ -142,15 +132,3 @@ pub read_columns : (s b : List ℕ) → length s ≡ 4 → length b ≡ 16 → (
     → ((i : ℕ) → i < 4 → slice_index s i ≡ key_word b i) → block_of s ≡ b
 read_columns s b hs hb bytes same =
     sym (ap (flat_map (to_be_bytes w32)) (sym (take_all 4 s (omega arith)) ∙ four_words s 0 (omega arith))) ∙ bytes_of_words 4 s b hs hb bytes same
-
--- a schedule that begins with the key expansion of K keeps K
-pub key_of_schedule : (K s : List ℕ) (rounds : ℕ) → IsKekLength (length K) → ((i : ℕ) → slice_index K i < 256)
-    → rounds ≡ rounds_of K → take (4 * (rounds_of K + 1)) s ≡ key_expansion K → key_of rounds s ≡ K
-key_of_schedule K s rounds legal bytes e words =
-    let some = legal_words K legal in
-    let count : rounds - 6 ≡ key_words K = omega arith in
-    let is = key_expansion_is K legal in
-    let long = schedule_long K s legal words in
-    rw count
-    (bytes_of_words (key_words K) (take (key_words K) s) K (length-take-le (key_words K) s (omega arith)) some.2 bytes
-    (λ i h. get_or-take (key_words K) s i 0 h ∙ word_at (4 * (rounds_of K + 1)) i s (key_expansion K) words (omega arith) ∙ is.key i h))

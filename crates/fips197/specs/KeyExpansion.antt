@@ -67,8 +67,10 @@ first_words K (suc n) = let w = first_words K n in w ++ next_word K w n ∷ []
 unfoldable pub key_expansion : List ℕ → List ℕ
 key_expansion K = first_words K (4 * (rounds_of K + 1))
 
--- round key k: the 16 bytes of the words w[4k] to w[4k + 3] (5.1.4)
+-- Nr, from the length of a key schedule w: 4 * (Nr + 1) words
+abbrev pub rounds_in : List ℕ → ℕ
+rounds_in w = length w / 4 - 1
+
+-- round key k of a key schedule w: the 16 bytes of the words w[4k] to w[4k + 3] (5.1.4)
 unfoldable pub round_key : List ℕ → ℕ → List ℕ
-round_key K k =
-    let w = key_expansion K in
-    flat_map (λ c. to_be_bytes w32 (slice_index w (4 * k + c))) (0 ∷ 1 ∷ 2 ∷ 3 ∷ [])
+round_key w k = flat_map (λ c. to_be_bytes w32 (slice_index w (4 * k + c))) (0 ∷ 1 ∷ 2 ∷ 3 ∷ [])

@@ -91,14 +91,11 @@ word_bytes : (w : ℕ) → AllByRecursion IsByte (to_be_bytes w32 w)
 word_bytes w = (omega arith, (omega arith, (omega arith, (omega arith, tt))))
 
 -- the bytes of words are bytes
-pub words_bytes : (word : ℕ → ℕ) (cs : List ℕ) → AllByRecursion IsByte (flat_map (λ c. to_be_bytes w32 (word c)) cs)
+words_bytes : (word : ℕ → ℕ) (cs : List ℕ) → AllByRecursion IsByte (flat_map (λ c. to_be_bytes w32 (word c)) cs)
 words_bytes word [] = tt
 words_bytes word (c ∷ cs) =
     each_append IsByte (to_be_bytes w32 (word c)) (flat_map (λ d. to_be_bytes w32 (word d)) cs) (word_bytes (word c)) (words_bytes word cs)
 
-pub round_key_block : (K : List ℕ) (k : ℕ) → IsBlock (round_key K k)
+pub round_key_block : (w : List ℕ) (k : ℕ) → IsBlock (round_key w k)
 unfolding round_key
-round_key_block K k = record {
-  sixteen = refl;
-  bytes = words_bytes (λ c. slice_index (key_expansion K) (4 * k + c)) (0 ∷ 1 ∷ 2 ∷ 3 ∷ []);
-}
+round_key_block w k = record { sixteen = refl; bytes = words_bytes (λ c. slice_index w (4 * k + c)) (0 ∷ 1 ∷ 2 ∷ 3 ∷ []) }

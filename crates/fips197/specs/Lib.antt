@@ -9,8 +9,10 @@ pub mod KeyExpansion
 pub mod KeyExpansionLaw
 pub mod Keyed
 pub mod KeyedLaw
+pub mod ScheduleBytes
 pub mod Words
 pub mod ExpandingLaw
+pub mod ScheduleBytesLaw
 pub mod State
 pub mod StateLaw
 pub mod Rounds

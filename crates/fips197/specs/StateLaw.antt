@@ -1,7 +1,7 @@
 -- States by their entries.
 use Rattle.std.proofs.Common.{◌≡◌, ℕ, zero, suc, ◌+◌, ◌*◌, ◌/◌, ◌%◌, ◌<◌, List, [], ◌∷◌, get_or, map, nat_lt, true, refl, ap₂, arith, ◌∙◌, sym}
 use Rattle.std.specs.List.{AllByRecursion, list_all, range_with_len}
-use Rattle.std.proofs.lemmas.Bool.{and_from, and_parts, lt-ltb, ltb-true}
+use Rattle.std.proofs.lemmas.Bool.{and_parts, ltb-true}
 use Rattle.std.proofs.lemmas.List.FromFn.{fill_by_all, get_or-map-range_with_len}
 use Rattle.block_pair.specs.Words.{IsByte, IsBlock}
 use Rattle.fips197.specs.State.{entry, state}
@@ -17,10 +17,6 @@ all_bytes [] e = tt
 all_bytes (x ∷ s) e =
     let parts = and_parts (nat_lt x 256) (list_all (λ y. nat_lt y 256) s) e in
     (ltb-true x 256 parts.0, all_bytes s parts.1)
-
-pub all_bytes_test : (s : List ℕ) → AllByRecursion IsByte s → list_all (λ x. nat_lt x 256) s ≡ true
-all_bytes_test [] h = refl
-all_bytes_test (x ∷ s) h = and_from (nat_lt x 256) (list_all (λ y. nat_lt y 256) s) (lt-ltb x 256 h.0) (all_bytes_test s h.1)
 
 -- each entry of a block is a byte
 pub entry_byte : (s : List ℕ) → IsBlock s → (r c : ℕ) → IsByte (entry s r c)

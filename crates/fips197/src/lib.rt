@@ -1,12 +1,15 @@
 //! The definitions of AES (FIPS 197) and their laws, in `specs/`. The code has only what every
-//! implementation of AES shares: the trait `KeyInit`, the error `BadKekLength` and the key expansion.
+//! implementation of AES shares: the trait `KeyInit`, the error `BadKekLength`, the key expansion and
+//! its result as bytes.
 
 #![tactic(auto)]
 
 mod bad_kek_length;
 mod key_expansion;
 mod key_init;
+mod schedule_bytes;
 
 pub use bad_kek_length::BadKekLength;
 pub use key_expansion::{MAX_WORDS, SubWord, expand_key};
 pub use key_init::KeyInit;
+pub use schedule_bytes::{ScheduleFault, read_schedule, write_schedule};

@@ -1,25 +1,8 @@
 -- What a base64 text denotes: the cases of its meaning.
-use Rattle.std.proofs.Common.{◌≡◌, ◌≢◌, ◌<◌, ◌≤◌, ℕ, Bool, true, false, List, [], ◌++◌, length, drop, nat_eq, Option, Some, None, Result, Ok, Err}
-use Rattle.std.proofs.Common.{arith, refl, sym, ap, ◌∙◌, append-nil, inl, inr, subst}
-use Rattle.std.specs.Prelude.{⊤, IfSome}
-use Rattle.std.proofs.lemmas.Bool.{cases_lt}
-use Rattle.std.proofs.lemmas.Bool.Decides.{nat_tests}
-use Rattle.std.proofs.lemmas.List.{drop_all}
-use Rattle.base64.specs.GeneralPurpose.{IsBytes, IsStrict, SameEngine, decode_of, encode_of, encoded_size_of}
-use Rattle.base64.specs.declared.decode.DecodeError.{DecodeError}
+use Rattle.key_files.proofs.Common.{◌≡◌, ◌≢◌, ◌<◌, ◌≤◌, ℕ, Bool, true, false, List, [], ◌++◌, length, drop, nat_eq, Option, Some, None, Result, Ok, Err, arith, refl, sym, ap, ◌∙◌, append-nil, inl, inr, subst, ⊤, IfSome, cases_lt, nat_tests, drop_all, IsBytes, IsStrict, SameEngine, decode_of, encode_of, encoded_size_of, DecodeError, GeneralPurpose, decode_of_strict, IsBase64Of, alphabet_of, base64_fault_of, base64_meaning, before_padding, decoded_meaning, encoding, encoding_of, first_foreign, first_no_padding, has_padding, kept, misplaced, place_fault, placed_meaning, symbol_text_meaning, symbols_meaning, DecodesText, IsMeaning, Alphabet, Blanks, FileFault}
 use Rattle.base64.specs.declared.decode.DecodeError.TheVariants.{InvalidByte, InvalidLength, InvalidLastSymbol, InvalidPadding}
-use Rattle.base64.specs.declared.engine.general_purpose.GeneralPurpose.{GeneralPurpose}
-use Rattle.base64.proofs.EngineFacts.{decode_of_strict}
-use Rattle.key_files.specs.Base64Text.{IsBase64Of, alphabet_of, base64_fault_of, base64_meaning, before_padding, decoded_meaning, encoding, encoding_of}
-use Rattle.key_files.specs.Base64Text.{first_foreign, first_no_padding, has_padding, kept, misplaced, place_fault, placed_meaning}
-use Rattle.key_files.specs.Base64Text.{symbol_text_meaning, symbols_meaning}
-use Rattle.key_files.specs.Decoding.{DecodesText}
-use Rattle.key_files.specs.FileReading.{IsMeaning}
-use Rattle.key_files.specs.declared.base64_text.Alphabet.{Alphabet}
 use Rattle.key_files.specs.declared.base64_text.Alphabet.TheVariants.{Standard, UrlSafe}
-use Rattle.key_files.specs.declared.hex_text.Blanks.{Blanks}
 use Rattle.key_files.specs.declared.hex_text.Blanks.TheVariants.{Allowed, Refused}
-use Rattle.key_files.specs.declared.fault.FileFault.{FileFault}
 use Rattle.key_files.specs.declared.fault.FileFault.TheVariants.{Read, TooLong, BadDigit, OddDigits, BadCharacter, BehindPadding, BadBase64Length, TrailingBits, Memory}
 
 -- engines with the same tables and configuration decode the same

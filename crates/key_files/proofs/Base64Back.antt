@@ -1,33 +1,12 @@
 -- Base64 files and texts denote exactly the bytes that they encode.
-use Rattle.std.proofs.Common.{◌≡◌, ◌<◌, ◌+◌, ◌*◌, ◌/◌, ◌%◌, ◌==◌, ◌||◌, ◌⊎◌, inl, inr, not, Bool, true, false, ℕ, zero, suc, List, [], ◌∷◌, ◌++◌, length}
-use Rattle.std.proofs.Common.{drop, replicate, slice_index, Option, Some, None, Result, Ok, Err, arith, refl, sym, ap, ◌∙◌, append-nil, subst}
-use Rattle.std.specs.List.{filter, list_all, prefix_len}
-use Rattle.std.proofs.lemmas.Bool.{and_parts, cases_Bool, eqb-true, le-ltb, lt-ltb, not-true, or_cases}
-use Rattle.std.proofs.lemmas.Iterator.Adapters.{position_from-zero}
-use Rattle.std.proofs.lemmas.List.{length-append}
-use Rattle.std.proofs.lemmas.List.Elements.{filter-append}
-use Rattle.std.proofs.lemmas.List.Folds.{list_all-append}
+use Rattle.key_files.proofs.Common.{◌≡◌, ◌<◌, ◌+◌, ◌*◌, ◌/◌, ◌%◌, ◌==◌, ◌||◌, ◌⊎◌, inl, inr, not, Bool, true, false, ℕ, zero, suc, List, [], ◌∷◌, ◌++◌, length, drop, replicate, slice_index, Option, Some, None, Result, Ok, Err, arith, refl, sym, ap, ◌∙◌, append-nil, subst, filter, list_all, prefix_len, and_parts, cases_Bool, eqb-true, le-ltb, lt-ltb, not-true, or_cases, position_from-zero, length-append, filter-append, list_all-append, AllPass-from_list_all, IsBytes, IsConsistent, decode_of, encode_of, engine_symbols, GeneralPurpose, decode_of-encode_of, DecodeError, FilesEncode, IsBase64Of, alphabet_at, alphabet_of, base64_line, base64_meaning, before_padding, decoded_meaning, encoding, encoding_of, first_foreign, first_no_padding, first_of_one, has_padding, is_allowed, is_padding, is_standard, is_url_safe, kept, misplaced, output_encoding, place_fault, placed_meaning, symbol_text_meaning, symbols_meaning, Alphabet, Blanks, FileFault, is_allowed_blank, is_skipped, PrintsAs}
 use Rattle.std.proofs.lemmas.List.Quantifiers.{position-Some}
-use Rattle.std.proofs.lemmas.List.Sums.{AllPass-from_list_all}
 use Rattle.base64.specs.Engines.{standard, url_safe_no_pad}
-use Rattle.base64.specs.GeneralPurpose.{IsBytes, IsConsistent, decode_of, encode_of, engine_symbols}
 use Rattle.base64.specs.Rfc4648.{encode_symbols, padding_len}
 use Rattle.base64.specs.Tables.{all_below}
-use Rattle.base64.specs.declared.engine.general_purpose.GeneralPurpose.{GeneralPurpose}
-use Rattle.base64.proofs.EngineFacts.{decode_of-encode_of}
 use Rattle.base64.proofs.Tables.{all_below_at}
-use Rattle.base64.specs.declared.decode.DecodeError.{DecodeError}
-use Rattle.key_files.specs.Base64Text.{FilesEncode, IsBase64Of, alphabet_at, alphabet_of, base64_line, base64_meaning, before_padding, decoded_meaning}
-use Rattle.key_files.specs.Base64Text.{encoding, encoding_of, first_foreign, first_no_padding, first_of_one, has_padding, is_allowed}
-use Rattle.key_files.specs.Base64Text.{is_padding, is_standard, is_url_safe, kept, misplaced, output_encoding, place_fault, placed_meaning}
-use Rattle.key_files.specs.Base64Text.{symbol_text_meaning, symbols_meaning}
-use Rattle.key_files.specs.declared.base64_text.Alphabet.{Alphabet}
 use Rattle.key_files.specs.declared.base64_text.Alphabet.TheVariants.{Standard, UrlSafe}
-use Rattle.key_files.specs.declared.hex_text.Blanks.{Blanks}
 use Rattle.key_files.specs.declared.hex_text.Blanks.TheVariants.{Allowed, Refused}
-use Rattle.key_files.specs.declared.fault.FileFault.{FileFault}
-use Rattle.key_files.specs.HexText.{is_allowed_blank, is_skipped}
-use Rattle.key_files.specs.Writing.{PrintsAs}
 use Rattle.key_files.proofs.Lists.{IsLine-of, all-both, all-append, all-replicate, all-drop, filter-all, position-none, all-from_none, prefix_len-all, all-behind, all-unfiltered, behind-unfiltered, of_blanks, IsBytes-filter}
 use Rattle.key_files.proofs.Base64.{IsBase64Of-decoded, base64_meaning-placed, symbol_text_meaning-placed}
 

@@ -1,13 +1,7 @@
 -- Files within their limit and past it, and which faults a hex text has.
-use Rattle.std.proofs.Common.{◌≡◌, ◌≢◌, ◌<◌, ◌≤◌, ◌%◌, ℕ, List, length, Option, Some, None, Result, Ok, Err, arith, refl, sym, ◌∙◌}
-use Rattle.std.proofs.lemmas.Bool.Decides.{nat_tests}
-use Rattle.key_files.specs.declared.fault.FileFault.{FileFault}
+use Rattle.key_files.proofs.Common.{◌≡◌, ◌≢◌, ◌<◌, ◌≤◌, ◌%◌, ℕ, List, length, Option, Some, None, Result, Ok, Err, arith, refl, sym, ◌∙◌, nat_tests, FileFault, DecodesHex, IsMeaning, answer_of, file_meaning, hex_meaning, digit_text_meaning, digits_meaning, first_bad, digits_of, paired}
 use Rattle.key_files.specs.declared.fault.FileFault.TheVariants.{Read, TooLong, BadDigit, OddDigits, BadCharacter, BehindPadding, BadBase64Length, TrailingBits, Memory}
 use Rattle.std.specs.declared.vec.Vec.{Vec}
-use Rattle.key_files.specs.Decoding.{DecodesHex}
-use Rattle.key_files.specs.FileReading.{IsMeaning, answer_of}
-use Rattle.key_files.specs.FileMeaning.{file_meaning, hex_meaning, digit_text_meaning, digits_meaning}
-use Rattle.key_files.specs.HexText.{first_bad, digits_of, paired}
 use Rattle.key_files.specs.declared.hex_text.Blanks.TheVariants.{Allowed, Refused}
 
 -- a file within the limit denotes what its bytes do

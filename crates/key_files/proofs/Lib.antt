@@ -1,4 +1,5 @@
 -- The lemmas: what digits spell, what a file denotes, what a call took, and the line that is read back.
+pub mod Common
 pub mod Denoting
 pub mod Lists
 pub mod ReadBack

@@ -1,16 +1,5 @@
 -- Lists whose elements all pass a test, and what a filter leaves of them.
-use Rattle.std.proofs.Common.{◌≡◌, ◌≢◌, ◌<◌, ◌+◌, ◌==◌, not, Bool, true, false, ℕ, zero, suc, List, [], ◌∷◌, ◌++◌, length, take, drop, replicate}
-use Rattle.std.proofs.Common.{All, None, inl, inr, arith, refl, sym, ap, ◌∙◌, subst}
-use Rattle.std.specs.List.{filter, list_all, position, position_from, prefix_len}
-use Rattle.std.proofs.lemmas.Bool.{and_from, and_parts, cases_Bool, eqb-true}
-use Rattle.std.proofs.lemmas.Iterator.Adapters.{position_from-zero}
-use Rattle.std.proofs.lemmas.List.{drop-drop, drop_at}
-use Rattle.std.proofs.lemmas.List.Elements.{All-drop}
-use Rattle.std.proofs.lemmas.List.Folds.{list_all-append}
-use Rattle.std.proofs.lemmas.List.Sums.{AllPass-from_list_all, list_all-from_AllPass}
-use Rattle.base64.specs.GeneralPurpose.{IsBytes}
-use Rattle.key_files.specs.HexText.{is_skipped}
-use Rattle.key_files.specs.Writing.{IsLine}
+use Rattle.key_files.proofs.Common.{◌≡◌, ◌≢◌, ◌<◌, ◌+◌, ◌==◌, not, Bool, true, false, ℕ, zero, suc, List, [], ◌∷◌, ◌++◌, length, take, drop, replicate, All, None, inl, inr, arith, refl, sym, ap, ◌∙◌, subst, filter, list_all, position, position_from, prefix_len, and_from, and_parts, cases_Bool, eqb-true, position_from-zero, drop-drop, drop_at, All-drop, list_all-append, AllPass-from_list_all, list_all-from_AllPass, IsBytes, is_skipped, IsLine}
 
 pub all-both : (p q r : ℕ → Bool) (xs : List ℕ) → ((c : ℕ) → p c ≡ true → q c ≡ true → r c ≡ true)
     → list_all p xs ≡ true → list_all q xs ≡ true → list_all r xs ≡ true

@@ -1,13 +1,6 @@
 -- What a file of digits and blanks denotes, and that hex output is one line and denotes the bytes that it was made of.
-use Rattle.std.proofs.Common.{◌≡◌, ◌||◌, not, true, false, ℕ, List, [], ◌∷◌, ◌++◌}
-use Rattle.std.proofs.Common.{Bool, Option, Some, None, Ok, append-nil, refl, sym, ap, subst, ◌∙◌}
-use Rattle.std.specs.List.{filter, list_all, position_from}
-use Rattle.std.proofs.lemmas.List.Elements.{filter-append}
-use Rattle.std.proofs.lemmas.Iterator.Adapters.{position_from-zero}
+use Rattle.key_files.proofs.Common.{◌≡◌, ◌||◌, not, true, false, ℕ, List, [], ◌∷◌, ◌++◌, Bool, Option, Some, None, Ok, append-nil, refl, sym, ap, subst, ◌∙◌, filter, list_all, position_from, filter-append, position_from-zero, digits_of, first_bad, hex_line, is_hex_digit, is_skipped, digit_text_meaning, digits_meaning, hex_meaning, PrintsAs}
 use Rattle.hex.specs.Hex.{IsBytes, encode_lower}
-use Rattle.key_files.specs.HexText.{digits_of, first_bad, hex_line, is_hex_digit, is_skipped}
-use Rattle.key_files.specs.FileMeaning.{digit_text_meaning, digits_meaning, hex_meaning}
-use Rattle.key_files.specs.Writing.{PrintsAs}
 use Rattle.key_files.specs.declared.hex_text.Blanks.TheVariants.{Allowed, Refused}
 use Rattle.key_files.proofs.Lists.{IsLine-of, all-both, all-filter, all-found, all-unfiltered, filter-all, of_blanks, position-none}
 use Rattle.key_files.proofs.Strict.{digit_text_meaning-lower}

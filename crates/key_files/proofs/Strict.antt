@@ -1,15 +1,10 @@
 -- A text of digits that is decoded byte by byte, and the digits that are printed.
-use Rattle.std.proofs.Common.{◌≡◌, ◌+◌, ◌*◌, ◌/◌, ◌%◌, ◌<◌, ◌≤◌, ◌==◌, ◌&&◌, true, ℕ, suc, List, [], ◌∷◌, ◌++◌, length, take, drop, slice_index, slice_set, Option, Some, None, Ok, arith, refl, sym, ap, ◌∙◌}
+use Rattle.key_files.proofs.Common.{◌≡◌, ◌+◌, ◌*◌, ◌/◌, ◌%◌, ◌<◌, ◌≤◌, ◌==◌, ◌&&◌, true, ℕ, suc, List, [], ◌∷◌, ◌++◌, length, take, drop, slice_index, slice_set, Option, Some, None, Ok, arith, refl, sym, ap, ◌∙◌, list_all, agree_below_at, and_parts, eqb-true, nat_tests, first_bad, is_hex_digit, paired, digit_text_meaning, digits_meaning}
 use Rattle.std.specs.Char.{digit_value}
-use Rattle.std.specs.List.{list_all}
-use Rattle.std.proofs.lemmas.Bool.{agree_below_at, and_parts, eqb-true}
-use Rattle.std.proofs.lemmas.Bool.Decides.{nat_tests}
 use Rattle.std.proofs.lemmas.List.{append_assoc, append-nil, drop_all, take_all, take_more_set}
 use Rattle.hex.specs.Hex.{IsBytes, encode_lower, encode_with, lower_digits}
 use Rattle.hex.proofs.Pairs.{drop-pair}
-use Rattle.key_files.specs.HexText.{first_bad, is_hex_digit, paired}
 use Rattle.key_files.specs.declared.hex_text.Blanks.TheVariants.{Refused}
-use Rattle.key_files.specs.FileMeaning.{digit_text_meaning, digits_meaning}
 use Rattle.key_files.proofs.Denoting.{digit_text_meaning-even}
 use Rattle.key_files.proofs.Lists.{position-none}
 

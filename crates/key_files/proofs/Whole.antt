@@ -1,15 +1,8 @@
 -- What a call took from a reader, and what it answers for that: one lemma for each way in which a read ends, and those that
 -- carry the answer for a raw file over to a file of text.
 use Rattle.std.proofs.Common.{◌≡◌, ◌≢◌, ◌≤◌, ◌+◌, ℕ, List, [], length, Option, Result, Ok, Err, Vec}
-use Rattle.std.proofs.Common.{arith, refl, sym, ap, subst, ◌∙◌, append-nil, inl, inr}
-use Rattle.std.specs.Prelude.{IsErrAnd}
-use Rattle.std.specs.Io.KnownBytes.{Consumes, IsAtEnd}
-use Rattle.std.proofs.KnownBytes.{Consumes-trans}
-use Rattle.std.proofs.lemmas.Bool.{cases_lt}
-use Rattle.key_files.specs.declared.fault.FileFault.{FileFault}
+use Rattle.key_files.proofs.Common.{arith, refl, sym, ap, subst, ◌∙◌, append-nil, inl, inr, IsErrAnd, Consumes, IsAtEnd, Consumes-trans, cases_lt, FileFault, file_meaning, raw_meaning, IsMeaning, ReadsAs, ReadsToEnd, answer_of}
 use Rattle.key_files.specs.declared.fault.FileFault.TheVariants.{Read, TooLong, BadDigit, OddDigits, BadCharacter, BehindPadding, BadBase64Length, TrailingBits, Memory}
-use Rattle.key_files.specs.FileMeaning.{file_meaning, raw_meaning}
-use Rattle.key_files.specs.FileReading.{IsMeaning, ReadsAs, ReadsToEnd, answer_of}
 use Rattle.key_files.proofs.Denoting.{file_meaning-past, file_meaning-within}
 
 -- a read that took no byte

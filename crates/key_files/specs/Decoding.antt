@@ -31,7 +31,7 @@ place_of (BadCharacter at) = at
 place_of (BehindPadding at) = at
 place_of fault = 0
 
--- the fault with its place counted from so many bytes before the text
+-- the fault with `n` added to its place
 abbrev pub fault_behind : ℕ → FileFault → FileFault
 fault_behind n (BadDigit at) = BadDigit (n + at)
 fault_behind n (BadCharacter at) = BadCharacter (n + at)

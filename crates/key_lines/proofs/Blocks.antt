@@ -1,10 +1,6 @@
 -- A block of answers after it was written, and after texts that were put.
-use Rattle.std.proofs.Common.{◌≡◌, ℕ, List, [], ◌++◌, take, drop, Option, Result, Ok, Err, true, false, sym, ap, ◌∙◌, append_assoc, append-nil, take-append-drop}
-use Rattle.std.specs.Prelude.{IfErr, OnOk}
+use Rattle.key_lines.proofs.Common.{◌≡◌, ℕ, List, [], ◌++◌, take, drop, Option, Result, Ok, Err, true, false, sym, ap, ◌∙◌, append_assoc, append-nil, take-append-drop, IfErr, OnOk, Appends, Appends-trans, Sends}
 use Rattle.std.specs.Result.{is_err}
-use Rattle.std.specs.Io.KnownBytes.{Appends}
-use Rattle.std.proofs.KnownBytes.{Appends-trans}
-use Rattle.key_lines.specs.Block.{Sends}
 
 -- all of the block went out
 pub Sends-all : (a b : Option (List ℕ)) (block after : List ℕ) → Appends a b block → after ≡ [] → Sends a b block after

@@ -1,17 +1,8 @@
 -- What a line denotes, from what its text denotes, and the answer if it denotes no bytes.
-use Rattle.std.proofs.Common.{◌≡◌, ℕ, ◌≤◌, List, length, Result, Ok, Err, inl, inr, refl, ap, ◌∙◌}
-use Rattle.std.specs.List.{prefix_len}
-use Rattle.key_files.specs.Decoding.{DecodesText, fault_behind}
+use Rattle.key_lines.proofs.Common.{◌≡◌, ℕ, ◌≤◌, List, length, Result, Ok, Err, inl, inr, refl, ap, ◌∙◌, prefix_len, DecodesText, fault_behind, FileFault, Answer, IsAnswered, answered, line_fault_of, blank_ended_meaning, is_blank, line_limit, line_meaning, meaning_behind, text_meaning, text_of, MakesAnswer, LineFault, Note, TextNotation}
 use Rattle.key_files.proofs.Denoting.{file_meaning-within}
-use Rattle.key_files.specs.declared.fault.FileFault.{FileFault}
 use Rattle.key_files.specs.declared.fault.FileFault.TheVariants.{Read, TooLong, BadDigit, OddDigits, BadCharacter, BehindPadding, BadBase64Length, TrailingBits, Memory}
-use Rattle.key_lines.specs.LineAnswers.{Answer, IsAnswered, answered, line_fault_of}
-use Rattle.key_lines.specs.LineMeaning.{blank_ended_meaning, is_blank, line_limit, line_meaning, meaning_behind, text_meaning, text_of}
-use Rattle.key_lines.specs.Running.{MakesAnswer}
-use Rattle.key_lines.specs.declared.fault.LineFault.{LineFault}
 use Rattle.key_lines.specs.declared.fault.LineFault.TheVariants as line_faults
-use Rattle.key_lines.specs.declared.job.Note.{Note}
-use Rattle.key_lines.specs.declared.text.TextNotation.{TextNotation}
 
 -- a line denotes what its text does
 pub blank_ended_meaning-is : (notation : TextNotation) (line : List ℕ) (meaning : Result (List ℕ) FileFault)

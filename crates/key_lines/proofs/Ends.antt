@@ -1,17 +1,6 @@
 -- What a run wrote if its input is known.
-use Rattle.std.proofs.Common.{◌≡◌, ℕ, List, [], ◌∷◌, ◌++◌, map, Option, None, Some, Result, Ok, Err, IfSome, inl, inr, refl, sym, subst, ap, ◌∙◌, append-nil, append_assoc, arith}
-use Rattle.std.specs.Prelude.{◌⊎◌}
-use Rattle.std.specs.Io.KnownBytes.{Consumes}
+use Rattle.key_lines.proofs.Common.{◌≡◌, ℕ, List, [], ◌∷◌, ◌++◌, map, Option, None, Some, Result, Ok, Err, IfSome, inl, inr, refl, sym, subst, ap, ◌∙◌, append-nil, append_assoc, arith, ◌⊎◌, Consumes, Answer, AreLines, AreOneEach, output_of, lines_of, EndsLine, IsAllOf, AreResults, Counts, RunsLines, WritesAnswers, written_for, LineFault, RefusedLine, RunFault, RunOptions, RunSummary}
 use Rattle.key_files.specs.Writing.{IsLine}
-use Rattle.key_lines.specs.LineAnswers.{Answer, AreLines, AreOneEach, output_of}
-use Rattle.key_lines.specs.Lines.{lines_of, EndsLine}
-use Rattle.key_lines.specs.LineReading.{IsAllOf}
-use Rattle.key_lines.specs.Running.{AreResults, Counts, RunsLines, WritesAnswers, written_for}
-use Rattle.key_lines.specs.declared.fault.LineFault.{LineFault}
-use Rattle.key_lines.specs.declared.fault.RefusedLine.{RefusedLine}
-use Rattle.key_lines.specs.declared.fault.RunFault.{RunFault}
-use Rattle.key_lines.specs.declared.run.RunOptions.{RunOptions}
-use Rattle.key_lines.specs.declared.summary.RunSummary.{RunSummary}
 use Rattle.key_lines.specs.declared.fault.RunFault.TheVariants.{AtLine, Write}
 use Rattle.key_lines.proofs.Splitting.{lines_of-ended, lines_of-more, lines_of-nil}
 

@@ -1,20 +1,13 @@
 -- A line denotes what it denotes as a file, and the line that is printed for bytes denotes them.
-use Rattle.std.proofs.Common.{◌≡◌, ◌≢◌, All, ◌-◌, ◌==◌, inl, inr, not, Bool, true, false, ℕ, List, [], ◌∷◌, ◌++◌, length, take, drop, reverse}
-use Rattle.std.proofs.Common.{Result, Ok, Err, arith, refl, sym, ap, ◌∙◌, append-nil, subst, take-append-drop}
-use Rattle.std.specs.List.{filter, list_all, prefix_len, suffix_len}
+use Rattle.key_lines.proofs.Common.{◌≡◌, ◌≢◌, All, ◌-◌, ◌==◌, inl, inr, not, Bool, true, false, ℕ, List, [], ◌∷◌, ◌++◌, length, take, drop, reverse, Result, Ok, Err, arith, refl, sym, ap, ◌∙◌, append-nil, subst, take-append-drop, filter, list_all, prefix_len, suffix_len, length-drop, length-reverse, reverse-append, reverse-reverse, take_all, take_at, filter-append, FileFault, LinesAreFiles, PrintsBack, blank_ended_meaning, is_blank, meaning_behind, text_meaning, text_of, TextNotation}
 use Rattle.std.proofs.lemmas.Bool.{and_from, and_parts, cases_Bool, eqb-true, not-true}
-use Rattle.std.proofs.lemmas.List.{length-drop, length-reverse, reverse-append, reverse-reverse, take_all, take_at}
-use Rattle.std.proofs.lemmas.List.Elements.{filter-append}
 use Rattle.key_files.specs.Base64Text.{IsBase64Of, base64_meaning, encode_of, kept, output_encoding, symbol_text_meaning}
 use Rattle.key_files.specs.HexText.{IsBytes, encode_lower, is_hex_digit, is_skipped}
 use Rattle.key_files.specs.declared.base64_text.Alphabet.TheVariants.{Standard, UrlSafe}
-use Rattle.key_files.specs.declared.fault.FileFault.{FileFault}
 use Rattle.key_files.proofs.Base64Back.{IsBase64Of-output, base64_meaning-accepts, kept-encoded, symbol_text_meaning-accepts, symbol_text_meaning-sound, unskipped}
 use Rattle.key_files.proofs.Lists.{IsBytes-drop, IsBytes-take, all-append, all-both, drop_one, no_lf}
 use Rattle.key_files.proofs.ReadBack.{all-lower, hex_meaning-of_text}
 use Rattle.key_files.proofs.Strict.{digit_text_meaning-lower}
-use Rattle.key_lines.specs.LineMeaning.{LinesAreFiles, PrintsBack, blank_ended_meaning, is_blank, meaning_behind, text_meaning, text_of}
-use Rattle.key_lines.specs.declared.text.TextNotation.{TextNotation}
 use Rattle.key_lines.specs.declared.text.TextNotation.TheVariants.{Hex, Base64, Base64Url}
 
 -- a filter that drops blanks keeps as much of the text as of the line

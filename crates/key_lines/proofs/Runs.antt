@@ -1,30 +1,10 @@
 -- What a run has answered, and how it ends.
-use Rattle.std.proofs.Common.{◌≡◌, ◌≢◌, ℕ, ◌+◌, ◌<◌, true, false, List, [], ◌∷◌, ◌++◌, length, map, Option, None, Result, Ok, Err, inl, inr, refl, sym, ap, ◌∙◌, arith, subst, append_assoc, append-nil}
-use Rattle.std.specs.Prelude.{◌⊎◌}
-use Rattle.std.specs.List.{concat}
-use Rattle.std.specs.Io.KnownBytes.{Consumes}
-use Rattle.std.proofs.KnownBytes.{Consumes-trans, Consumes-nil, Appends-nil}
-use Rattle.std.proofs.lemmas.List.{map-append}
+use Rattle.key_lines.proofs.Common.{◌≡◌, ◌≢◌, ℕ, ◌+◌, ◌<◌, true, false, List, [], ◌∷◌, ◌++◌, length, map, Option, None, Result, Ok, Err, inl, inr, refl, sym, ap, ◌∙◌, arith, subst, append_assoc, append-nil, ◌⊎◌, concat, Consumes, Consumes-trans, Consumes-nil, Appends-nil, map-append, FileFault, Answer, Logs, answered, line_fault_of, output_of, refusal_of, refusals_of, Sends, lines_of, EndsWithLf, EndsLine, line_limit, IsAllOf, ReadsLine, TakesLine, AreResults, FindsLine, LineAnswer, LineResult, MakesOutput, RunsLines, StepEnds, Steps, StepsLine, StopsFor, is_own, written_for, CanAddLine, counted, counted_all, Line, LineFault, RefusedLine, RunFault, Note, RunOptions, RunSummary}
 use Rattle.std.proofs.lemmas.List.Folds.{concat-append}
-use Rattle.key_files.specs.declared.fault.FileFault.{FileFault}
 use Rattle.key_files.specs.declared.fault.FileFault.TheVariants as files
-use Rattle.key_lines.specs.LineAnswers.{Answer, Logs, answered, line_fault_of, output_of, refusal_of, refusals_of}
-use Rattle.key_lines.specs.Block.{Sends}
-use Rattle.key_lines.specs.Lines.{lines_of, EndsWithLf, EndsLine}
-use Rattle.key_lines.specs.LineMeaning.{line_limit}
-use Rattle.key_lines.specs.LineReading.{IsAllOf, ReadsLine, TakesLine}
-use Rattle.key_lines.specs.Running.{AreResults, FindsLine, LineAnswer, LineResult, MakesOutput, RunsLines, StepEnds, Steps, StepsLine, StopsFor, is_own, written_for}
-use Rattle.key_lines.specs.Summary.{CanAddLine, counted, counted_all}
-use Rattle.key_lines.specs.declared.line.Line.{Line}
 use Rattle.key_lines.specs.declared.line.Line.TheVariants.{Ended, Last, Missing}
-use Rattle.key_lines.specs.declared.fault.LineFault.{LineFault}
 use Rattle.key_lines.specs.declared.fault.LineFault.TheVariants.{Input, Refused, Memory, TooManyLines}
-use Rattle.key_lines.specs.declared.fault.RefusedLine.{RefusedLine}
-use Rattle.key_lines.specs.declared.fault.RunFault.{RunFault}
 use Rattle.key_lines.specs.declared.fault.RunFault.TheVariants.{AtLine, Write}
-use Rattle.key_lines.specs.declared.job.Note.{Note}
-use Rattle.key_lines.specs.declared.run.RunOptions.{RunOptions}
-use Rattle.key_lines.specs.declared.summary.RunSummary.{RunSummary}
 use Rattle.key_lines.proofs.Blocks.{Sends-trans}
 use Rattle.key_lines.proofs.Splitting.{first_ended, lines_of-more, lines_of-nil}
 use Rattle.key_lines.proofs.Summaries.{Logs-nil, Logs-trans, counted_all-append, counts_all, refusals_of-append, summarizes_all}

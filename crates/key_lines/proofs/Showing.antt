@@ -1,21 +1,15 @@
 -- The front of what a reader shows that is moved to the line.
-use Rattle.std.proofs.Common.{◌≡◌, ℕ, ◌+◌, ◌-◌, ◌<◌, ◌≤◌, ◌==◌, true, min, List, [], ◌∷◌, ◌++◌, length, take, drop, Option, None, Some, IfSome, Result, Ok, Err, slice_index, sym, ap, ◌∙◌, arith, subst, take-append-drop, length-append}
+use Rattle.key_lines.proofs.Common.{◌≡◌, ℕ, ◌+◌, ◌-◌, ◌<◌, ◌≤◌, ◌==◌, true, min, List, [], ◌∷◌, ◌++◌, length, take, drop, Option, None, Some, IfSome, Result, Ok, Err, slice_index, sym, ap, ◌∙◌, arith, subst, take-append-drop, length-append, Consumes-kept, Consumes-nil, Consumes, Keeps, nat_tests, length-take, take-take, FileFault, IsAllOf, MovesPart}
 use Rattle.std.specs.Prelude.{◌≢◌, IsErrAnd}
 use Rattle.std.specs.Io.{StartsWith}
-use Rattle.std.proofs.KnownBytes.{Consumes-kept, Consumes-nil}
-use Rattle.std.specs.Io.KnownBytes.{Consumes, Keeps}
 use Rattle.std.specs.Io.BufRead.{DropsConsumable}
 use Rattle.std.proofs.Math.Numerals.{add-one}
 use Rattle.std.proofs.Math.Seq.{take-suc}
-use Rattle.std.proofs.lemmas.Bool.Decides.{nat_tests}
-use Rattle.std.proofs.lemmas.List.{length-take, take-take}
-use Rattle.key_files.specs.declared.fault.FileFault.{FileFault}
 use Rattle.key_files.specs.declared.fault.FileFault.TheVariants.{Memory}
-use Rattle.key_lines.specs.LineReading.{IsAllOf, MovesPart}
 use Rattle.key_lines.specs.declared.line.Part.{Part}
 use Rattle.key_lines.proofs.Takings.{length-nil}
 
--- of what a reader showed so many bytes were taken
+-- of what a reader showed `amount` bytes were taken
 Consumes-shown : (old mid new : Option (List ℕ)) (most : Option ℕ) (shown : List ℕ) (amount : ℕ) → IfSome old (λ xs. StartsWith xs shown) → Keeps old mid
     → IfSome old (λ _. IfSome most (λ n. length shown ≤ n)) → DropsConsumable mid new most amount → amount ≤ length shown
     → Consumes old new (take amount shown)

@@ -1,8 +1,5 @@
 -- How the lines of a text come of its parts.
-use Rattle.std.proofs.Common.{◌≡◌, ◌≢◌, ℕ, ◌==◌, List, [], ◌∷◌, ◌++◌, cond, true, false, Bool, inl, inr, refl, sym, ap, ◌∙◌, ne_eqb, append_assoc}
-use Rattle.std.proofs.lemmas.List.Elements.{All-head, All-tail}
-use Rattle.key_lines.specs.Lines.{lines_of, before_first, EndsWithLf, EndsLine}
-use Rattle.key_lines.specs.LineReading.{HasNoLf}
+use Rattle.key_lines.proofs.Common.{◌≡◌, ◌≢◌, ℕ, ◌==◌, List, [], ◌∷◌, ◌++◌, cond, true, false, Bool, inl, inr, refl, sym, ap, ◌∙◌, ne_eqb, append_assoc, All-head, All-tail, lines_of, before_first, EndsWithLf, EndsLine, HasNoLf}
 
 -- a line that an LF ends is the first
 pub lines_of-ended : (line rest : List ℕ) → HasNoLf line → lines_of (line ++ 10 ∷ rest) ≡ line ∷ lines_of rest

@@ -1,10 +1,5 @@
 -- The summary of a run, as lines are added to it, and the log.
-use Rattle.std.proofs.Common.{◌≡◌, ℕ, ◌+◌, List, [], ◌∷◌, ◌++◌, length, Option, None, Some, Result, Ok, Err, refl, sym, ap, ◌∙◌, arith, append_assoc, append-nil}
-use Rattle.key_lines.specs.LineAnswers.{Answer, Logs, notes_of, refusal_of, refusals_of}
-use Rattle.key_lines.specs.Summary.{Summarizes, counted, counted_all, first_of, first_or}
-use Rattle.key_lines.specs.declared.fault.LineFault.{LineFault}
-use Rattle.key_lines.specs.declared.fault.RefusedLine.{RefusedLine}
-use Rattle.key_lines.specs.declared.summary.RunSummary.{RunSummary}
+use Rattle.key_lines.proofs.Common.{◌≡◌, ℕ, ◌+◌, List, [], ◌∷◌, ◌++◌, length, Option, None, Some, Result, Ok, Err, refl, sym, ap, ◌∙◌, arith, append_assoc, append-nil, Answer, Logs, notes_of, refusal_of, refusals_of, Summarizes, counted, counted_all, first_of, first_or, LineFault, RefusedLine, RunSummary}
 
 pub Logs-nil : {R : Type 0} (a : Option (List (RefusedLine R))) → Logs a a []
 Logs-nil None = tt

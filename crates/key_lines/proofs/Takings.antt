@@ -1,12 +1,7 @@
 -- What was taken of a line, and one more part, are the line.
 use Rattle.std.proofs.Common.{◌≡◌, ◌≢◌, ℕ, ◌≤◌, List, [], ◌∷◌, ◌++◌, length, Option, None, Some, Result, Ok, Err, IsErrAnd, inl, inr, refl, sym, ap, ◌∙◌, arith, subst, append_assoc, append-nil}
-use Rattle.std.proofs.lemmas.List.Elements.{All-append}
-use Rattle.std.specs.Io.KnownBytes.{Consumes}
-use Rattle.std.proofs.KnownBytes.{Consumes-trans}
-use Rattle.key_files.specs.declared.fault.FileFault.{FileFault}
+use Rattle.key_lines.proofs.Common.{All-append, Consumes, Consumes-trans, FileFault, HasNoLf, IsAllOf, TakesPart, ReadsLine, MovesPart, Line}
 use Rattle.key_files.specs.declared.fault.FileFault.TheVariants.{Read, TooLong, BadDigit, OddDigits, BadCharacter, BehindPadding, BadBase64Length, TrailingBits, Memory}
-use Rattle.key_lines.specs.LineReading.{HasNoLf, IsAllOf, TakesPart, ReadsLine, MovesPart}
-use Rattle.key_lines.specs.declared.line.Line.{Line}
 use Rattle.key_lines.specs.declared.line.Line.TheVariants as lines
 use Rattle.key_lines.specs.declared.line.Part.TheVariants.{Ended, Missing}
 use Rattle.key_lines.proofs.Splitting.{lines_of-ended, lines_of-last, lines_of-nil}

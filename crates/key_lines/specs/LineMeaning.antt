@@ -28,7 +28,7 @@ text_meaning Hex text = digit_text_meaning text
 text_meaning Base64 text = symbol_text_meaning text
 text_meaning Base64Url text = symbol_text_meaning text
 
--- the meaning of a text that follows so many bytes: the place of a fault counts these too
+-- the meaning of a text behind `n` bytes: the place of a fault counts these too
 abbrev pub meaning_behind : ℕ → Result (List ℕ) FileFault → Result (List ℕ) FileFault
 meaning_behind n (Ok bytes) = Ok bytes
 meaning_behind n (Err fault) = Err (fault_behind n fault)

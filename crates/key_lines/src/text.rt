@@ -47,7 +47,7 @@ fn decode_text(notation: TextNotation, text: &[u8], bytes: &mut Vec<u8>) -> Resu
     }
 }
 
-// The fault with its place counted from so many bytes before the text.
+// Adds `before` to the place of the fault.
 fn fault_behind(before: usize, fault: FileFault) -> FileFault
     requires { before + place_of fault ≤ 4194304 }
     ensures { result ≡ fault_behind before fault }

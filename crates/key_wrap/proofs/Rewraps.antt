@@ -3,8 +3,8 @@ use Rattle.std.proofs.Common.{◌≡◌, ℕ, List, false, Result, Ok, Err, Vec,
 use Rattle.block_pair.specs.Pair.{AreInverse}
 use Rattle.key_wrap_core.specs.declared.rewrapping.RewrapForms.{RewrapForms}
 use Rattle.key_wrap_core.specs.declared.rewrapping.RewrapForms.TheVariants.{Changed}
-use Rattle.key_wrap_core.specs.declared.rewrapping.RewrapFault.{RewrapFault}
-use Rattle.key_wrap_core.specs.declared.rewrapping.RewrapFault.TheVariants.{BadLength, Integrity, KeyNotPlain}
+use Rattle.key_wrap_core.specs.declared.faults.Refusal.{Refusal}
+use Rattle.key_wrap_core.specs.declared.faults.Refusal.TheVariants.{BadLength, Integrity, KeyNotPlain}
 use Rattle.key_wrap_core.specs.declared.rewrapping.Rewrapped.{Rewrapped}
 use Rattle.key_wrap_core.specs.declared.rewrapping.Rewrapped.TheVariants.{Fresh, AlreadyNew}
 use Rattle.key_wrap_core.specs.declared.forms.Form.{Form}
@@ -19,14 +19,14 @@ use Rattle.key_wrap.specs.declared.faults.UnwrapFault.TheVariants.{Memory}
 use Rattle.key_wrap.specs.Results.{IsAnswerOf, RewrapsToVec, rewrap_fault}
 
 -- the call in the buffer takes no memory
-pub no_memory : (fault : RewrapFault) → ¬ (rewrap_fault fault ≡ Memory)
+pub no_memory : (fault : Refusal) → ¬ (rewrap_fault fault ≡ Memory)
 no_memory BadLength = λ e. cc
 no_memory Integrity = λ e. cc
 no_memory KeyNotPlain = λ e. cc
 
 -- a fresh wrapping is none in the other form
 other_form : {Z : Type 0} {D : List ℕ → List ℕ} (form : Form) (old : AgreedForm) (E F : List ℕ → List ℕ) (text : List ℕ) (out : Vec ℕ Z)
-    (result : Result Rewrapped RewrapFault) (after : List ℕ) → AreInverse F D
+    (result : Result Rewrapped Refusal) (after : List ℕ) → AreInverse F D
     → RewrapResults false (Changed old (by_default form)) E F text result after → IsAnswerOf result after (Ok out)
     → NoOtherForm (by_default form) F out.items
 other_form form old E F text out (Ok Fresh) after inv results is =

@@ -5,8 +5,8 @@ use Rattle.key_wrap_core.specs.declared.faults.InPlaceFault.{InPlaceFault}
 use Rattle.key_wrap_core.specs.declared.faults.InPlaceFault.TheVariants as in_place
 use Rattle.key_wrap_core.specs.declared.rewrapping.RewrapForms.{RewrapForms}
 use Rattle.key_wrap_core.specs.declared.rewrapping.Rewrapped.{Rewrapped}
-use Rattle.key_wrap_core.specs.declared.rewrapping.RewrapFault.{RewrapFault}
-use Rattle.key_wrap_core.specs.declared.rewrapping.RewrapFault.TheVariants as rewraps
+use Rattle.key_wrap_core.specs.declared.faults.Refusal.{Refusal}
+use Rattle.key_wrap_core.specs.declared.faults.Refusal.TheVariants as rewraps
 use Rattle.key_wrap_core.specs.NoKey.{NoKey}
 use Rattle.key_wrap_core.specs.Forms.{IsWrapping, IsKeyLengthAs, IsTextLengthAs, NoOtherForm}
 use Rattle.key_wrap_core.specs.Rewrap.{IsOldLength, RewrapResults}
@@ -48,13 +48,13 @@ pub record Unwrapped {Z : Type 0} (form : AgreedForm) (E : List ℕ → List ℕ
   pub other_form : OnOk result (NoOtherForm form E text)
 
 -- the fault of a rewrap that takes memory, if the call in its buffer refuses
-abbrev pub rewrap_fault : RewrapFault → UnwrapFault
+abbrev pub rewrap_fault : Refusal → UnwrapFault
 rewrap_fault rewraps.BadLength = BadLength
 rewrap_fault rewraps.Integrity = Integrity
 rewrap_fault rewraps.KeyNotPlain = BadLength
 
 -- the answer that comes of the result of the call in its buffer, and of the buffer after it
-abbrev pub IsAnswerOf : {Z : Type 0} → Result Rewrapped RewrapFault → List ℕ → Result (Vec ℕ Z) UnwrapFault → Type 0
+abbrev pub IsAnswerOf : {Z : Type 0} → Result Rewrapped Refusal → List ℕ → Result (Vec ℕ Z) UnwrapFault → Type 0
 IsAnswerOf (Ok done) after (Ok out) = out.items ≡ after
 IsAnswerOf (Ok done) after (Err fault) = ⊥
 IsAnswerOf (Err fault) after answer = answer ≡ Err (rewrap_fault fault)
@@ -63,6 +63,6 @@ IsAnswerOf (Err fault) after answer = answer ≡ Err (rewrap_fault fault)
 -- text of a legal length.
 pub record RewrapsToVec {Z : Type 0} (forms : RewrapForms) (E F : List ℕ → List ℕ) (text : List ℕ) (answer : Result (Vec ℕ Z) UnwrapFault) : Type 0 where
   pub memory : answer ≡ Err Memory → IsOldLength forms (length text)
-  pub results : ¬ (answer ≡ Err Memory) → (result : Result Rewrapped RewrapFault) × (after : List ℕ)
+  pub results : ¬ (answer ≡ Err Memory) → (result : Result Rewrapped Refusal) × (after : List ℕ)
       × RewrapResults false forms E F text result after × IsAnswerOf result after answer
   pub size : IfOk answer (λ out. length out.items ≡ length text)

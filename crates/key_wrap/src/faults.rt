@@ -6,7 +6,7 @@ ghost use Rattle.key_wrap.specs.declared.faults.UnwrapFault.TheVariants as unwra
 ghost use Rattle.key_wrap.specs.declared.faults.WrapFault.TheVariants as wrap_faults;
 ghost use Rattle.key_wrap.specs.Results.{rewrap_fault, unwrap_fault};
 
-use key_wrap_core::{InPlaceFault, RewrapFault};
+use key_wrap_core::{InPlaceFault, Refusal};
 use std::alloc::AllocError;
 use thiserror::Error;
 
@@ -35,7 +35,7 @@ pub enum UnwrapFault {
     /// The wrapped key has no legal length; of a rewrapping also: its key has none in the new form.
     #[error("{}", InPlaceFault::BadLength)]
     BadLength,
-    /// What is unwrapped is the wrapping of no key (RFC 3394, section 2.2.3; RFC 5649, section 3).
+    /// It is not a valid wrapped key (RFC 3394, section 2.2.3; RFC 5649, section 3).
     #[error("{}", InPlaceFault::Integrity)]
     Integrity,
     /// There is no memory for the key, or of a rewrapping for the new wrapping.
@@ -54,14 +54,14 @@ impl From<InPlaceFault> for UnwrapFault {
     }
 }
 
-impl From<RewrapFault> for UnwrapFault {
+impl From<Refusal> for UnwrapFault {
     ghost from_gives = { λ fault given. given ≡ rewrap_fault fault };
 
-    fn from(fault: RewrapFault) -> UnwrapFault {
+    fn from(fault: Refusal) -> UnwrapFault {
         match fault {
-            RewrapFault::BadLength => UnwrapFault::BadLength,
-            RewrapFault::Integrity => UnwrapFault::Integrity,
-            RewrapFault::KeyNotPlain => UnwrapFault::BadLength,
+            Refusal::BadLength => UnwrapFault::BadLength,
+            Refusal::Integrity => UnwrapFault::Integrity,
+            Refusal::KeyNotPlain => UnwrapFault::BadLength,
         }
     }
 }

@@ -21,7 +21,7 @@ mod rewrapping;
 
 pub use faults::{KindFault, UnwrapFault, WrapFault};
 pub use key_wrap_core::{
-    AgreedForm, Form, FoundKey, InPlaceFault, InitialValue, Kind, MAX_KEY, ReservedIv, RewrapFault,
+    AgreedForm, Form, FoundKey, InPlaceFault, InitialValue, Kind, MAX_KEY, Refusal, ReservedIv,
     RewrapForms, Rewrapped, begin_unwrap, begin_unwrap_padded, begin_wrap, begin_wrap_padded,
     end_unwrap, end_unwrap_padded, end_wrap, key_length_ok, kind_into, kind_into_with, one_key_law,
     one_result_law, one_text_law, padded_length_ok, padded_text_length_ok,

@@ -5,7 +5,8 @@ ghost use Rattle.key_wrap.specs.Results.{Wrapped, Unwrapped};
 use crate::faults::{UnwrapFault, WrapFault};
 use block_pair::{BlockPair, Meter};
 use key_wrap_core::{
-    AgreedForm, padded_length_ok, padded_text_length_ok, unwrap_padded_into, wrap_padded_into,
+    AgreedForm, padded_length_ok, padded_text_length_ok, text_len, unwrap_padded_into,
+    wrap_padded_into,
 };
 use std::alloc::{Allocator, Global};
 
@@ -30,7 +31,7 @@ pub(crate) fn wrap_padded_on<A: Allocator, B: BlockPair>(
     if !padded_length_ok(key.len()) {
         return Err(WrapFault::BadLength);
     }
-    let mut text = vec![in alloc; 0; 8 + key.len().next_multiple_of(8)]?;
+    let mut text = vec![in alloc; 0; text_len(key.len())]?;
     // The buffer has the length of the wrapped key, so nothing is refused.
     wrap_padded_into(meter, key, &mut text).unwrap();
     Ok(text)
@@ -39,7 +40,7 @@ pub(crate) fn wrap_padded_on<A: Allocator, B: BlockPair>(
 /// Returns the key whose padded wrapping is `text` (RFC 5649, section 4.2).
 ///
 /// `BadLength` if `padded_text_length_ok` is false, before any memory is taken. Then `Memory`.
-/// `Integrity` if `text` is the padded wrapping of no key.
+/// `Integrity` if `text` is not a valid padded wrapping.
 pub fn unwrap_padded<B: BlockPair>(
     alloc: Global,
     pair: &B,

@@ -56,7 +56,7 @@ pub(crate) fn wrap_on<A: Allocator, B: BlockPair>(
 /// `text`.
 ///
 /// `BadLength` if `text_length_ok` is false, before any memory is taken. Then `Memory`. `Integrity`
-/// if `text` is the plain wrapping of no key.
+/// if `text` is not a valid plain wrapping.
 pub fn unwrap<B: BlockPair>(alloc: Global, pair: &B, text: &[u8]) -> Result<Vec<u8>, UnwrapFault>
     ensures { Unwrapped (AgreedForm.Plain default_iv) (B.encrypted pair.now) text.now result }
 {
@@ -67,7 +67,7 @@ pub fn unwrap<B: BlockPair>(alloc: Global, pair: &B, text: &[u8]) -> Result<Vec<
 /// 2.2.2 and 2.2.3.2): 8 bytes less than `text`.
 ///
 /// `BadLength` if `text_length_ok` is false, before any memory is taken. Then `Memory`. `Integrity`
-/// if `text` is the plain wrapping of no key under this initial value.
+/// if `text` is not a valid plain wrapping under this initial value.
 pub fn unwrap_with<B: BlockPair>(
     alloc: Global,
     pair: &B,

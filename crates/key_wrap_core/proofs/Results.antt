@@ -7,8 +7,8 @@ use Rattle.key_wrap_core.specs.declared.rewrapping.RewrapForms.{RewrapForms}
 use Rattle.key_wrap_core.specs.declared.rewrapping.RewrapForms.TheVariants.{Kept, Changed}
 use Rattle.key_wrap_core.specs.declared.rewrapping.Rewrapped.{Rewrapped}
 use Rattle.key_wrap_core.specs.declared.rewrapping.Rewrapped.TheVariants.{Fresh, AlreadyNew}
-use Rattle.key_wrap_core.specs.declared.rewrapping.RewrapFault.{RewrapFault}
-use Rattle.key_wrap_core.specs.declared.rewrapping.RewrapFault.TheVariants.{BadLength, Integrity, KeyNotPlain}
+use Rattle.key_wrap_core.specs.declared.faults.Refusal.{Refusal}
+use Rattle.key_wrap_core.specs.declared.faults.Refusal.TheVariants.{BadLength, Integrity, KeyNotPlain}
 use Rattle.key_wrap_core.specs.Forms.{IsWrapping, IsKeyLengthAs}
 use Rattle.key_wrap_core.specs.Rewrap.{IsFrom, IsRewrapped, IsRewrapping, IsNew, IsRefused, HasFault, HasGoodKey, RewrapResults, back, to_form}
 use Rattle.key_wrap_core.proofs.Rewraps.{only_fault}
@@ -29,12 +29,12 @@ good_of : (forms : RewrapForms) (E F : List ℕ → List ℕ) (text after : List
 good_of forms E F text after is = (is.0, is.1, is.2, key_legal F (to_form forms is.0) is.1 after is.3.wrapping)
 
 -- and such a text has no fault
-no_fault : {E D : List ℕ → List ℕ} (forms : RewrapForms) (text : List ℕ) (fault : RewrapFault) → AreInverse E D → HasGoodKey forms E text
+no_fault : {E D : List ℕ → List ℕ} (forms : RewrapForms) (text : List ℕ) (fault : Refusal) → AreInverse E D → HasGoodKey forms E text
     → ¬ HasFault forms E text fault
 no_fault forms text fault inv good has = (only_fault forms good.0 good.1 text fault inv good.2 has).1 good.3
 
 -- and has no other
-same_fault : {E D : List ℕ → List ℕ} (forms : RewrapForms) (text : List ℕ) (fault other : RewrapFault) → AreInverse E D → HasFault forms E text fault
+same_fault : {E D : List ℕ → List ℕ} (forms : RewrapForms) (text : List ℕ) (fault other : Refusal) → AreInverse E D → HasFault forms E text fault
     → HasFault forms E text other → other ≡ fault
 same_fault forms text KeyNotPlain other inv h k = (only_fault forms h.0 h.1 text other inv h.2 k).0
 same_fault forms text BadLength BadLength inv h k = refl
@@ -44,7 +44,7 @@ same_fault forms text Integrity BadLength inv h k = absurd (k h.0)
 same_fault forms text fault KeyNotPlain inv h k = sym (only_fault forms k.0 k.1 text fault inv k.2 h).0
 
 pub one_result : {E D : List ℕ → List ℕ} (F : List ℕ → List ℕ) (pass_new : Bool) (forms : RewrapForms) (text after other : List ℕ)
-    (result other_result : Result Rewrapped RewrapFault) → AreInverse E D → IsRewrapping pass_new forms E F text result after
+    (result other_result : Result Rewrapped Refusal) → AreInverse E D → IsRewrapping pass_new forms E F text result after
     → IsRewrapping pass_new forms E F text other_result other → (other_result ≡ result) × (other ≡ after)
 one_result {E = E} F pass_new forms text after other (Ok Fresh) (Ok Fresh) inv h k = (refl, same_answer forms E F text after other h k)
 one_result F pass_new forms text after other (Ok AlreadyNew) (Ok AlreadyNew) inv h k = (refl, k.2 ∙ sym h.2)
@@ -59,13 +59,13 @@ one_result F pass_new forms text after other (Err fault) (Err fault') inv h k =
 
 -- a key with a legal length is rewrapped
 good_fresh : {E D : List ℕ → List ℕ} (F : List ℕ → List ℕ) (pass_new : Bool) (forms : RewrapForms) (text after : List ℕ)
-    (result : Result Rewrapped RewrapFault) → AreInverse E D → IsRewrapping pass_new forms E F text result after → HasGoodKey forms E text → result ≡ Ok Fresh
+    (result : Result Rewrapped Refusal) → AreInverse E D → IsRewrapping pass_new forms E F text result after → HasGoodKey forms E text → result ≡ Ok Fresh
 good_fresh F pass_new forms text after (Ok Fresh) inv is good = refl
 good_fresh F pass_new forms text after (Ok AlreadyNew) inv is good = absurd (is.1.no_old good.0 good.2.from good.1 good.2.wrapping)
 good_fresh F pass_new forms text after (Err fault) inv is good = absurd (no_fault forms text fault inv good is.0.0)
 
 -- a result other than a fresh wrapping leaves the text
-kept_text : (E F : List ℕ → List ℕ) (pass_new : Bool) (forms : RewrapForms) (text after : List ℕ) (result : Result Rewrapped RewrapFault)
+kept_text : (E F : List ℕ → List ℕ) (pass_new : Bool) (forms : RewrapForms) (text after : List ℕ) (result : Result Rewrapped Refusal)
     → IsRewrapping pass_new forms E F text result after → ¬ (result ≡ Ok Fresh) → after ≡ text
 kept_text E F pass_new forms text after (Ok Fresh) is other = absurd (other refl)
 kept_text E F pass_new forms text after (Ok AlreadyNew) is other = is.2
@@ -91,10 +91,10 @@ comes_back Kept text after other is is' =
 comes_back (Changed old new) text after other is is' =
     let same = is.3.only is'.0 is'.1 is'.2.from is'.2.wrapping in is.2.alone other (rw is.2.from (rw same.1 at is'.3.wrapping))
 
-pub results_of : {E D F : List ℕ → List ℕ} {pass_new : Bool} {forms : RewrapForms} {text after : List ℕ} {result : Result Rewrapped RewrapFault}
+pub results_of : {E D F : List ℕ → List ℕ} {pass_new : Bool} {forms : RewrapForms} {text after : List ℕ} {result : Result Rewrapped Refusal}
     → AreInverse E D → IsRewrapping pass_new forms E F text result after → RewrapResults pass_new forms E F text result after
 results_of {E = E} {F = F} {pass_new = pass_new} {forms = forms} {text = text} {after = after} {result = result} inv is =
-    let relation : Result Rewrapped RewrapFault → Type 0 = λ r. IsRewrapping pass_new forms E F text r after in
+    let relation : Result Rewrapped Refusal → Type 0 = λ r. IsRewrapping pass_new forms E F text r after in
     let one = one_result F pass_new forms text after text result in
     record {
       fresh = (

@@ -5,8 +5,8 @@ use Rattle.block_pair.specs.Pair.{AreInverse}
 use Rattle.key_wrap_core.specs.declared.rewrapping.RewrapForms.{RewrapForms}
 use Rattle.key_wrap_core.specs.declared.rewrapping.Rewrapped.{Rewrapped}
 use Rattle.key_wrap_core.specs.declared.rewrapping.Rewrapped.TheVariants.{Fresh, AlreadyNew}
-use Rattle.key_wrap_core.specs.declared.rewrapping.RewrapFault.{RewrapFault}
-use Rattle.key_wrap_core.specs.declared.rewrapping.RewrapFault.TheVariants.{Integrity, KeyNotPlain}
+use Rattle.key_wrap_core.specs.declared.faults.Refusal.{Refusal}
+use Rattle.key_wrap_core.specs.declared.faults.Refusal.TheVariants.{Integrity, KeyNotPlain}
 use Rattle.key_wrap_core.specs.declared.rewrap_steps.RewrapPhase.{RewrapPhase}
 use Rattle.key_wrap_core.specs.declared.rewrap_steps.RewrapPhase.TheVariants.{UnwrapOld, WrapOld, UnwrapNew, WrapNew}
 use Rattle.key_wrap_core.specs.declared.rewrap_steps.RewrapNext.TheVariants.{Run, Done}
@@ -97,7 +97,7 @@ turned_fresh pass_new forms found difference misfit iv now block block' value te
     }
 
 -- a key was found under the new pair
-pub new_found : (pass_new : Bool) (forms : RewrapForms) (fault : RewrapFault) (found difference t : ℕ) (now block block' text : List ℕ)
+pub new_found : (pass_new : Bool) (forms : RewrapForms) (fault : Refusal) (found difference t : ℕ) (now block block' text : List ℕ)
     → word_bytes found ≡ take 8 block → TellsKey (IsFrom (to_itself forms)) (word_bytes found ++ drop 8 now) difference → difference ≡ 0
     → TurnsRewrapOf text pass_new forms (UnwrapNew fault) 0 t now text block block' (Done (Ok AlreadyNew))
 new_found pass_new forms fault found difference t now block block' text value tells zero = λ E D F G inv inv' state.
@@ -110,7 +110,7 @@ new_found pass_new forms fault found difference t now block block' text value te
     (state.2, is, refl)
 
 -- and none
-pub none_found : (pass_new : Bool) (forms : RewrapForms) (fault : RewrapFault) (found difference t : ℕ) (now block block' text : List ℕ)
+pub none_found : (pass_new : Bool) (forms : RewrapForms) (fault : Refusal) (found difference t : ℕ) (now block block' text : List ℕ)
     → word_bytes found ≡ take 8 block → TellsKey (IsFrom (to_itself forms)) (word_bytes found ++ drop 8 now) difference → ¬ (difference ≡ 0)
     → TurnsRewrapOf text pass_new forms (UnwrapNew fault) 0 t now text block block' (Done (Err fault))
 none_found pass_new forms fault found difference t now block block' text value tells some = λ E D F G inv inv' state.
@@ -124,7 +124,7 @@ none_found pass_new forms fault found difference t now block block' text value t
     )
 
 -- and it is wrapped again
-pub turned_new : (pass_new : Bool) (forms : RewrapForms) (fault : RewrapFault) (found difference : ℕ) (now block block' : List ℕ)
+pub turned_new : (pass_new : Bool) (forms : RewrapForms) (fault : Refusal) (found difference : ℕ) (now block block' : List ℕ)
     → word_bytes found ≡ take 8 block → TellsKey (IsFrom (to_itself forms)) (word_bytes found ++ drop 8 now) difference → difference ≡ 0
     → ((E : List ℕ → List ℕ) → WrapState E found (drop 8 now) 0 (drop 8 now) block')
     → TurnsRewrap pass_new forms (UnwrapNew fault) 0 0 now now block block' (Run (WrapNew (Ok AlreadyNew)))
@@ -133,7 +133,7 @@ turned_new pass_new forms fault found difference now block block' value tells ze
     let whole = new_found pass_new forms fault found difference 0 now block block' text value tells zero E D F G inv inv' state in
     again found (drop 8 now) block' text (IsRewrapping pass_new forms E F text (Ok AlreadyNew)) run (first F) (λ after e. (whole.0, whole.1, e))
 
-pub turned_refused : (pass_new : Bool) (forms : RewrapForms) (fault : RewrapFault) (found difference : ℕ) (now block block' : List ℕ)
+pub turned_refused : (pass_new : Bool) (forms : RewrapForms) (fault : Refusal) (found difference : ℕ) (now block block' : List ℕ)
     → word_bytes found ≡ take 8 block → TellsKey (IsFrom (to_itself forms)) (word_bytes found ++ drop 8 now) difference → ¬ (difference ≡ 0)
     → ((E : List ℕ → List ℕ) → WrapState E found (drop 8 now) 0 (drop 8 now) block')
     → TurnsRewrap pass_new forms (UnwrapNew fault) 0 0 now now block block' (Run (WrapNew (Err fault)))
@@ -182,7 +182,7 @@ moved E D F G pass_new forms text s s' inv inv' (inr turn) state = turn E D F G 
 
 -- a whole rewrapping
 pub whole_rewrap : (pass_new : Bool) (forms : RewrapForms) (E D F G : List ℕ → List ℕ) (text after : List ℕ) (calls : ℕ) (at : ℕ → RewrapAt)
-    (outcome : Result Rewrapped RewrapFault) → AreInverse E D → AreInverse F G → RewrapRun pass_new forms E F text calls at outcome after
+    (outcome : Result Rewrapped Refusal) → AreInverse E D → AreInverse F G → RewrapRun pass_new forms E F text calls at outcome after
     → IsRewrapping pass_new forms E F text outcome after
 whole_rewrap pass_new forms E D F G text after calls at outcome inv inv' run =
     run.ends E D F G inv inv'

@@ -7,8 +7,8 @@ use Rattle.key_wrap_core.specs.declared.agreed_form.AgreedForm.{AgreedForm}
 use Rattle.key_wrap_core.specs.declared.agreed_form.AgreedForm.TheVariants.{Plain, Padded}
 use Rattle.key_wrap_core.specs.declared.rewrapping.RewrapForms.{RewrapForms}
 use Rattle.key_wrap_core.specs.declared.rewrapping.RewrapForms.TheVariants.{Kept, Changed}
-use Rattle.key_wrap_core.specs.declared.rewrapping.RewrapFault.{RewrapFault}
-use Rattle.key_wrap_core.specs.declared.rewrapping.RewrapFault.TheVariants.{BadLength, Integrity, KeyNotPlain}
+use Rattle.key_wrap_core.specs.declared.faults.Refusal.{Refusal}
+use Rattle.key_wrap_core.specs.declared.faults.Refusal.TheVariants.{BadLength, Integrity, KeyNotPlain}
 use Rattle.key_wrap_core.specs.Words.{word_bytes}
 use Rattle.key_wrap_core.specs.Lengths.{IsPlainKeyLength, IsPaddedTextLength}
 use Rattle.key_wrap_core.specs.Plain.{default_iv}
@@ -73,7 +73,7 @@ plain_misfit one_word found registers key word legal short long holds =
     )
 
 -- a text to which a key belongs is refused only for the length of that key
-pub only_fault : {E D : List ℕ → List ℕ} (forms : RewrapForms) (form : AgreedForm) (key text : List ℕ) (fault : RewrapFault) → AreInverse E D
+pub only_fault : {E D : List ℕ → List ℕ} (forms : RewrapForms) (form : AgreedForm) (key text : List ℕ) (fault : Refusal) → AreInverse E D
     → IsOldWrapping forms E form key text → HasFault forms E text fault → (fault ≡ KeyNotPlain) × ¬ IsKeyLengthAs (to_form forms form) (length key)
 only_fault forms form key text BadLength inv w bad = absurd (bad (form, w.from, text_legal form key text inv w.wrapping))
 only_fault forms form key text Integrity inv w none = absurd (none.1 form w.from key w.wrapping)
@@ -81,7 +81,7 @@ only_fault forms form key text KeyNotPlain inv w bad =
     let same = w.only bad.0 bad.1 bad.2.from bad.2.wrapping in (refl, rw (same.0, same.1) at bad.3)
 
 -- so a text that is refused for another cause is no wrapping
-pub no_old : {E D : List ℕ → List ℕ} (forms : RewrapForms) (text : List ℕ) (fault : RewrapFault) → AreInverse E D → HasFault forms E text fault
+pub no_old : {E D : List ℕ → List ℕ} (forms : RewrapForms) (text : List ℕ) (fault : Refusal) → AreInverse E D → HasFault forms E text fault
     → ¬ (fault ≡ KeyNotPlain) → NoKeyIn (IsFrom forms) E text
 no_old forms text fault inv has other = λ form from key h.
     other (only_fault forms form key text fault inv (wrapping_of forms form key text inv from h) has).0

@@ -131,12 +131,7 @@ renamed L {form = form} {E = E} {text' = text'} {key = key} {answer = answer} sa
     subst (λ k. Unwrapping (L (length text')) form E text' k answer) own
     (subst (λ (t : List ℕ). Unwrapping (L (length t)) form E t key answer) same u)
 
--- an answer that is no fault is not one but BadLength
-pub ok_unless : {A : Type 0} (answer : Result A InPlaceFault) → IsOk answer → IsOkUnless answer BadLength
-ok_unless (Ok m) h = tt
-ok_unless (Err e) h = cc
-
--- and one that is no fault, of legal lengths, is a key
+-- an answer that is no fault, of legal lengths, is a key
 pub ok_legal : {A Legal : Type 0} (answer : Result A InPlaceFault) → Legal → ((answer ≡ Err BadLength) ↔ ¬ Legal) → IsOkUnless answer BadLength → IsOk answer
 ok_legal (Ok m) legal bad h = refl
 ok_legal (Err BadLength) legal bad h = absurd (bad.0 refl legal)

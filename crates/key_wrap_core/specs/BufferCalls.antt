@@ -10,8 +10,8 @@ use Rattle.key_wrap_core.specs.declared.faults.InPlaceFault.TheVariants.{BadLeng
 use Rattle.key_wrap_core.specs.declared.rewrapping.RewrapForms.{RewrapForms}
 use Rattle.key_wrap_core.specs.declared.rewrapping.Rewrapped.{Rewrapped}
 use Rattle.key_wrap_core.specs.declared.rewrapping.Rewrapped.TheVariants.{Fresh, AlreadyNew}
-use Rattle.key_wrap_core.specs.declared.rewrapping.RewrapFault.{RewrapFault}
-use Rattle.key_wrap_core.specs.declared.rewrapping.RewrapFault.TheVariants.{KeyNotPlain}
+use Rattle.key_wrap_core.specs.declared.faults.Refusal.{Refusal}
+use Rattle.key_wrap_core.specs.declared.faults.Refusal.TheVariants.{KeyNotPlain}
 use Rattle.key_wrap_core.specs.Lengths.{IsPaddedTextLength}
 use Rattle.key_wrap_core.specs.Padded.{padded}
 use Rattle.key_wrap_core.specs.BlockCalls.{block_calls}
@@ -55,7 +55,7 @@ pub record IsKeyBuffer (front key : List ℕ) (m : ℕ) (buffer : List ℕ) : Ty
   pub size : length key ≡ m
   pub around : buffer ≡ front ++ padded key
 
--- the meter of a call that makes so many block calls, or none if a length is refused
+-- the meter of a call that makes this number of block calls, or none if a length is refused
 pub record CountsCalls {B A : Type 0} (calls : ℕ) (old new : Metered B) (result : Result A InPlaceFault) : Type 0 where
   pub kept : result ≡ Err BadLength → new ≡ old
   pub counts : ¬ (result ≡ Err BadLength) → new ≡ counted calls old
@@ -73,7 +73,7 @@ pub record UsesScratch {B : Type 0} (text old new : List ℕ) (meter meter' : Me
 -- The block calls of a rewrapping of a text of this length. What was unwrapped under one of the pairs and is not rewrapped is
 -- wrapped again under it.
 pub record RewrapCalls {O N : Type 0} (pass_new : Bool) (forms : RewrapForms) (len : ℕ) (old old' : Metered O) (new new' : Metered N)
-    (result : Result Rewrapped RewrapFault) : Type 0 where
+    (result : Result Rewrapped Refusal) : Type 0 where
   pub unwrap_calls : result ≡ Ok Fresh → old' ≡ counted (block_calls len) old
   pub wrap_calls : result ≡ Ok Fresh → new' ≡ counted (block_calls len) new
   pub old_calls : ¬ (result ≡ Ok Fresh) → IsOldLength forms len → old' ≡ counted (2 * block_calls len) old

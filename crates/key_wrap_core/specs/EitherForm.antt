@@ -18,6 +18,6 @@ pub record IsOnlyWrapping (IsFrom : AgreedForm → Type 0) (E : List ℕ → Lis
       → (other_form ≡ form) × (other ≡ key)
   pub alone : (other : List ℕ) → IsWrapping form E key other → other ≡ text
 
--- it is the wrapping of no key in these forms
+-- it is not a valid wrapped key in these forms
 abbrev pub NoKeyIn : (AgreedForm → Type 0) → (List ℕ → List ℕ) → List ℕ → Type 0
 NoKeyIn IsFrom E text = (form : AgreedForm) → IsFrom form → NoKey (IsWrapping form E) text

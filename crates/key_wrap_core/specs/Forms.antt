@@ -40,12 +40,6 @@ abbrev pub IsTextLengthAs : AgreedForm → ℕ → Type 0
 IsTextLengthAs (InPlain iv) len = IsPlainTextLength len
 IsTextLengthAs InPadded len = IsPaddedTextLength len
 
-abbrev pub IsKeyLength : Form → ℕ → Type 0
-IsKeyLength form len = IsKeyLengthAs (by_default form) len
-
-abbrev pub IsTextLength : Form → ℕ → Type 0
-IsTextLength form len = IsTextLengthAs (by_default form) len
-
 -- the wrapped key is not a wrapping in the other form, under any initial value
 abbrev pub NoOtherForm : AgreedForm → (List ℕ → List ℕ) → List ℕ → Type 0
 NoOtherForm (InPlain iv) E text = NoKey (Padded E) text

@@ -8,7 +8,7 @@ use Rattle.key_wrap_core.specs.declared.faults.InPlaceFault.TheVariants.{Integri
 use Rattle.key_wrap_core.specs.declared.rewrapping.RewrapForms.{RewrapForms}
 use Rattle.key_wrap_core.specs.declared.rewrapping.Rewrapped.{Rewrapped}
 use Rattle.key_wrap_core.specs.declared.rewrapping.Rewrapped.TheVariants.{Fresh}
-use Rattle.key_wrap_core.specs.declared.rewrapping.RewrapFault.{RewrapFault}
+use Rattle.key_wrap_core.specs.declared.faults.Refusal.{Refusal}
 use Rattle.key_wrap_core.specs.Words.{word_bytes}
 use Rattle.key_wrap_core.specs.PaddedRegisters.{PaddedRegisters}
 use Rattle.key_wrap_core.specs.NoKey.{NoKey}
@@ -60,6 +60,6 @@ abbrev pub IsFound : RewrapForms → (List ℕ → List ℕ) → (text before : 
 IsFound forms E text before = (form : AgreedForm) × IsFrom forms form × (key : List ℕ) × IsIvAndKey form key before × PaddedRegisters E before text
 
 -- the result of a rewrapping that does not look for what is new
-abbrev pub as_fresh : Result Unit RewrapFault → Result Rewrapped RewrapFault
+abbrev pub as_fresh : Result Unit Refusal → Result Rewrapped Refusal
 as_fresh (Ok done) = Ok Fresh
 as_fresh (Err fault) = Err fault

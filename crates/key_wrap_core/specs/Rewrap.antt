@@ -5,8 +5,8 @@ use Rattle.key_wrap_core.specs.declared.rewrapping.RewrapForms.{RewrapForms}
 use Rattle.key_wrap_core.specs.declared.rewrapping.RewrapForms.TheVariants.{Kept, Changed}
 use Rattle.key_wrap_core.specs.declared.rewrapping.Rewrapped.{Rewrapped}
 use Rattle.key_wrap_core.specs.declared.rewrapping.Rewrapped.TheVariants.{Fresh, AlreadyNew}
-use Rattle.key_wrap_core.specs.declared.rewrapping.RewrapFault.{RewrapFault}
-use Rattle.key_wrap_core.specs.declared.rewrapping.RewrapFault.TheVariants.{BadLength, Integrity, KeyNotPlain}
+use Rattle.key_wrap_core.specs.declared.faults.Refusal.{Refusal}
+use Rattle.key_wrap_core.specs.declared.faults.Refusal.TheVariants.{BadLength, Integrity, KeyNotPlain}
 use Rattle.key_wrap_core.specs.Plain.{default_iv}
 use Rattle.key_wrap_core.specs.Forms.{IsWrapping, IsKeyLengthAs, IsTextLengthAs}
 use Rattle.key_wrap_core.specs.EitherForm.{IsEither, IsOnlyWrapping, NoKeyIn}
@@ -40,8 +40,8 @@ abbrev pub IsRewrapped : RewrapForms → (List ℕ → List ℕ) → (List ℕ �
 IsRewrapped forms E F text answer = (form : AgreedForm) × (key : List ℕ) × IsOldWrapping forms E form key text
     × IsOldWrapping (to_itself forms) F (to_form forms form) key answer
 
--- Why a text is refused: for its length, as the wrapping of no key, or of a key whose length is not legal in the new form.
-abbrev pub HasFault : RewrapForms → (List ℕ → List ℕ) → List ℕ → RewrapFault → Type 0
+-- Why a text is refused: its length is not legal, it is not a valid wrapped key, or its key has a length that is not legal in the new form.
+abbrev pub HasFault : RewrapForms → (List ℕ → List ℕ) → List ℕ → Refusal → Type 0
 HasFault forms E text BadLength = ¬ IsOldLength forms (length text)
 HasFault forms E text Integrity = IsOldLength forms (length text) × NoKeyIn (IsFrom forms) E text
 HasFault forms E text KeyNotPlain = (form : AgreedForm) × (key : List ℕ) × IsOldWrapping forms E form key text
@@ -53,11 +53,11 @@ pub record IsNew (forms : RewrapForms) (E F : List ℕ → List ℕ) (text : Lis
   pub new : (form : AgreedForm) × (key : List ℕ) × IsOldWrapping (to_itself forms) F form key text
 
 -- a text that is refused with `pass_new` is not new already
-abbrev pub IsRefused : Bool → RewrapForms → (List ℕ → List ℕ) → (List ℕ → List ℕ) → List ℕ → RewrapFault → Type 0
+abbrev pub IsRefused : Bool → RewrapForms → (List ℕ → List ℕ) → (List ℕ → List ℕ) → List ℕ → Refusal → Type 0
 IsRefused pass_new forms E F text fault = HasFault forms E text fault × (pass_new ≡ true → ¬ IsNew forms E F text)
 
 -- the result and the buffer of a rewrapping: of two results only one comes, and it is this one
-abbrev pub IsRewrapping : Bool → RewrapForms → (List ℕ → List ℕ) → (List ℕ → List ℕ) → List ℕ → Result Rewrapped RewrapFault
+abbrev pub IsRewrapping : Bool → RewrapForms → (List ℕ → List ℕ) → (List ℕ → List ℕ) → List ℕ → Result Rewrapped Refusal
     → List ℕ → Type 0
 IsRewrapping pass_new forms E F text (Ok Fresh) after = IsRewrapped forms E F text after
 IsRewrapping pass_new forms E F text (Ok AlreadyNew) after = (pass_new ≡ true) × IsNew forms E F text × (after ≡ text)
@@ -74,7 +74,7 @@ HasGoodKey forms E text = (form : AgreedForm) × (key : List ℕ) × IsOldWrappi
     × IsKeyLengthAs (to_form forms form) (length key)
 
 -- Exactly when each result of a rewrapping comes, what it leaves in the buffer, and what a fresh wrapping is.
-pub record RewrapResults (pass_new : Bool) (forms : RewrapForms) (E F : List ℕ → List ℕ) (text : List ℕ) (result : Result Rewrapped RewrapFault)
+pub record RewrapResults (pass_new : Bool) (forms : RewrapForms) (E F : List ℕ → List ℕ) (text : List ℕ) (result : Result Rewrapped Refusal)
     (after : List ℕ) : Type 0 where
   pub fresh : (result ≡ Ok Fresh) ↔ HasGoodKey forms E text
   pub already_new : (result ≡ Ok AlreadyNew) ↔ ((pass_new ≡ true) × IsNew forms E F text)

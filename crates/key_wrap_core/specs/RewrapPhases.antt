@@ -3,8 +3,8 @@
 use Rattle.std.specs.Prelude.{◌≡◌, ◌⊎◌, Bool, true, ℕ, ◌+◌, ◌<◌, List, ◌++◌, length, drop, Result}
 use Rattle.key_wrap_core.specs.declared.rewrapping.RewrapForms.{RewrapForms}
 use Rattle.key_wrap_core.specs.declared.rewrapping.Rewrapped.{Rewrapped}
-use Rattle.key_wrap_core.specs.declared.rewrapping.RewrapFault.{RewrapFault}
-use Rattle.key_wrap_core.specs.declared.rewrapping.RewrapFault.TheVariants.{KeyNotPlain}
+use Rattle.key_wrap_core.specs.declared.faults.Refusal.{Refusal}
+use Rattle.key_wrap_core.specs.declared.faults.Refusal.TheVariants.{KeyNotPlain}
 use Rattle.key_wrap_core.specs.declared.rewrap_steps.RewrapPhase.{RewrapPhase}
 use Rattle.key_wrap_core.specs.declared.rewrap_steps.RewrapPhase.TheVariants.{UnwrapOld, WrapOld, UnwrapNew, WrapNew}
 use Rattle.key_wrap_core.specs.declared.rewrap_steps.RewrapNext.{RewrapNext}
@@ -91,10 +91,10 @@ IsRewrapMove pass_new forms E F text s s' =
     × IsRunStep s.phase s.steps s'.steps (drop 8 s.now) (drop 8 s'.now) block s'.block)
     ⊎ TurnsRewrapOf text pass_new forms s.phase s.steps s'.steps s.now s'.now s.block s'.block (Run s'.phase)
 
--- A whole rewrapping of the text, by what the caller has after each of so many calls: it is begun, each call is a step or a turn,
+-- A whole rewrapping of the text, by what the caller has after each of its calls: it is begun, each call is a step or a turn,
 -- and the last turn ends it with this outcome, and with this buffer.
 pub record RewrapRun (pass_new : Bool) (forms : RewrapForms) (E F : List ℕ → List ℕ) (text : List ℕ) (calls : ℕ) (at : ℕ → RewrapAt)
-    (outcome : Result Rewrapped RewrapFault) (after : List ℕ) : Type 0 where
+    (outcome : Result Rewrapped Refusal) (after : List ℕ) : Type 0 where
   pub begun : RewrapState pass_new forms E F text (at 0).phase (at 0).steps (at 0).now (at 0).block
   pub moves : (k : ℕ) → k < calls → IsRewrapMove pass_new forms E F text (at k) (at (k + 1))
   pub t : ℕ

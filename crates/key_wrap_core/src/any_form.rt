@@ -23,8 +23,8 @@ use byteorder::{BigEndian, ByteOrder};
 /// zero bytes to the end. Returns the form and the length of the key.
 ///
 /// `BadLength`, with the buffer and the meter unchanged, if the buffer's length is legal in neither
-/// form. `Integrity` if the buffer holds the wrapping of no key in either form. Then every byte of
-/// it becomes zero, and the meter counts as many calls as for a key.
+/// form. `Integrity` if the buffer is not a valid wrapped key in either form. Then every byte of it
+/// becomes zero, and the meter counts as many calls as for a key.
 pub fn unwrap_any_in_place<B: BlockPair>(
     meter: &mut Meter<B>,
     iv: &InitialValue,
@@ -53,9 +53,9 @@ pub fn unwrap_any_in_place<B: BlockPair>(
 /// key.
 ///
 /// `BadLength`, with the key's buffer and the meter unchanged, if the length of `text` is legal in
-/// neither form, or if the key's buffer is not 8 bytes shorter. `Integrity` if `text` is the
-/// wrapping of no key in either form. Then every byte of the key's buffer becomes zero, and the
-/// meter counts as many calls as for a key.
+/// neither form, or if the key's buffer is not 8 bytes shorter. `Integrity` if `text` is not a valid
+/// wrapped key in either form. Then every byte of the key's buffer becomes zero, and the meter counts
+/// as many calls as for a key.
 pub fn unwrap_any_into<B: BlockPair>(
     meter: &mut Meter<B>,
     iv: &InitialValue,

@@ -76,7 +76,7 @@ pub(crate) fn padded_difference(iv: u64, registers: &[u8]) -> u64
     prefix | (padding / 8) | last_bytes(last, padding % 8)
 }
 
-// The last bytes of a word, so many, as a number.
+// The last `count` bytes of a word, as a number.
 fn last_bytes(word: u64, count: u64) -> u64
     requires { count < 8 }
     ensures { result ≡ word % 256 ^ count }

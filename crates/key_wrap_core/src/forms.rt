@@ -18,13 +18,13 @@ pub struct FoundKey {
     pub len: usize,
 }
 
-/// The form in which bytes are a wrapping, with the length of their key.
+/// The form of a wrapped key, with the length of its key.
 #[derive(Clone, Copy, Debug, PartialEq, Eq)]
 pub enum Kind {
     /// The plain wrapping (RFC 3394) of a key of this many bytes.
     Plain(usize),
     /// The padded wrapping (RFC 5649) of a key of this many bytes.
     Padded(usize),
-    /// The wrapping of no key, in either form.
+    /// Not a valid wrapped key in either form.
     Neither,
 }

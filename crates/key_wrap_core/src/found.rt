@@ -14,12 +14,12 @@ use crate::agreed_form::AgreedForm;
 use crate::checks::is_zero;
 use crate::faults::InPlaceFault;
 use crate::lengths::WORD;
-use crate::machine::{unwrap_slice, wrap_slice};
+use crate::machine::{machine_unwrap, machine_wrap};
 use block_pair::{BlockPair, Meter};
 use byteorder::{BigEndian, ByteOrder};
 
-// C1 .. Cn after the first word of the buffer become the registers that the machine runs back to,
-// and the answer is the initial value. For two words and more both forms unwrap by the same steps.
+// Unwraps C1 .. Cn after the first word of the buffer in place, with no check. Returns the initial value
+// found. For two words and more both forms unwrap by the same steps.
 #[tactic(auto, using(crate::proofs::InPlaceForm::lent_length, crate::proofs::InPlaceForm::lent_text, crate::proofs::InPlaceForm::registers_now))]
 pub(crate) fn unwrap_buffer<B: BlockPair>(meter: &mut Meter<B>, buf: &mut [u8]) -> u64
     requires { IsPaddedTextLength (length buf.old) }
@@ -28,11 +28,11 @@ pub(crate) fn unwrap_buffer<B: BlockPair>(meter: &mut Meter<B>, buf: &mut [u8]) 
     ensures calls { meter.new ≡ counted (block_calls (length buf.old)) meter.old }
 {
     let c0 = BigEndian::read_u64(buf);
-    unwrap_slice(meter, c0, &mut buf[WORD..])
+    machine_unwrap(meter, c0, &mut buf[WORD..])
 }
 
-// The registers after the first word of the buffer become what they are wrapped to under this
-// initial value, the whole buffer: under the value with which they were found, the text again.
+// Wraps the registers after the first word of the buffer in place, under this initial value: under the
+// value with which they were found, the buffer becomes the text again.
 #[tactic(auto, using(crate::proofs::InPlaceForm::lent_length, crate::proofs::InPlaceForm::registers_now, crate::proofs::FoundForms::behind_first), unfolding(crate::specs::Words::word_bytes))]
 pub(crate) fn wrap_buffer<B: BlockPair>(meter: &mut Meter<B>, iv: u64, buf: &mut [u8])
     requires { IsPaddedTextLength (length buf.old) }
@@ -40,7 +40,7 @@ pub(crate) fn wrap_buffer<B: BlockPair>(meter: &mut Meter<B>, iv: u64, buf: &mut
         (word_bytes iv ++ drop 8 buf.old) buf.new }
     ensures calls { meter.new ≡ counted (block_calls (length buf.old)) meter.old }
 {
-    let c0 = wrap_slice(meter, iv, &mut buf[WORD..]);
+    let c0 = machine_wrap(meter, iv, &mut buf[WORD..]);
     BigEndian::write_u64(buf, c0);
 }
 

@@ -16,7 +16,7 @@ use crate::agreed_form::AgreedForm;
 use crate::checks::{DEFAULT_IV, padded_iv};
 use crate::faults::InPlaceFault;
 use crate::found::wrap_buffer;
-use crate::lengths::{WORD, padded_length_ok, padded_text_length_ok, text_length_ok};
+use crate::lengths::{WORD, padded_length_ok, padded_text_length_ok, text_len, text_length_ok};
 use crate::unwrapping::{unwrap_padded_registers, unwrap_registers};
 use block_pair::{BlockPair, Meter};
 use byteorder::{BigEndian, ByteOrder};
@@ -42,8 +42,8 @@ pub fn wrap_in_place<B: BlockPair>(meter: &mut Meter<B>, buf: &mut [u8]) -> Resu
 /// section 2.2.2).
 ///
 /// `BadLength`, with the buffer and the meter unchanged, if `text_length_ok` is false for the
-/// buffer's length. `Integrity` if the buffer holds the plain wrapping of no key; then every byte
-/// of it becomes zero, and the meter counts as many calls as for a key.
+/// buffer's length. `Integrity` if the buffer is not a valid plain wrapping; then every byte of it
+/// becomes zero, and the meter counts as many calls as for a key.
 pub fn unwrap_in_place<B: BlockPair>(
     meter: &mut Meter<B>,
     buf: &mut [u8],
@@ -79,7 +79,7 @@ pub fn wrap_padded_in_place<B: BlockPair>(
         (B.encrypted meter.old.pair) (key_in m buf.old) buf.old buf.new result }
     ensures calls { CountsCalls (block_calls (length buf.old)) meter.old meter.new result }
 {
-    if !padded_length_ok(m) || buf.len() != WORD + m.next_multiple_of(WORD) {
+    if !padded_length_ok(m) || buf.len() != text_len(m) {
         return Err(InPlaceFault::BadLength);
     }
     buf[WORD + m..].fill(0);
@@ -91,8 +91,8 @@ pub fn wrap_padded_in_place<B: BlockPair>(
 /// to the end (RFC 5649, section 4.2). Returns the length of the key.
 ///
 /// `BadLength`, with the buffer and the meter unchanged, if `padded_text_length_ok` is false for
-/// the buffer's length. `Integrity` if the buffer holds the padded wrapping of no key; then every
-/// byte of it becomes zero, and the meter counts as many calls as for a key.
+/// the buffer's length. `Integrity` if the buffer is not a valid padded wrapping; then every byte of
+/// it becomes zero, and the meter counts as many calls as for a key.
 pub fn unwrap_padded_in_place<B: BlockPair>(
     meter: &mut Meter<B>,
     buf: &mut [u8],

@@ -13,7 +13,7 @@ use crate::faults::InPlaceFault;
 use crate::in_place::wrap_padded_in_place;
 use crate::initial_value::InitialValue;
 use crate::into_with::{unwrap_into_with, wrap_into_with};
-use crate::lengths::{WORD, padded_length_ok, padded_text_length_ok};
+use crate::lengths::{WORD, padded_length_ok, padded_text_length_ok, text_len};
 use crate::unwrapping::unwrap_padded_registers;
 use block_pair::{BlockPair, Meter};
 use byteorder::{BigEndian, ByteOrder};
@@ -37,9 +37,9 @@ pub fn wrap_into<B: BlockPair>(
 /// Writes the key whose plain wrapping is `text` into `key` (RFC 3394, section 2.2.2).
 ///
 /// `BadLength`, with the key's buffer and the meter unchanged, if `text_length_ok` is false for
-/// `text`'s length, or if the key's buffer is not 8 bytes shorter. `Integrity` if `text` is the
-/// plain wrapping of no key; then every byte of the key's buffer becomes zero, and the meter counts
-/// as many calls as for a key.
+/// `text`'s length, or if the key's buffer is not 8 bytes shorter. `Integrity` if `text` is not a
+/// valid plain wrapping; then every byte of the key's buffer becomes zero, and the meter counts as
+/// many calls as for a key.
 pub fn unwrap_into<B: BlockPair>(
     meter: &mut Meter<B>,
     text: &[u8],
@@ -67,7 +67,7 @@ pub fn wrap_padded_into<B: BlockPair>(
     ensures calls { CountsCalls (block_calls (length text.old)) meter.old meter.new result }
 {
     let m = key.len();
-    if !padded_length_ok(m) || text.len() != WORD + m.next_multiple_of(WORD) {
+    if !padded_length_ok(m) || text.len() != text_len(m) {
         return Err(InPlaceFault::BadLength);
     }
     text[WORD..WORD + m].copy_from_slice(key);
@@ -78,9 +78,9 @@ pub fn wrap_padded_into<B: BlockPair>(
 /// buffer (RFC 5649, section 4.2). Returns the length of the key.
 ///
 /// `BadLength`, with the key's buffer and the meter unchanged, if `padded_text_length_ok` is false
-/// for `text`'s length, or if the key's buffer is not 8 bytes shorter. `Integrity` if `text` is the
-/// padded wrapping of no key; then every byte of the key's buffer becomes zero, and the meter
-/// counts as many calls as for a key.
+/// for `text`'s length, or if the key's buffer is not 8 bytes shorter. `Integrity` if `text` is not a
+/// valid padded wrapping; then every byte of the key's buffer becomes zero, and the meter counts as
+/// many calls as for a key.
 pub fn unwrap_padded_into<B: BlockPair>(
     meter: &mut Meter<B>,
     text: &[u8],

@@ -43,8 +43,8 @@ pub fn wrap_into_with<B: BlockPair>(
 /// sections 2.2.2 and 2.2.3.2).
 ///
 /// `BadLength`, with the key's buffer and the meter unchanged, if `text_length_ok` is false for
-/// `text`'s length, or if the key's buffer is not 8 bytes shorter. `Integrity` if `text` is the
-/// plain wrapping of no key under this initial value; then every byte of the key's buffer becomes
+/// `text`'s length, or if the key's buffer is not 8 bytes shorter. `Integrity` if `text` is not a
+/// valid plain wrapping under this initial value; then every byte of the key's buffer becomes
 /// zero, and the meter counts as many calls as for a key.
 pub fn unwrap_into_with<B: BlockPair>(
     meter: &mut Meter<B>,

@@ -3,52 +3,74 @@
 ghost use Rattle.std.specs.Prelude.{◌↔◌, IsTrue};
 ghost use Rattle.key_wrap_core.specs.Lengths.{IsPlainKeyLength, IsPlainTextLength, IsPaddedKeyLength};
 ghost use Rattle.key_wrap_core.specs.Lengths.{IsPaddedTextLength};
-ghost use Rattle.key_wrap_core.specs.Forms.{IsTextLengthAs};
+ghost use Rattle.key_wrap_core.specs.Forms.{IsKeyLengthAs, IsTextLengthAs};
+ghost use Rattle.key_wrap_core.specs.InPlace.{IsPaddedRoom};
 
 use crate::agreed_form::AgreedForm;
+use crate::initial_value::InitialValue;
 
-// The bytes of a word.
-pub(crate) const WORD: usize = 8;
+/// The bytes of a word.
+pub const WORD: usize = 8;
 
 /// The most bytes of key data, in both forms. The standards allow more.
 pub const MAX_KEY: usize = 1_048_576;
 
-/// Whether a key of `len` bytes has a plain wrapping (RFC 3394, section 2.2): a multiple of 8 from
-/// 16 to `MAX_KEY`.
+impl AgreedForm {
+    /// Whether a key of `len` bytes has a wrapping in this form: a multiple of 8 from 16 to `MAX_KEY`
+    /// (RFC 3394, section 2.2), or in the padded form 1 to `MAX_KEY` (RFC 5649, section 4.1).
+    pub fn takes_key(&self, len: usize) -> bool
+        ensures { IsTrue result ↔ IsKeyLengthAs self.now len }
+    {
+        match self {
+            AgreedForm::Plain(_) => len % 8 == 0 && (16..=MAX_KEY).contains(&len),
+            AgreedForm::Padded => 1 <= len && len <= MAX_KEY,
+        }
+    }
+
+    /// Whether `len` bytes can be a wrapped key in this form: a multiple of 8 from 24, or in the padded
+    /// form from 16, to `MAX_KEY + 8`.
+    pub fn takes_text(&self, len: usize) -> bool
+        ensures { IsTrue result ↔ IsTextLengthAs self.now len }
+    {
+        match self {
+            AgreedForm::Plain(_) => len % 8 == 0 && 24 <= len && len <= MAX_KEY + 8,
+            AgreedForm::Padded => len % 8 == 0 && 16 <= len && len <= MAX_KEY + 8,
+        }
+    }
+}
+
+/// The length of the wrapped key of a key of `key_len` bytes, in either form: one word more than the
+/// key and its padding. Any number, if `padded_length_ok` is false.
+pub fn text_len(key_len: usize) -> usize
+    ensures { IsPaddedKeyLength key_len → IsPaddedRoom key_len result }
+{
+    key_len.saturating_add(2 * WORD - 1) / WORD * WORD
+}
+
+/// Whether a key of `len` bytes has a plain wrapping.
 pub fn key_length_ok(len: usize) -> bool
     ensures { IsTrue result ↔ IsPlainKeyLength len }
 {
-    len % 8 == 0 && (16..=MAX_KEY).contains(&len)
+    AgreedForm::Plain(InitialValue::default()).takes_key(len)
 }
 
-/// Whether `len` bytes can be a plain wrapping: a multiple of 8 from 24 to `MAX_KEY + 8`.
+/// Whether `len` bytes can be a plain wrapping.
 pub fn text_length_ok(len: usize) -> bool
     ensures { IsTrue result ↔ IsPlainTextLength len }
 {
-    len % 8 == 0 && 24 <= len && len <= MAX_KEY + 8
+    AgreedForm::Plain(InitialValue::default()).takes_text(len)
 }
 
-/// Whether a key of `len` bytes has a padded wrapping (RFC 5649, section 4.1): 1 to `MAX_KEY`.
+/// Whether a key of `len` bytes has a padded wrapping.
 pub fn padded_length_ok(len: usize) -> bool
     ensures { IsTrue result ↔ IsPaddedKeyLength len }
 {
-    1 <= len && len <= MAX_KEY
+    AgreedForm::Padded.takes_key(len)
 }
 
-/// Whether `len` bytes can be a padded wrapping: a multiple of 8 from 16 to `MAX_KEY +
-/// 8`.
+/// Whether `len` bytes can be a padded wrapping.
 pub fn padded_text_length_ok(len: usize) -> bool
     ensures { IsTrue result ↔ IsPaddedTextLength len }
 {
-    len % 8 == 0 && 16 <= len && len <= MAX_KEY + 8
-}
-
-// Whether `len` bytes can be a wrapping in this form.
-pub(crate) fn is_text_length(form: &AgreedForm, len: usize) -> bool
-    ensures { IsTrue result ↔ IsTextLengthAs form.now len }
-{
-    match form {
-        AgreedForm::Plain(_) => text_length_ok(len),
-        AgreedForm::Padded => padded_text_length_ok(len),
-    }
+    AgreedForm::Padded.takes_text(len)
 }

@@ -37,7 +37,7 @@ mod wrap_steps;
 
 pub use agreed_form::AgreedForm;
 pub use any_form::{unwrap_any_in_place, unwrap_any_into};
-pub use faults::{InPlaceFault, ReservedIv};
+pub use faults::{InPlaceFault, Refusal, ReservedIv};
 pub use forms::{Form, FoundKey, Kind};
 pub use in_place::{unwrap_in_place, unwrap_padded_in_place, wrap_in_place, wrap_padded_in_place};
 pub use initial_value::InitialValue;
@@ -46,14 +46,13 @@ pub use into_with::{unwrap_into_with, wrap_into_with};
 pub use kinds::{kind_into, kind_into_with};
 pub use laws::{one_key_law, one_text_law};
 pub use lengths::{
-    MAX_KEY, key_length_ok, padded_length_ok, padded_text_length_ok, text_length_ok,
+    MAX_KEY, WORD, key_length_ok, padded_length_ok, padded_text_length_ok, text_len, text_length_ok,
 };
 pub use rewrap_steps::{
     RewrapNext, RewrapPhase, RewrapRequest, begin_rewrap, next_rewrap, next_rewrap_from,
 };
-pub use rewrapping::{
-    RewrapFault, RewrapForms, Rewrapped, one_result_law, rewrap, rewrap_length_ok,
-};
+pub use rewrapping::{RewrapForms, Rewrapped, one_result_law, rewrap, rewrap_length_ok};
+pub use steps::{register_after, register_before, step_count};
 pub use unwrap_steps::{
     begin_unwrap, begin_unwrap_padded, end_unwrap, end_unwrap_any, end_unwrap_padded, step_unwrap,
 };

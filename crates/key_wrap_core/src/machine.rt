@@ -17,7 +17,7 @@ use byteorder::{BigEndian, ByteOrder};
 
 // The key data in the registers become C1 .. Cn, and the result is C0 (RFC 3394, section 2.2.1; for
 // one word RFC 5649, section 4.1).
-pub(crate) fn wrap_slice<B: BlockPair>(meter: &mut Meter<B>, iv: u64, registers: &mut [u8]) -> u64
+pub(crate) fn machine_wrap<B: BlockPair>(meter: &mut Meter<B>, iv: u64, registers: &mut [u8]) -> u64
     requires { IsPaddedTextLength (8 + length registers.old) }
     ensures wrapped { PaddedRegisters (B.encrypted meter.old.pair)
         (word_bytes iv ++ registers.old) (word_bytes result ++ registers.new) }
@@ -30,7 +30,7 @@ pub(crate) fn wrap_slice<B: BlockPair>(meter: &mut Meter<B>, iv: u64, registers:
     BigEndian::read_u64(&block)
 }
 
-// `wrap_slice` of two words and more: a loop that asks for the form in each step takes 6 to 10 % longer.
+// `machine_wrap` of two words and more: a loop that asks for the form in each step takes 6 to 10 % longer.
 fn wrap_words<B: BlockPair>(meter: &mut Meter<B>, iv: u64, registers: &mut [u8]) -> u64
     requires { IsPlainTextLength (8 + length registers.old) }
     ensures wrapped { PaddedRegisters (B.encrypted meter.old.pair)
@@ -46,7 +46,11 @@ fn wrap_words<B: BlockPair>(meter: &mut Meter<B>, iv: u64, registers: &mut [u8])
 
 // C1 .. Cn in the registers become the key data, and the result is the initial value (RFC 3394,
 // section 2.2.2; for one word RFC 5649, section 4.2).
-pub(crate) fn unwrap_slice<B: BlockPair>(meter: &mut Meter<B>, c0: u64, registers: &mut [u8]) -> u64
+pub(crate) fn machine_unwrap<B: BlockPair>(
+    meter: &mut Meter<B>,
+    c0: u64,
+    registers: &mut [u8],
+) -> u64
     requires { IsPaddedTextLength (8 + length registers.old) }
     ensures wrapped { PaddedRegisters (B.encrypted meter.old.pair)
         (word_bytes result ++ registers.new) (word_bytes c0 ++ registers.old) }

@@ -16,11 +16,9 @@ ghost use Rattle.key_wrap_core.specs.Rewrap.{HasFault, IsRewrapping};
 ghost use Rattle.key_wrap_core.specs.RewrapPhases.{CanBegin, RewrapState, RewrapGoes, TurnsRewrap, TurnsRewrapOf, phase_end};
 
 use crate::checks::decide;
-use crate::faults::InPlaceFault;
+use crate::faults::{InPlaceFault, Refusal};
 use crate::lengths::{WORD, padded_text_length_ok};
-use crate::rewrapping::{
-    RewrapFault, RewrapForms, Rewrapped, fit, old_difference, rewrap_length_ok, to_itself,
-};
+use crate::rewrapping::{RewrapForms, Rewrapped, fit, old_difference, rewrap_length_ok, to_itself};
 use crate::steps::{first_block, last_block, step_count};
 use byteorder::{BigEndian, ByteOrder};
 
@@ -39,12 +37,12 @@ pub enum RewrapPhase {
     /// It is decrypted under the old pair, and a step is undone.
     UnwrapOld,
     /// It is encrypted under the old pair, and a step is made: the refused text is restored.
-    WrapOld(RewrapFault),
+    WrapOld(Refusal),
     /// It is decrypted under the new pair, and a step is undone: the text that is refused under the
     /// old pair may be new already.
-    UnwrapNew(RewrapFault),
+    UnwrapNew(Refusal),
     /// It is encrypted under the new pair, and a step is made. The rewrapping ends with this outcome.
-    WrapNew(Result<Rewrapped, RewrapFault>),
+    WrapNew(Result<Rewrapped, Refusal>),
 }
 
 /// What follows a run.
@@ -53,7 +51,7 @@ pub enum RewrapNext {
     /// Another run.
     Run(RewrapPhase),
     /// The end of the rewrapping.
-    Done(Result<Rewrapped, RewrapFault>),
+    Done(Result<Rewrapped, Refusal>),
 }
 
 /// Begins a rewrapping of the text: `steps` becomes the number of steps of the first run, and the
@@ -66,15 +64,15 @@ pub fn begin_rewrap(
     text: &[u8],
     steps: &mut u64,
     block: &mut [u8; 16],
-) -> Result<RewrapPhase, RewrapFault>
+) -> Result<RewrapPhase, Refusal>
     ensures bad_length { IsErr result ↔ ¬ CanBegin request.now.pass_new request.now.forms (length text.now) }
-    ensures only_fault { IsOkUnless result RewrapFault.BadLength }
+    ensures only_fault { IsOkUnless result Refusal.BadLength }
     ensures kept { IsErr result → (steps.new ≡ steps.old) × (block.new ≡ block.old) }
     ensures begins { IfOk result (λ phase. (E F : List ℕ → List ℕ) → RewrapState
         request.now.pass_new request.now.forms E F text.now phase steps.new text.now block.new) }
     ensures refuses { IsErr result → (E D F G : List ℕ → List ℕ) → AreInverse E D → AreInverse F G
         → IsRewrapping request.now.pass_new request.now.forms E F text.now
-        (Err RewrapFault.BadLength) text.now }
+        (Err Refusal.BadLength) text.now }
 {
     if rewrap_length_ok(&request.forms, text.len()) {
         begin_text(text, steps, block);
@@ -82,9 +80,9 @@ pub fn begin_rewrap(
     }
     if request.pass_new && rewrap_length_ok(&to_itself(&request.forms), text.len()) {
         begin_text(text, steps, block);
-        return Ok(RewrapPhase::UnwrapNew(RewrapFault::BadLength));
+        return Ok(RewrapPhase::UnwrapNew(Refusal::BadLength));
     }
-    Err(RewrapFault::BadLength)
+    Err(Refusal::BadLength)
 }
 
 /// Ends a run of this phase, and begins the next one, if there is one. At the end of the rewrapping the
@@ -219,11 +217,11 @@ fn turn_old(forms: &RewrapForms, text: &[u8], block: &mut [u8; 16]) -> RewrapPha
     let (misfit, iv) = fit(forms, found, registers);
     let Ok(()) = decide(difference, &mut []) else {
         *block = first_block(found, registers);
-        return RewrapPhase::WrapOld(RewrapFault::Integrity);
+        return RewrapPhase::WrapOld(Refusal::Integrity);
     };
     let Ok(()) = decide(misfit, &mut []) else {
         *block = first_block(found, registers);
-        return RewrapPhase::WrapOld(RewrapFault::KeyNotPlain);
+        return RewrapPhase::WrapOld(Refusal::KeyNotPlain);
     };
     *block = first_block(iv, registers);
     RewrapPhase::WrapNew(Ok(Rewrapped::Fresh))
@@ -232,7 +230,7 @@ fn turn_old(forms: &RewrapForms, text: &[u8], block: &mut [u8; 16]) -> RewrapPha
 // The text is restored. It may be new already.
 fn after_old(
     request: &RewrapRequest,
-    fault: RewrapFault,
+    fault: Refusal,
     text: &[u8],
     steps: &mut u64,
     block: &mut [u8; 16],
@@ -243,7 +241,7 @@ fn after_old(
         → RewrapGoes request.now.pass_new request.now.forms E F text.now
         result steps.new text.now block.new }
 {
-    if !request.pass_new || fault == RewrapFault::KeyNotPlain {
+    if !request.pass_new || fault == Refusal::KeyNotPlain {
         return RewrapNext::Done(Err(fault));
     }
     if !rewrap_length_ok(&to_itself(&request.forms), text.len()) {
@@ -257,10 +255,10 @@ fn after_old(
 // it is a key. Where the text is restored in another way, that is the end.
 fn turn_new(
     forms: &RewrapForms,
-    fault: RewrapFault,
+    fault: Refusal,
     text: &[u8],
     block: &mut [u8; 16],
-) -> Result<Rewrapped, RewrapFault>
+) -> Result<Rewrapped, Refusal>
     requires { IsPaddedTextLength (length text.now) }
     ensures turns { (pass_new : Bool) → TurnsRewrap pass_new forms.now (RewrapPhase.UnwrapNew fault)
         0 0 text.now text.now block.old block.new (RewrapNext.Run (RewrapPhase.WrapNew result)) }

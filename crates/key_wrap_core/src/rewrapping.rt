@@ -15,11 +15,10 @@ ghost use Rattle.key_wrap_core.specs.Private.{Fits, IsFound, TellsKey, as_fresh}
 
 use crate::agreed_form::AgreedForm;
 use crate::checks::{DEFAULT_IV, given_length, is_zero, padded_difference, padded_iv};
-use crate::faults::InPlaceFault;
+use crate::faults::Refusal;
 use crate::found::{decide_or_restore, either, plain_difference, unwrap_buffer, wrap_buffer};
-use crate::lengths::{WORD, is_text_length, padded_text_length_ok};
+use crate::lengths::{WORD, padded_text_length_ok};
 use block_pair::{BlockPair, Meter};
-use thiserror::Error;
 
 /// The old and the new form of a rewrapping.
 #[derive(Clone, Copy, Debug)]
@@ -44,20 +43,6 @@ pub enum Rewrapped {
     AlreadyNew,
 }
 
-/// Why a rewrapping refuses.
-#[derive(Clone, Copy, Debug, PartialEq, Eq, Error)]
-pub enum RewrapFault {
-    /// The wrapped key's length is legal in no old form.
-    #[error("{}", InPlaceFault::BadLength)]
-    BadLength,
-    /// It is the wrapping of no key.
-    #[error("{}", InPlaceFault::Integrity)]
-    Integrity,
-    /// It is the padded wrapping of a key whose length no plain key has.
-    #[error("{}", InPlaceFault::BadLength)]
-    KeyNotPlain,
-}
-
 /// Rewraps the wrapped key in the buffer in place, from the old pair to the new one. With
 /// `pass_new`, a wrapped key that is already under the new pair, in the new form, is left as it is.
 /// The old pair is tried first. After a refusal the buffer is what it was.
@@ -67,7 +52,7 @@ pub fn rewrap<O: BlockPair, N: BlockPair>(
     forms: &RewrapForms,
     pass_new: bool,
     buf: &mut [u8],
-) -> Result<Rewrapped, RewrapFault>
+) -> Result<Rewrapped, Refusal>
     ensures rewraps { IsRewrapping pass_new forms.now (O.encrypted old.old.pair)
         (N.encrypted new.old.pair) buf.old result buf.new }
     ensures results { RewrapResults pass_new forms.now (O.encrypted old.old.pair)
@@ -79,7 +64,7 @@ pub fn rewrap<O: BlockPair, N: BlockPair>(
         Ok(()) => return Ok(Rewrapped::Fresh),
         Err(fault) => fault,
     };
-    if !pass_new || fault == RewrapFault::KeyNotPlain {
+    if !pass_new || fault == Refusal::KeyNotPlain {
         return Err(fault);
     }
     match find(new, &to_itself(forms), buf) {
@@ -97,7 +82,7 @@ fn rewrap_old<O: BlockPair, N: BlockPair>(
     new: &mut Meter<N>,
     forms: &RewrapForms,
     buf: &mut [u8],
-) -> Result<(), RewrapFault>
+) -> Result<(), Refusal>
     ensures rewraps { IsRewrapping false forms.now (O.encrypted old.old.pair)
         (N.encrypted new.old.pair) buf.old (as_fresh result) buf.new }
     ensures calls { RewrapCalls false forms.now (length buf.old)
@@ -109,7 +94,7 @@ fn rewrap_old<O: BlockPair, N: BlockPair>(
     };
     let (misfit, iv) = fit(forms, found, &buf[WORD..]);
     let Ok(()) = decide_or_restore(old, found, misfit, buf) else {
-        return Err(RewrapFault::KeyNotPlain);
+        return Err(Refusal::KeyNotPlain);
     };
     wrap_buffer(new, iv, buf);
     Ok(())
@@ -121,11 +106,11 @@ fn find<B: BlockPair>(
     meter: &mut Meter<B>,
     forms: &RewrapForms,
     buf: &mut [u8],
-) -> Result<u64, RewrapFault>
+) -> Result<u64, Refusal>
     ensures found { IfOk result (λ iv. IsFound forms.now (B.encrypted meter.old.pair)
         buf.old (word_bytes iv ++ drop 8 buf.new)) }
     ensures refused { IfErr result (λ fault. HasFault forms.now (B.encrypted meter.old.pair)
-        buf.old fault × ¬ (fault ≡ RewrapFault.KeyNotPlain)) }
+        buf.old fault × ¬ (fault ≡ Refusal.KeyNotPlain)) }
     ensures kept { IsErr result → buf.new ≡ buf.old }
     ensures legal { IsOk result → IsOldLength forms.now (length buf.old) }
     ensures calls { IsOk result → meter.new ≡ counted (block_calls (length buf.old)) meter.old }
@@ -134,12 +119,12 @@ fn find<B: BlockPair>(
     ensures meter_kept { ¬ IsOldLength forms.now (length buf.old) → meter.new ≡ meter.old }
 {
     if !rewrap_length_ok(forms, buf.len()) {
-        return Err(RewrapFault::BadLength);
+        return Err(Refusal::BadLength);
     }
     let found = unwrap_buffer(meter, buf);
     let difference = old_difference(forms, found, &buf[WORD..]);
     let Ok(()) = decide_or_restore(meter, found, difference, buf) else {
-        return Err(RewrapFault::Integrity);
+        return Err(Refusal::Integrity);
     };
     Ok(found)
 }
@@ -163,7 +148,7 @@ pub fn rewrap_length_ok(forms: &RewrapForms, len: usize) -> bool
 {
     match forms {
         RewrapForms::Kept => padded_text_length_ok(len),
-        RewrapForms::Changed { old, .. } => is_text_length(old, len),
+        RewrapForms::Changed { old, .. } => old.takes_text(len),
     }
 }
 
@@ -214,7 +199,7 @@ pub(crate) fn fit(forms: &RewrapForms, iv: u64, registers: &[u8]) -> (u64, u64)
 /// does nothing.
 pub fn one_result_law<O: BlockPair, N: BlockPair>(old: &O, new: &N)
     ensures { (pass_new : Bool) (forms : RewrapForms) (text after other : List ℕ)
-        → (result other_result : Result Rewrapped RewrapFault)
+        → (result other_result : Result Rewrapped Refusal)
         → IsRewrapping pass_new forms (O.encrypted old.now) (N.encrypted new.now) text result after
         → IsRewrapping pass_new forms (O.encrypted old.now) (N.encrypted new.now) text other_result other
         → (other_result ≡ result) × (other ≡ after) }

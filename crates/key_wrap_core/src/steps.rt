@@ -21,9 +21,8 @@ pub(crate) fn registers_ok(len: usize) -> bool
     len % 8 == 0 && 8 <= len && len <= MAX_KEY
 }
 
-// The number of steps over registers of `len` bytes, each with one block call.
-pub(crate) fn step_count(len: usize) -> u64
-    requires { len ≤ MAX_KEY }
+/// Returns the number of steps over registers of `len` bytes, each with one block call.
+pub fn step_count(len: usize) -> u64
     ensures { result ≡ block_calls (8 + len) }
 {
     if len == WORD {
@@ -127,20 +126,23 @@ fn unstep_words(registers: &mut [u8], left: usize, block: [u8; 16]) -> [u8; 16]
     word_and_register(a, &registers[next..next + WORD])
 }
 
-// The number of the register after this one of `n`, without a second division.
-fn register_after(i: usize, n: usize) -> usize
-    requires { i < n }
-    ensures { result ≡ (i + 1) % n }
+/// Returns the number of the register after this one of `n`, without a second division. Any number,
+/// if there are not so many registers.
+pub fn register_after(i: usize, n: usize) -> usize
+    ensures within { i < n → result < n }
+    ensures number { i < n → result ≡ (i + 1) % n }
 {
-    if i + 1 == n { 0 } else { i + 1 }
+    let after = i.wrapping_add(1);
+    if after == n { 0 } else { after }
 }
 
-// The number of the register before this one of `n`.
-fn register_before(i: usize, n: usize) -> usize
-    requires { i < n }
-    ensures { result ≡ (n + i - 1) % n }
+/// Returns the number of the register before this one of `n`. Any number, if there are not so many
+/// registers.
+pub fn register_before(i: usize, n: usize) -> usize
+    ensures within { i < n → result < n }
+    ensures number { i < n → result ≡ (n + i - 1) % n }
 {
-    if i == 0 { n - 1 } else { i - 1 }
+    if i == 0 { n.wrapping_sub(1) } else { i - 1 }
 }
 
 // The block A | R, written as two words, so that it stays in registers of the processor: copied there

@@ -17,9 +17,9 @@ fn faults_print_their_cause(rt: HostRuntime) -> Result<(), Fail> {
         "{}; {}; {}; {}; {}; {}",
         InPlaceFault::BadLength,
         InPlaceFault::Integrity,
-        RewrapFault::BadLength,
-        RewrapFault::Integrity,
-        RewrapFault::KeyNotPlain,
+        Refusal::BadLength,
+        Refusal::Integrity,
+        Refusal::KeyNotPlain,
         ReservedIv
     )?;
     assert_eq!(rt;

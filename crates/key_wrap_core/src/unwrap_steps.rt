@@ -103,8 +103,7 @@ pub fn step_unwrap(
 /// text is. The block becomes zeros.
 ///
 /// `BadLength`, with everything as it was, if the registers have no legal length, or a step is left;
-/// `Integrity` if the text is the plain wrapping of no key, and then every byte of the registers is
-/// zero.
+/// `Integrity` if the text is not a valid plain wrapping, and then every byte of the registers is zero.
 pub fn end_unwrap(
     iv: &InitialValue,
     registers: &mut [u8],
@@ -128,12 +127,11 @@ pub fn end_unwrap(
     end_plain(found, iv.word(), registers)
 }
 
-/// Ends a padded unwrapping: the registers hold the key, of as many bytes as the answer says, and
-/// zero bytes to the end. The block becomes zeros.
+/// Ends a padded unwrapping: the registers hold the key and zero bytes to the end. Returns the length of
+/// the key. The block becomes zeros.
 ///
 /// `BadLength`, with everything as it was, if the registers have no legal length, or a step is left;
-/// `Integrity` if the text is the padded wrapping of no key, and then every byte of the registers is
-/// zero.
+/// `Integrity` if the text is not a valid padded wrapping, and then every byte of the registers is zero.
 pub fn end_unwrap_padded(
     registers: &mut [u8],
     left: u64,
@@ -157,13 +155,13 @@ pub fn end_unwrap_padded(
     end_padded(found, registers)
 }
 
-/// Ends an unwrapping in either form, the plain one under this initial value: the answer is the form
-/// that the text has and the length of its key, which is at the start of the registers; zero bytes
-/// come after it. The block becomes zeros.
+/// Ends an unwrapping in either form, the plain one under this initial value: the registers hold the key
+/// and zero bytes to the end. Returns the form of the text and the length of the key. The block becomes
+/// zeros.
 ///
 /// `BadLength`, with everything as it was, if the registers have no legal length, or a step is left;
-/// `Integrity` if the text is the wrapping of no key in either form, and then every byte of the
-/// registers is zero.
+/// `Integrity` if the text is not a valid wrapped key in either form, and then every byte of the registers
+/// is zero.
 pub fn end_unwrap_any(
     iv: &InitialValue,
     registers: &mut [u8],

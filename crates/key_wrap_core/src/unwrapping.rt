@@ -16,11 +16,11 @@ use crate::checks::{decide, given_length, padded_difference};
 use crate::faults::InPlaceFault;
 use crate::forms::{Form, FoundKey};
 use crate::found::{either, plain_difference};
-use crate::machine::unwrap_slice;
+use crate::machine::machine_unwrap;
 use block_pair::{BlockPair, Meter};
 
-// C1 .. Cn in the registers become the key whose plain wrapping under this initial value they are
-// with C0 (RFC 3394, section 2.2.2), or zeros if there is none.
+// Unwraps C1 .. Cn in place, in the plain form under this initial value (RFC 3394, section 2.2.2). The
+// registers become the key, or zeros if the check fails.
 pub(crate) fn unwrap_registers<B: BlockPair>(
     meter: &mut Meter<B>,
     iv: u64,
@@ -35,12 +35,12 @@ pub(crate) fn unwrap_registers<B: BlockPair>(
     ensures cleared { result ≡ Err InPlaceFault.Integrity → All (λ byte. byte ≡ 0) registers.new }
     ensures calls { meter.new ≡ counted (block_calls (8 + length registers.old)) meter.old }
 {
-    let found = unwrap_slice(meter, c0, registers);
+    let found = machine_unwrap(meter, c0, registers);
     end_plain(found, iv, registers)
 }
 
-// The registers that the steps led back to stay if the initial value found is `iv`, and become zeros
-// if it is another.
+// Keeps the registers that the steps led back to if the initial value found is `iv`, and clears them if
+// it is another.
 pub(crate) fn end_plain(found: u64, iv: u64, registers: &mut [u8]) -> Result<(), InPlaceFault>
     requires length { IsPlainTextLength (8 + length registers.old) }
     requires free { ¬ IsReserved iv }
@@ -50,8 +50,8 @@ pub(crate) fn end_plain(found: u64, iv: u64, registers: &mut [u8]) -> Result<(),
     decide(found ^ iv, registers)
 }
 
-// C1 .. Cn in the registers become the key whose padded wrapping they are with C0 (RFC 5649,
-// section 4.2), and its padding, or zeros if there is none. Returns the length of the key.
+// Unwraps C1 .. Cn in place, in the padded form (RFC 5649, section 4.2). The registers become the key
+// and its padding, or zeros if the check fails. Returns the length of the key.
 pub(crate) fn unwrap_padded_registers<B: BlockPair>(
     meter: &mut Meter<B>,
     c0: u64,
@@ -65,12 +65,12 @@ pub(crate) fn unwrap_padded_registers<B: BlockPair>(
     ensures cleared { result ≡ Err InPlaceFault.Integrity → All (λ byte. byte ≡ 0) registers.new }
     ensures calls { meter.new ≡ counted (block_calls (8 + length registers.old)) meter.old }
 {
-    let found = unwrap_slice(meter, c0, registers);
+    let found = machine_unwrap(meter, c0, registers);
     end_padded(found, registers)
 }
 
-// The registers that the steps led back to stay if they hold a key under the initial value found, of
-// as many bytes as the answer says, and become zeros if they do not.
+// Keeps the registers that the steps led back to if they hold a key under the initial value found, and
+// clears them if not. Returns the length of the key.
 pub(crate) fn end_padded(found: u64, registers: &mut [u8]) -> Result<usize, InPlaceFault>
     requires { IsPaddedTextLength (8 + length registers.old) }
     ensures ends { EndsIn AgreedForm.Padded found registers.old registers.new
@@ -81,9 +81,8 @@ pub(crate) fn end_padded(found: u64, registers: &mut [u8]) -> Result<usize, InPl
     Ok(given_length(found) as usize)
 }
 
-// C1 .. Cn in the registers become the key whose wrapping in either form they are with C0, in the
-// padded form with its padding, or zeros if there is none. For two words and more both forms unwrap
-// by the same steps.
+// Unwraps C1 .. Cn in place, in either form. The registers become the key, with its padding in the padded
+// form, or zeros if the check fails. For two words and more both forms unwrap by the same steps.
 pub(crate) fn unwrap_any_registers<B: BlockPair>(
     meter: &mut Meter<B>,
     iv: u64,
@@ -100,12 +99,12 @@ pub(crate) fn unwrap_any_registers<B: BlockPair>(
     ensures cleared { result ≡ Err InPlaceFault.Integrity → All (λ byte. byte ≡ 0) registers.new }
     ensures calls { meter.new ≡ counted (block_calls (8 + length registers.old)) meter.old }
 {
-    let found = unwrap_slice(meter, c0, registers);
+    let found = machine_unwrap(meter, c0, registers);
     end_any(found, iv, registers)
 }
 
-// The registers that the steps led back to stay if they hold a key in either form under the initial
-// value found, and become zeros if they hold none.
+// Keeps the registers that the steps led back to if they hold a key in either form under the initial value
+// found, and clears them if not.
 pub(crate) fn end_any(found: u64, iv: u64, registers: &mut [u8]) -> Result<FoundKey, InPlaceFault>
     requires length { IsPaddedTextLength (8 + length registers.old) }
     requires free { ¬ IsReserved iv }

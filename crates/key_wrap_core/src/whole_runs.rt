@@ -12,7 +12,8 @@ ghost use Rattle.key_wrap_core.specs.PaddedRegisters.{PaddedRegisters};
 ghost use Rattle.key_wrap_core.specs.BlockCalls.{block_calls};
 ghost use Rattle.key_wrap_core.specs.Steps.{WrapRun, UnwrapRun};
 
-use crate::rewrapping::{RewrapFault, RewrapForms, Rewrapped};
+use crate::faults::Refusal;
+use crate::rewrapping::{RewrapForms, Rewrapped};
 
 /// Says that all steps of a wrapping, six for each 8 bytes of the key, or one for one word, end in the
 /// wrapping of the key, for every E. It does nothing.
@@ -41,7 +42,7 @@ pub fn whole_unwrap_law()
 /// permutations. It does nothing.
 pub fn whole_rewrap_law()
     ensures { (pass_new : Bool) (forms : RewrapForms) (E D F G : List ℕ → List ℕ) (text after : List ℕ)
-        (calls : ℕ) (at : ℕ → RewrapAt) (outcome : Result Rewrapped RewrapFault)
+        (calls : ℕ) (at : ℕ → RewrapAt) (outcome : Result Rewrapped Refusal)
         → AreInverse E D → AreInverse F G → RewrapRun pass_new forms E F text calls at outcome after
         → IsRewrapping pass_new forms E F text outcome after }
 {}

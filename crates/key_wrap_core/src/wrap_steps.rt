@@ -17,7 +17,7 @@ ghost use Rattle.key_wrap_core.specs.StepCalls.{WrapBegun, IsWrapStep, WrapEnded
 use crate::checks::padded_iv;
 use crate::faults::InPlaceFault;
 use crate::initial_value::InitialValue;
-use crate::lengths::{WORD, key_length_ok, padded_length_ok};
+use crate::lengths::{WORD, key_length_ok, padded_length_ok, text_len};
 use crate::steps::{first_block, registers_ok, step_count, step_registers};
 
 /// Begins the plain wrapping of the key in the registers under this initial value (RFC 3394, section
@@ -59,7 +59,7 @@ pub fn begin_wrap_padded(
     ensures begins { OnOk result (WrapBegun (aiv m) (padded (take m registers.old))
         done.new registers.new block.new) }
 {
-    if !padded_length_ok(m) || registers.len() != m.next_multiple_of(WORD) {
+    if !padded_length_ok(m) || WORD + registers.len() != text_len(m) {
         return Err(InPlaceFault::BadLength);
     }
     *done = 0;

@@ -21,7 +21,7 @@ abbrev pub AreLanes : (n : ℕ) (texts blocks : List ℕ) → Type 0
 AreLanes n texts blocks = IsPlainTextLength n × (length blocks % 16 ≡ 0) × (length texts ≡ n * (length blocks / 16))
 
 -- An unwrapping with no step left ends in a status, with these registers: 0 and the key whose wrapping the text is, or 5 and
--- zeros if it is the wrapping of no key.
+-- zeros if it is not a valid wrapped key.
 abbrev pub IsEnded : (iv : ℕ) (registers block registers' status : List ℕ) → Type 0
 IsEnded iv registers block registers' status =
     ((status ≡ 0 ∷ []) × EndsUnwrapping (Plain iv) 0 registers block (λ (done : Unit {0}). registers') (Ok tt))

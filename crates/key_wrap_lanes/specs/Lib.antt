@@ -1,4 +1,3 @@
 -- The definitions of the lanes.
 pub mod Lanes
-pub mod LaneCalls
 pub mod Turn

@@ -9,8 +9,9 @@ ghost use Rattle.key_wrap_core.specs.Lengths.{IsPlainTextLength};
 ghost use Rattle.key_wrap_lanes.specs.Lanes.{AreLanes, part_at, block_at};
 ghost use Rattle.key_wrap_lanes.specs.Turn.{Turned};
 
-use crate::lanes::{BLOCK, WORD};
+use crate::lanes::BLOCK;
 use byteorder::{BigEndian, ByteOrder};
+use key_wrap_core::WORD;
 
 // Turns each lane, with the counter and the numbers of the two registers that all lanes share.
 pub(crate) fn turn_lanes(

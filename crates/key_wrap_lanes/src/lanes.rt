@@ -4,11 +4,9 @@ ghost use Rattle.std.specs.Prelude.{◌≡◌, ◌↔◌, ◌+◌, ◌-◌, ◌*
 ghost use Rattle.key_wrap_core.specs.Lengths.{IsPlainTextLength};
 ghost use Rattle.key_wrap_core.specs.BlockCalls.{block_calls};
 
-use key_wrap_core::text_length_ok;
+use key_wrap_core::{WORD, step_count, text_length_ok};
 
-// The bytes of a word, and of a block.
-pub(crate) const WORD: usize = 8;
-
+// The bytes of a block.
 pub(crate) const BLOCK: usize = 16;
 
 // Whether buffers of these lengths are texts of `text_len` bytes, and a block for each.
@@ -30,10 +28,10 @@ fn are_parts(len: usize, n: usize, count: usize) -> bool
 }
 
 // The number of steps of each lane.
-pub(crate) fn step_count(text_len: usize) -> u64
+pub(crate) fn lane_steps(text_len: usize) -> u64
     requires { IsPlainTextLength text_len }
     ensures calls { result ≡ block_calls text_len }
     ensures number { result ≡ 6 * (text_len / 8 - 1) }
 {
-    6 * (text_len / WORD - 1) as u64
+    step_count(text_len - WORD)
 }

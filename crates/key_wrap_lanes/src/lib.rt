@@ -3,7 +3,9 @@
 //!
 //! The texts follow each other in one buffer, and each has its block of 16 bytes in another.
 //! A text is 8 bytes and the registers. The calls of `key_wrap_core` for one text are made
-//! once for all.
+//! once for all. Each returns `BadLength`, with everything as it was, if no plain wrapped key has
+//! the length `text_len`, there are not as many texts as blocks (and statuses), or the number of
+//! steps is not one at which the call can be made.
 #![tactic(auto)]
 
 mod lane_turns;

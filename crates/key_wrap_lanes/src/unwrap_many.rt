@@ -4,82 +4,106 @@ ghost use Rattle.std.specs.Prelude.{◌≡◌, ℕ, ◌+◌, ◌-◌, ◌*◌, �
 ghost use Rattle.std.specs.Prelude.{Ok, Err, OnOk, Result, All};
 ghost use Rattle.key_wrap_core.specs.Lengths.{IsPlainTextLength};
 ghost use Rattle.key_wrap_core.specs.BlockCalls.{block_calls};
+ghost use Rattle.key_wrap_core.specs.BufferCalls.{RefusesLength};
 ghost use Rattle.key_wrap_core.specs.Steps.{UnwrapState};
+ghost use Rattle.key_wrap_core.specs.StepCalls.{IsUnwrapStep};
 ghost use Rattle.key_wrap_lanes.specs.Lanes.{AreLanes, IsEnded, part_at, registers_at, block_at};
-ghost use Rattle.key_wrap_lanes.specs.LaneCalls.{BeginsUnwraps, StepsUnwraps, EndsUnwraps};
 
 use crate::lane_turns::turn_lanes;
-use crate::lanes::{BLOCK, WORD, lanes_ok, step_count};
-use key_wrap_core::{InPlaceFault, InitialValue, begin_unwrap, end_unwrap};
-use keywrap_calls::{BAD_IV, BAD_LENGTH, DONE, iv_from_bytes};
+use crate::lanes::{BLOCK, lane_steps, lanes_ok};
+use key_wrap_core::{InPlaceFault, InitialValue, WORD, begin_unwrap, end_unwrap, register_before};
+
+// The status of a lane whose key was found.
+const DONE: u8 = 0;
+
+// The status of a lane whose integrity check failed.
+const INTEGRITY: u8 = 5;
 
 /// Begins the plain unwrapping of each of many texts: `*left` is the number of steps, and each block
 /// the first block to decrypt.
-///
-/// `BAD_LENGTH`, with everything as it was, if no plain wrapped key has the length `text_len`, or
-/// there are not as many texts as blocks.
-pub fn begin_unwrap_many(texts: &[u8], text_len: usize, left: &mut u64, blocks: &mut [u8]) -> i32
-    ensures { BeginsUnwraps text_len texts.now left.old left.new blocks.old blocks.new result }
+pub fn begin_unwrap_many(
+    texts: &[u8],
+    text_len: usize,
+    left: &mut u64,
+    blocks: &mut [u8],
+) -> Result<(), InPlaceFault>
+    ensures refused { RefusesLength (AreLanes text_len texts.now blocks.old)
+        ((left.new ≡ left.old) × (blocks.new ≡ blocks.old)) result }
+    ensures all_left { OnOk result (left.new ≡ block_calls text_len) }
+    ensures begins { OnOk result ((i : ℕ) → i < length blocks.old / 16 → (E : List ℕ → List ℕ)
+        → let text = part_at text_len i texts.now in
+        UnwrapState E text left.new (drop 8 text) (block_at i blocks.new)) }
 {
     if !lanes_ok(text_len, texts.len(), blocks.len()) {
-        return BAD_LENGTH;
+        return Err(InPlaceFault::BadLength);
     }
-    *left = step_count(text_len);
+    *left = lane_steps(text_len);
     begin_lanes(texts, text_len, blocks);
-    DONE
+    Ok(())
 }
 
 /// Undoes one step of each of many unwrappings, with its decrypted block. Subtracts 1 from `*left`,
 /// and each block is the next block to decrypt. The first 8 bytes of each text stay as they are.
-///
-/// `BAD_LENGTH`, with everything as it was, if no plain wrapped key has the length `text_len`, there
-/// are not as many texts as blocks, no step is left, or more than there are.
-pub fn step_unwrap_many(texts: &mut [u8], text_len: usize, left: &mut u64, blocks: &mut [u8]) -> i32
-    ensures { StepsUnwraps text_len texts.old texts.new left.old left.new blocks.old blocks.new result }
+pub fn step_unwrap_many(
+    texts: &mut [u8],
+    text_len: usize,
+    left: &mut u64,
+    blocks: &mut [u8],
+) -> Result<(), InPlaceFault>
+    ensures refused { RefusesLength (AreLanes text_len texts.old blocks.old
+        × (1 ≤ left.old) × (left.old ≤ block_calls text_len))
+        ((texts.new ≡ texts.old) × (left.new ≡ left.old) × (blocks.new ≡ blocks.old)) result }
+    ensures counts { OnOk result (left.old ≡ left.new + 1) }
+    ensures firsts { OnOk result ((i : ℕ) → i < length blocks.old / 16
+        → take 8 (part_at text_len i texts.new) ≡ take 8 (part_at text_len i texts.old)) }
+    ensures steps { OnOk result ((i : ℕ) → i < length blocks.old / 16
+        → IsUnwrapStep left.old left.new (registers_at text_len i texts.old)
+        (registers_at text_len i texts.new) (block_at i blocks.old) (block_at i blocks.new)) }
 {
     if !lanes_ok(text_len, texts.len(), blocks.len())
         || *left == 0
-        || *left > step_count(text_len)
+        || *left > lane_steps(text_len)
     {
-        return BAD_LENGTH;
+        return Err(InPlaceFault::BadLength);
     }
     *left -= 1;
     let n = (text_len / WORD - 1) as u32;
-    let own = *left as u32 % n;
-    let next = register_before(own, n);
-    turn_lanes(texts, text_len, *left, own as usize, next as usize, blocks);
-    DONE
+    let own = (*left as u32 % n) as usize;
+    let next = register_before(own, n as usize);
+    turn_lanes(texts, text_len, *left, own, next, blocks);
+    Ok(())
 }
 
-/// Ends many plain unwrappings under the initial value `iv`. The status of a text, one byte, is
-/// `DONE`, and its registers are the key, or `INTEGRITY`, and they are zeros. The first 8 bytes of
-/// each text stay as they are. The blocks are zeros.
-///
-/// `BAD_LENGTH` if no plain wrapped key has the length `text_len`, there are not as many texts,
-/// blocks and statuses, or a step is left. Each refusal leaves everything as it was.
+/// Ends many plain unwrappings under this initial value. The status of a text, one byte, is 0, and
+/// its registers are the key, or 5, and they are zeros. The first 8 bytes of each text stay as they
+/// are. The blocks are zeros.
 pub fn end_unwrap_many(
-    iv: &[u8],
+    iv: &InitialValue,
     texts: &mut [u8],
     text_len: usize,
     left: u64,
     blocks: &mut [u8],
     statuses: &mut [u8],
-) -> i32
-    ensures { EndsUnwraps iv.now text_len texts.old texts.new left
-        blocks.old blocks.new statuses.old statuses.new result }
+) -> Result<(), InPlaceFault>
+    ensures refused { RefusesLength (AreLanes text_len texts.old blocks.old
+        × (left ≡ 0) × (length statuses.old ≡ length blocks.old / 16))
+        ((texts.new ≡ texts.old) × (blocks.new ≡ blocks.old) × (statuses.new ≡ statuses.old)) result }
+    ensures firsts { OnOk result ((i : ℕ) → i < length blocks.old / 16
+        → take 8 (part_at text_len i texts.new) ≡ take 8 (part_at text_len i texts.old)) }
+    ensures ends { OnOk result ((i : ℕ) → i < length blocks.old / 16
+        → IsEnded iv.now (registers_at text_len i texts.old) (block_at i blocks.old)
+        (registers_at text_len i texts.new) (part_at 1 i statuses.new)) }
+    ensures blocks_cleared { OnOk result (All (λ byte. byte ≡ 0) blocks.new) }
 {
-    let Some(value) = iv_from_bytes(iv) else {
-        return BAD_IV;
-    };
     if !lanes_ok(text_len, texts.len(), blocks.len())
         || left != 0
         || statuses.len() != blocks.len() / BLOCK
     {
-        return BAD_LENGTH;
+        return Err(InPlaceFault::BadLength);
     }
-    end_lanes(&value, texts, text_len, blocks, statuses);
+    end_lanes(iv, texts, text_len, blocks, statuses);
     blocks.fill(0);
-    DONE
+    Ok(())
 }
 
 // The first block of each lane.
@@ -109,15 +133,6 @@ fn begin_lane(text: &[u8]) -> [u8; 16]
     let (mut left, mut block) = (0, [0; 16]);
     let _ = begin_unwrap(&first, &text[WORD..], &mut left, &mut block);
     block
-}
-
-// The number of the register before this one of `n`.
-fn register_before(i: u32, n: u32) -> u32
-    requires { i < n }
-    ensures within { result < n }
-    ensures number { result ≡ (n + i - 1) % n }
-{
-    if i == 0 { n - 1 } else { i - 1 }
 }
 
 // Ends each lane.
@@ -168,7 +183,7 @@ fn lane_status(ended: Result<(), InPlaceFault>) -> u8
     ensures refused { ended ≡ Err InPlaceFault.Integrity → result ≡ 5 }
 {
     match ended {
-        Ok(()) => 0,
-        Err(_) => 5,
+        Ok(()) => DONE,
+        Err(_) => INTEGRITY,
     }
 }

@@ -1,74 +1,98 @@
 //! Wrapping many keys of one length, step by step.
 
-ghost use Rattle.std.specs.Prelude.{◌≡◌, ℕ, ◌+◌, ◌*◌, ◌/◌, ◌%◌, ◌≤◌, ◌<◌, ◌++◌, List, length, take, drop};
-ghost use Rattle.key_wrap_core.specs.Lengths.{IsPlainTextLength};
+ghost use Rattle.std.specs.Prelude.{◌≡◌, ℕ, ◌+◌, ◌*◌, ◌/◌, ◌%◌, ◌≤◌, ◌<◌, ◌++◌, List, length, take, drop, OnOk};
+ghost use Rattle.key_wrap_core.specs.Lengths.{IsPlainKeyLength, IsPlainTextLength, IsPaddedKeyLength};
+ghost use Rattle.key_wrap_core.specs.Plain.{Plain};
+ghost use Rattle.key_wrap_core.specs.Padded.{Padded, aiv, padded};
+ghost use Rattle.key_wrap_core.specs.BlockCalls.{block_calls};
+ghost use Rattle.key_wrap_core.specs.BufferCalls.{RefusesLength};
 ghost use Rattle.key_wrap_core.specs.Steps.{WrapState};
+ghost use Rattle.key_wrap_core.specs.StepCalls.{IsWrapStep};
 ghost use Rattle.key_wrap_lanes.specs.Lanes.{AreLanes, part_at, registers_at, block_at};
-ghost use Rattle.key_wrap_lanes.specs.LaneCalls.{BeginsWraps, StepsWraps, EndsWraps};
 
 use crate::lane_turns::turn_lanes;
-use crate::lanes::{BLOCK, WORD, lanes_ok, step_count};
-use key_wrap_core::{InitialValue, begin_wrap};
-use keywrap_calls::{BAD_IV, BAD_LENGTH, DONE, iv_from_bytes};
+use crate::lanes::{BLOCK, lane_steps, lanes_ok};
+use key_wrap_core::{InPlaceFault, InitialValue, WORD, begin_wrap, register_after};
 
-/// Begins the plain wrapping of each of many keys under the initial value `iv`: `*done` is 0, and
-/// each block the first block to encrypt. Each text contains its key after its first 8 bytes.
-///
-/// `BAD_LENGTH` if no plain wrapped key has the length `text_len`, or there are not as many texts as
-/// blocks. Each refusal leaves everything as it was.
+/// Begins the plain wrapping of each of many keys under this initial value: `*done` is 0, and each
+/// block the first block to encrypt. Each text contains its key after its first 8 bytes.
 pub fn begin_wrap_many(
-    iv: &[u8],
+    iv: &InitialValue,
     texts: &[u8],
     text_len: usize,
     done: &mut u64,
     blocks: &mut [u8],
-) -> i32
-    ensures { BeginsWraps iv.now text_len texts.now done.old done.new blocks.old blocks.new result }
+) -> Result<(), InPlaceFault>
+    ensures refused { RefusesLength (AreLanes text_len texts.now blocks.old)
+        ((done.new ≡ done.old) × (blocks.new ≡ blocks.old)) result }
+    ensures none_done { OnOk result (done.new ≡ 0) }
+    ensures begins { OnOk result ((i : ℕ) → i < length blocks.old / 16 → (E : List ℕ → List ℕ)
+        → let registers = registers_at text_len i texts.now in
+        WrapState E iv.now registers 0 registers (block_at i blocks.new)) }
 {
-    let Some(value) = iv_from_bytes(iv) else {
-        return BAD_IV;
-    };
     if !lanes_ok(text_len, texts.len(), blocks.len()) {
-        return BAD_LENGTH;
+        return Err(InPlaceFault::BadLength);
     }
     *done = 0;
-    begin_lanes(&value, texts, text_len, blocks);
-    DONE
+    begin_lanes(iv, texts, text_len, blocks);
+    Ok(())
 }
 
 /// Makes one step of each of many wrappings, with its encrypted block. Adds 1 to `*done`, and each
 /// block is the next block to encrypt. The first 8 bytes of each text stay as they are.
-///
-/// `BAD_LENGTH`, with everything as it was, if no plain wrapped key has the length `text_len`, there
-/// are not as many texts as blocks, or all steps are done.
-pub fn step_wrap_many(texts: &mut [u8], text_len: usize, done: &mut u64, blocks: &mut [u8]) -> i32
-    ensures { StepsWraps text_len texts.old texts.new done.old done.new blocks.old blocks.new result }
+pub fn step_wrap_many(
+    texts: &mut [u8],
+    text_len: usize,
+    done: &mut u64,
+    blocks: &mut [u8],
+) -> Result<(), InPlaceFault>
+    ensures refused { RefusesLength
+        (AreLanes text_len texts.old blocks.old × (done.old < block_calls text_len))
+        ((texts.new ≡ texts.old) × (done.new ≡ done.old) × (blocks.new ≡ blocks.old)) result }
+    ensures counts { OnOk result (done.new ≡ done.old + 1) }
+    ensures firsts { OnOk result ((i : ℕ) → i < length blocks.old / 16
+        → take 8 (part_at text_len i texts.new) ≡ take 8 (part_at text_len i texts.old)) }
+    ensures steps { OnOk result ((i : ℕ) → i < length blocks.old / 16
+        → IsWrapStep done.old done.new (registers_at text_len i texts.old)
+        (registers_at text_len i texts.new) (block_at i blocks.old) (block_at i blocks.new)) }
 {
-    if !lanes_ok(text_len, texts.len(), blocks.len()) || *done >= step_count(text_len) {
-        return BAD_LENGTH;
+    if !lanes_ok(text_len, texts.len(), blocks.len()) || *done >= lane_steps(text_len) {
+        return Err(InPlaceFault::BadLength);
     }
     // In 32 bits, which the processor divides in less time.
     let n = (text_len / WORD - 1) as u32;
-    let own = *done as u32 % n;
+    let own = (*done as u32 % n) as usize;
     *done += 1;
-    let next = register_after(own, n);
-    turn_lanes(texts, text_len, *done, own as usize, next as usize, blocks);
-    DONE
+    let next = register_after(own, n as usize);
+    turn_lanes(texts, text_len, *done, own, next, blocks);
+    Ok(())
 }
 
 /// Ends many wrappings, in either form: each text, with the first 8 bytes of its block before its
 /// registers, is the wrapped key.
-///
-/// `BAD_LENGTH`, with everything as it was, if no plain wrapped key has the length `text_len`, there
-/// are not as many texts as blocks, or not all steps are done.
-pub fn end_wrap_many(texts: &mut [u8], text_len: usize, done: u64, blocks: &[u8]) -> i32
-    ensures { EndsWraps text_len texts.old texts.new done blocks.now result }
+pub fn end_wrap_many(
+    texts: &mut [u8],
+    text_len: usize,
+    done: u64,
+    blocks: &[u8],
+) -> Result<(), InPlaceFault>
+    ensures refused { RefusesLength (AreLanes text_len texts.old blocks.now × (done ≡ block_calls text_len))
+        (texts.new ≡ texts.old) result }
+    ensures plain { OnOk result ((i : ℕ) → i < length blocks.now / 16
+        → (E : List ℕ → List ℕ) (iv : ℕ) (key : List ℕ) → IsPlainKeyLength (length key)
+        → WrapState E iv key done (registers_at text_len i texts.old) (block_at i blocks.now)
+        → Plain E iv key (part_at text_len i texts.new)) }
+    ensures padded { OnOk result ((i : ℕ) → i < length blocks.now / 16
+        → (E : List ℕ → List ℕ) (key : List ℕ) → IsPaddedKeyLength (length key)
+        → WrapState E (aiv (length key)) (padded key) done (registers_at text_len i texts.old)
+        (block_at i blocks.now)
+        → Padded E key (part_at text_len i texts.new)) }
 {
-    if !lanes_ok(text_len, texts.len(), blocks.len()) || done != step_count(text_len) {
-        return BAD_LENGTH;
+    if !lanes_ok(text_len, texts.len(), blocks.len()) || done != lane_steps(text_len) {
+        return Err(InPlaceFault::BadLength);
     }
     write_firsts(texts, text_len, blocks);
-    DONE
+    Ok(())
 }
 
 // The first block of each lane.
@@ -95,15 +119,6 @@ fn begin_lane(iv: &InitialValue, text: &[u8]) -> [u8; 16]
     let (mut done, mut block) = (0, [0; 16]);
     let _ = begin_wrap(iv, &text[WORD..], &mut done, &mut block);
     block
-}
-
-// The number of the register after this one of `n`, without a second division.
-fn register_after(i: u32, n: u32) -> u32
-    requires { i < n }
-    ensures within { result < n }
-    ensures number { result ≡ (i + 1) % n }
-{
-    if i + 1 == n { 0 } else { i + 1 }
 }
 
 // The first bytes of each text.

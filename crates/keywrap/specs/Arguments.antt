@@ -17,7 +17,7 @@ use Rattle.keywrap_args.specs.declared.subcommands.Subcommand.{Subcommand}
 use Rattle.keywrap_args.specs.declared.subcommands.Subcommand.TheVariants as words
 use Rattle.keywrap_cli.specs.Files.{line_notation}
 use Rattle.keywrap_cli.specs.InitialValue.{DenotesIv, IsSixteenDigits}
-use Rattle.keywrap_cli.specs.declared.convert.Direction.TheVariants as directions
+use Rattle.keywrap_cli.specs.declared.job.Direction.TheVariants as directions
 use Rattle.keywrap_cli.specs.declared.fault.ProgramFault.{ProgramFault}
 use Rattle.keywrap_cli.specs.declared.fault.ProgramFault.TheVariants.{Iv, NewIv}
 use Rattle.keywrap_cli.specs.declared.initial_value.IvFault.{IvFault}
@@ -26,6 +26,7 @@ use Rattle.keywrap_cli.specs.declared.files.Notation.{Notation}
 use Rattle.keywrap_cli.specs.declared.files.Notation.TheVariants.{Raw, Hex, Base64}
 use Rattle.keywrap_cli.specs.declared.kek_file.Keks.{Keks}
 use Rattle.keywrap_cli.specs.declared.operation.Operation.{Operation}
+use Rattle.keywrap_cli.specs.declared.what.Conversion.TheVariants as conversions
 use Rattle.keywrap_cli.specs.declared.what.How.{How}
 use Rattle.keywrap_cli.specs.declared.what.How.TheVariants.{Whole, Lines}
 use Rattle.keywrap_cli.specs.declared.what.What.{What}
@@ -45,11 +46,6 @@ pub record IsTextNotation (args : Args) (notation : TextNotation) : Type 0 where
   pub base64 : IsSet args (codes "base64") → notation ≡ texts.Base64
   pub base64url : ¬ IsSet args (codes "base64") → IsSet args (codes "base64url") → notation ≡ texts.Base64Url
   pub hex : ¬ IsSet args (codes "base64") → ¬ IsSet args (codes "base64url") → notation ≡ texts.Hex
-
--- the notation of the input and of the output
-pub record IsNotation (args : Args) (notation : Notation) : Type 0 where
-  pub raw : IsSet args (codes "raw") → notation ≡ Raw
-  pub text : ¬ IsSet args (codes "raw") → (own : TextNotation) × IsTextNotation args own × (notation ≡ line_notation own)
 
 -- the notation of the KEK files
 pub record IsKekNotation (args : Args) (notation : Notation) : Type 0 where
@@ -77,9 +73,9 @@ AreForms args (Changed old new) = (¬ IsSet args (codes "keep-form")) × IsAgree
 
 -- what is done
 abbrev pub IsWhat : Args → Subcommand → What → Type 0
-IsWhat args words.Wrap (whats.Wrap form) = IsAgreedForm args (codes "padded") (codes "iv") form
-IsWhat args words.Unwrap (whats.Unwrap form) = (¬ IsSet args (codes "any-form")) × IsAgreedForm args (codes "padded") (codes "iv") form
-IsWhat args words.Unwrap (whats.UnwrapAny iv) = IsSet args (codes "any-form") × IsInitialValue args (codes "iv") iv
+IsWhat args words.Wrap (whats.Convert (conversions.Wrap form)) = IsAgreedForm args (codes "padded") (codes "iv") form
+IsWhat args words.Unwrap (whats.Convert (conversions.Unwrap form)) = (¬ IsSet args (codes "any-form")) × IsAgreedForm args (codes "padded") (codes "iv") form
+IsWhat args words.Unwrap (whats.Convert (conversions.UnwrapAny iv)) = IsSet args (codes "any-form") × IsInitialValue args (codes "iv") iv
 IsWhat args words.Check (whats.Check iv) = IsInitialValue args (codes "iv") iv
 IsWhat args words.Rewrap (whats.Rewrap forms pass_new) = AreForms args forms × (IsTrue pass_new ↔ IsSet args (codes "pass-new"))
 IsWhat args subcommand what = ⊥
@@ -99,9 +95,10 @@ abbrev pub IsFile : Args → List ℕ → Option (Bor (List ℕ)) → Type 0
 IsFile args option (Some name) = NamesFile args option name.now
 IsFile args option None = NamesNoFile args option
 
--- how the input is read
+-- how the input is read, and the notation of the input and of the output
 abbrev pub IsHow : Args → How → Type 0
-IsHow args (Whole notation) = (¬ IsSet args (codes "lines")) × IsNotation args notation
+IsHow args (Whole notation) = (¬ IsSet args (codes "lines")) × (IsSet args (codes "raw") → notation ≡ Raw)
+    × (¬ IsSet args (codes "raw") → (own : TextNotation) × IsTextNotation args own × (notation ≡ line_notation own))
 IsHow args (Lines options) =
     IsSet args (codes "lines") × IsTextNotation args options.notation × (IsTrue options.keep_going ↔ IsSet args (codes "keep-going"))
 

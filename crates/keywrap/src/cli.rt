@@ -2,10 +2,7 @@
 
 ghost use Rattle.std.specs.Prelude.{◌≡◌, IfErr, IfOk, codes};
 ghost use Rattle.key_wrap_core.specs.Forms.{with_value};
-ghost use Rattle.keywrap.specs.Arguments.{AreBadValues, AreForms, IsBadValue};
-ghost use Rattle.keywrap.specs.Arguments.{IsCommand, IsForm, IsHow, IsInitialValue, IsJob};
-ghost use Rattle.keywrap.specs.Arguments.{IsKekNotation, IsNotation, IsOperation, IsTextNotation, IsWhat};
-ghost use Rattle.keywrap.specs.Arguments.{RefusesCommand, RefusesDrill, RefusesJob, RefusesRewrap};
+ghost use Rattle.keywrap.specs.Arguments.{AreBadValues, AreForms, IsBadValue, IsCommand, IsForm, IsHow, IsInitialValue, IsJob, IsKekNotation, IsOperation, IsTextNotation, RefusesCommand, RefusesDrill, RefusesJob, RefusesRewrap};
 ghost use Rattle.keywrap_args.specs.Given.{IsSet};
 ghost use Rattle.keywrap.specs.declared.cli.CommandStop.TheVariants as Stops;
 
@@ -14,7 +11,8 @@ use key_lines::{RunOptions, TextNotation};
 use key_wrap_core::{AgreedForm, Form, InitialValue, RewrapForms};
 use keywrap_args::{Args, Subcommand, parse};
 use keywrap_cli::{
-    Direction, How, IvFault, Keks, Notation, Operation, ProgramFault, What, line_notation, parse_iv,
+    Conversion, Direction, How, IvFault, Keks, Notation, Operation, ProgramFault, What,
+    line_notation, parse_iv,
 };
 use std::alloc::Global;
 
@@ -79,28 +77,20 @@ fn job<'a>(args: &Args<'a>) -> Result<Operation<&'a str>, CommandStop>
 {
     let kek = args.kek_file("kek")?;
     let iv = parse_iv_option(args, "iv").map_err(ProgramFault::Iv)?;
+    let form = agreed_form(form(args, "padded"), iv);
+    let what = match args.subcommand {
+        Subcommand::Wrap => What::Convert(Conversion::Wrap(form)),
+        Subcommand::Unwrap if args.has("any-form") => What::Convert(Conversion::UnwrapAny(iv)),
+        Subcommand::Unwrap => What::Convert(Conversion::Unwrap(form)),
+        Subcommand::Check | Subcommand::Rewrap | Subcommand::Drill | Subcommand::Vectors =>
+            What::Check(iv),
+    };
     let keks = Keks {
         notation: kek_notation(args),
         kek,
         new_kek: None,
     };
-    let what = job_of(args, iv);
     Ok(Operation { what, keks })
-}
-
-fn job_of(args: &Args<'_>, iv: InitialValue) -> What
-    requires job { IsJob args.now.subcommand }
-    requires iv { IsInitialValue args.now (codes "iv") iv }
-    ensures { IsWhat args.now args.now.subcommand result }
-{
-    let form = agreed_form(form(args, "padded"), iv);
-    match args.subcommand {
-        Subcommand::Wrap => What::Wrap(form),
-        Subcommand::Unwrap if args.has("any-form") => What::UnwrapAny(iv),
-        Subcommand::Unwrap => What::Unwrap(form),
-        Subcommand::Check | Subcommand::Rewrap | Subcommand::Drill | Subcommand::Vectors =>
-            What::Check(iv),
-    }
 }
 
 fn rewrap<'a>(args: &Args<'a>) -> Result<Operation<&'a str>, CommandStop>
@@ -167,16 +157,6 @@ fn form(args: &Args<'_>, padded: &str) -> Form
 }
 
 // Clap refuses two of these flags.
-fn notation(args: &Args<'_>) -> Notation
-    ensures { IsNotation args.now result }
-{
-    if args.has("raw") {
-        return Notation::Raw;
-    }
-    line_notation(text_notation(args))
-}
-
-// Clap refuses `--raw` with `--lines`.
 fn text_notation(args: &Args<'_>) -> TextNotation
     ensures { IsTextNotation args.now result }
 {
@@ -202,17 +182,21 @@ fn kek_notation(args: &Args<'_>) -> Notation
     }
 }
 
-// Clap refuses `--keep-going` without `--lines`.
+// Clap refuses `--raw` with `--lines` and with another notation, and `--keep-going` without `--lines`.
 fn how(args: &Args<'_>) -> How
     ensures { IsHow args.now result }
 {
-    if !args.has("lines") {
-        return How::Whole(notation(args));
+    let (notation, keep_going) = (text_notation(args), args.has("keep-going"));
+    if args.has("lines") {
+        How::Lines(RunOptions {
+            notation,
+            keep_going,
+        })
+    } else if args.has("raw") {
+        How::Whole(Notation::Raw)
+    } else {
+        How::Whole(line_notation(notation))
     }
-    How::Lines(RunOptions {
-        notation: text_notation(args),
-        keep_going: args.has("keep-going"),
-    })
 }
 
 // Returns the form with its initial value.

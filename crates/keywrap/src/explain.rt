@@ -4,9 +4,9 @@ use crate::command::Run;
 use key_files::{FileFault, MAX_FILE};
 use key_lines::LineFault;
 use key_wrap_core::AgreedForm::{self, Padded, Plain};
-use key_wrap_core::{InitialValue, MAX_KEY, RewrapFault, RewrapForms};
+use key_wrap_core::{InitialValue, MAX_KEY, Refusal, RewrapForms};
 use keywrap_args::Escaped;
-use keywrap_cli::{JobFault, Keks, Notation, ProgramFault, What};
+use keywrap_cli::{Conversion, JobFault, Keks, Notation, ProgramFault, What};
 use keywrap_io::{FileRole, Inspected, Inspection, Reason};
 use std::fmt;
 
@@ -91,16 +91,16 @@ fn line_cause<F>(
     what: What,
     keks: &Keks<Inspected<F>>,
     input: &Inspection,
-    fault: LineFault<RewrapFault>,
+    fault: LineFault<Refusal>,
 ) -> Cause {
     let reason = match fault {
         LineFault::Input(FileFault::OddDigits) | LineFault::Memory | LineFault::TooManyLines => {
             Reason::NameOnly
         }
         LineFault::Input(fault) => file_reason(fault, input),
-        LineFault::Refused(RewrapFault::Integrity) => return integrity_cause(what, keks),
-        LineFault::Refused(RewrapFault::BadLength) => Reason::Text(legal_lengths(what)),
-        LineFault::Refused(RewrapFault::KeyNotPlain) => Reason::Text(KEY_NOT_PLAIN),
+        LineFault::Refused(Refusal::Integrity) => return integrity_cause(what, keks),
+        LineFault::Refused(Refusal::BadLength) => Reason::Text(legal_lengths(what)),
+        LineFault::Refused(Refusal::KeyNotPlain) => Reason::Text(KEY_NOT_PLAIN),
     };
     (FileRole::Input, reason)
 }
@@ -139,7 +139,7 @@ fn length_reason(run: &Run<'_>, input: &Inspection) -> Reason {
     let what = run.operation.what;
     let bytes = denoted_bytes(run.how.notation(), input);
     let (name, most) = match what {
-        What::Wrap(_) => ("a key", MAX_KEY),
+        What::Convert(Conversion::Wrap(_)) => ("a key", MAX_KEY),
         _ => ("a wrapped key", MAX_KEY + 8),
     };
     if bytes > most as u64 {
@@ -150,21 +150,20 @@ fn length_reason(run: &Run<'_>, input: &Inspection) -> Reason {
 }
 
 fn legal_lengths(what: What) -> &'static str {
-    match what {
-        What::Wrap(Padded) => "a key has 1 or more",
-        What::Wrap(Plain(_)) => "a plain key has 16 or more, a multiple of 8",
-        _ => match input_form(what) {
-            Some(Plain(_)) => "a plain wrapped key has 24 or more, a multiple of 8",
-            Some(Padded) => "a padded wrapped key has 16 or more, a multiple of 8",
-            None => "a wrapped key has 16 or more, a multiple of 8",
-        },
+    match (what, given_form(what)) {
+        (What::Convert(Conversion::Wrap(_)), Some(Plain(_))) =>
+            "a plain key has 16 or more, a multiple of 8",
+        (What::Convert(Conversion::Wrap(_)), _) => "a key has 1 or more",
+        (_, Some(Plain(_))) => "a plain wrapped key has 24 or more, a multiple of 8",
+        (_, Some(Padded)) => "a padded wrapped key has 16 or more, a multiple of 8",
+        (_, None) => "a wrapped key has 16 or more, a multiple of 8",
     }
 }
 
-// Returns the form of the wrapped key that is read, unless both forms are tried.
-fn input_form(what: What) -> Option<AgreedForm> {
+// Returns the form of the key or of the wrapped key that is read, unless both forms are tried.
+fn given_form(what: What) -> Option<AgreedForm> {
     match what {
-        What::Unwrap(form)
+        What::Convert(Conversion::Wrap(form) | Conversion::Unwrap(form))
         | What::Rewrap {
             forms: RewrapForms::Changed { old: form, .. },
             ..
@@ -178,7 +177,7 @@ fn integrity_cause<F>(what: What, keks: &Keks<Inspected<F>>) -> Cause {
     if let Some(advice) = raw_kek_looks_like(keks.notation, &keks.kek.inspection) {
         return (FileRole::Kek, Reason::Text(advice));
     }
-    let reason = match &input_form(what) {
+    let reason = match &given_form(what) {
         Some(Plain(iv)) if *iv != InitialValue::default() => {
             "not a valid wrapped key under this KEK and --iv"
         }
@@ -211,22 +210,15 @@ impl fmt::Display for ShownName<'_> {
     }
 }
 
-// Returns whether a file name may be a KEK that was typed instead.
+// Returns whether a file name may be a KEK that was typed instead: in hex, or in base64 or base64url,
+// with or without padding.
 fn is_kek(name: &str) -> bool {
-    is_hex_kek(name) || is_base64_kek(name)
-}
-
-fn is_hex_kek(name: &str) -> bool {
-    matches!(name.len(), 32 | 48 | 64) && name.bytes().all(|byte| byte.is_ascii_hexdigit())
-}
-
-// Base64 or base64url, with or without padding.
-fn is_base64_kek(name: &str) -> bool {
     let symbols = name.trim_end_matches('=');
-    matches!(
-        (symbols.len(), name.len()),
-        (22, 22 | 24) | (32, 32) | (43, 43 | 44)
-    ) && symbols.bytes().all(is_base64_symbol)
+    match (symbols.len(), name.len()) {
+        (_, 32 | 48 | 64) if name.bytes().all(|byte| byte.is_ascii_hexdigit()) => true,
+        (22, 22 | 24) | (32, 32) | (43, 43 | 44) => symbols.bytes().all(is_base64_symbol),
+        _ => false,
+    }
 }
 
 fn is_base64_symbol(byte: u8) -> bool {

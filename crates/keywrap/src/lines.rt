@@ -3,7 +3,7 @@
 use crate::command::Run;
 use crate::prompt::is_typed;
 use key_lines::{RefusalLog, RefusedLine, RunFault, RunOptions, RunSummary};
-use key_wrap_core::RewrapFault;
+use key_wrap_core::Refusal;
 use keywrap_cli::{Operation, Outcome, ProgramFault, What, lines_status};
 use keywrap_io::{
     CountingReader, FileRole, InputSource, Inspected, LineCounts, Progress, Streams,
@@ -20,7 +20,7 @@ const READ_BUFFER: usize = 65_536;
 /// The exit status of an operation that was not refused, and the counts if they are shown.
 pub type RunOutcome = Outcome<(u8, Option<LineCounts>)>;
 
-type RunResult = Result<RunSummary<RewrapFault>, RunFault<RewrapFault>>;
+type RunResult = Result<RunSummary<Refusal>, RunFault<Refusal>>;
 
 /// A run over lines as a command asks for it: its options, and what it shows.
 #[derive(Clone, Copy)]
@@ -99,7 +99,7 @@ impl LineCommand {
     }
 }
 
-fn summary(run: RunResult) -> Result<RunSummary<RewrapFault>, ProgramFault> {
+fn summary(run: RunResult) -> Result<RunSummary<Refusal>, ProgramFault> {
     match run {
         Ok(summary) if summary.lines == 0 => Err(ProgramFault::NoLines),
         Ok(summary) => Ok(summary),
@@ -114,8 +114,8 @@ fn summary(run: RunResult) -> Result<RunSummary<RewrapFault>, ProgramFault> {
 #[derive(Drop)]
 struct RefusedLines<'p, 'r, R>(&'p Progress<'r, R>);
 
-impl<R: Eprint + AllocGlobal + Env + Clock> RefusalLog<RewrapFault> for RefusedLines<'_, '_, R> {
-    fn receive(&mut self, refused: &RefusedLine<RewrapFault>) {
+impl<R: Eprint + AllocGlobal + Env + Clock> RefusalLog<Refusal> for RefusedLines<'_, '_, R> {
+    fn receive(&mut self, refused: &RefusedLine<Refusal>) {
         self.0.print_line(ProgramFault::Line(*refused));
     }
 }

@@ -43,7 +43,11 @@ fn run_command<R: System>(rt: &R, command: &Command<'_>, streams: Streams) -> u8
         } => run_drill(rt.alloc(), *form, *direction, hex, &mut io::writer(rt)),
         Command::Vectors => run_vectors::<Library, _>(rt.alloc(), &mut io::writer(rt)),
     };
-    match result {
+    status_of(rt, result)
+}
+
+fn status_of<R: Eprint>(rt: &R, done: Result<u8, ProgramFault>) -> u8 {
+    match done {
         Ok(status) => status,
         Err(fault) => print_fault(rt, &fault),
     }
@@ -52,10 +56,9 @@ fn run_command<R: System>(rt: &R, command: &Command<'_>, streams: Streams) -> u8
 // Help goes to standard output, and a message on the arguments to standard error.
 fn print_stop<R: Print + Eprint>(rt: &R, stop: &CommandStop) -> u8 {
     match stop {
-        CommandStop::Args(Help(text)) => match write_help(text.as_str(), &mut io::writer(rt)) {
-            Ok(status) => status,
-            Err(fault) => print_fault(rt, &fault),
-        },
+        CommandStop::Args(Help(text)) => {
+            status_of(rt, write_help(text.as_str(), &mut io::writer(rt)))
+        }
         CommandStop::Args(Usage(text)) => {
             // Nothing is left to do if standard error is closed.
             let _ = rt.eprint(text.as_str());

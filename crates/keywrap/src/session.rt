@@ -6,13 +6,12 @@ use crate::lines::{LineCommand, RunOutcome};
 use crate::prompt::prompt;
 use crate::system::System;
 use crate::warnings::warn;
-use keywrap_cli::{How, Keks, Notation, Operation, Outcome, ProgramFault, What, done_status};
+use keywrap_cli::{Conversion, How, Keks, Operation, Outcome, ProgramFault, What, done_status};
 use keywrap_io::{
     Access, FileId, FileRole, InputSource, Inspected, Output, OutputFile, Protected, Reason,
     Streams, occupy_closed, open,
 };
-use std::alloc::Global;
-use std::io::{self, Printer, Read, Write};
+use std::io::{self, Printer};
 use std::rt::Files;
 
 /// A run on files, with all that its steps need.
@@ -57,7 +56,7 @@ impl<'a, R: System> Session<'a, R> {
             Err(self.refuse(&ProgramFault::RawToTerminal, None))
         } else {
             match occupy_closed(self.rt, self.streams) {
-                Ok(_occupied) => self.open_keks_and_run(),
+                Ok(_occupied) => self.open_and_run(),
                 // No file of the run causes such a fault, so there is no second line.
                 Err(role) => Err(self.refuse(&open_fault(role), None)),
             }
@@ -67,29 +66,24 @@ impl<'a, R: System> Session<'a, R> {
         }
     }
 
-    fn open_keks_and_run(&self) -> Result<u8, Refused> {
+    fn open_and_run(&self) -> Result<u8, Refused> {
         let kek = self.open(FileRole::Kek)?;
         let new_kek = match self.run.operation.keks.new_kek {
             Some(_) => Some(self.open(FileRole::NewKek)?),
             None => None,
         };
-        let notation = self.run.operation.keks.notation;
         let mut operation = Operation {
             what: self.run.operation.what,
             keks: Keks {
-                notation,
+                notation: self.run.operation.keks.notation,
                 kek,
                 new_kek,
             },
         };
-        self.open_io_and_run(&mut operation)
-    }
-
-    fn open_io_and_run(&self, operation: &mut Opened<R::Reader>) -> Result<u8, Refused> {
         let mut input = self.open(FileRole::Input)?;
-        let mut output = self.open_output(operation, &input)?;
+        let mut output = self.open_output(&operation, &input)?;
         prompt(self.rt, self.run, self.streams);
-        self.operate_and_commit(operation, &mut input, &mut output)
+        self.operate_and_commit(&mut operation, &mut input, &mut output)
     }
 
     fn open(&self, role: FileRole) -> Result<Source<R::Reader>, Refused> {
@@ -112,8 +106,10 @@ impl<'a, R: System> Session<'a, R> {
             Some(name) => {
                 let protected = self.protected(operation, input);
                 let access = match self.run.operation.what {
-                    What::Unwrap(_) | What::UnwrapAny(_) => Access::Private,
-                    What::Wrap(_) | What::Check(_) | What::Rewrap { .. } => Access::LikeOld,
+                    What::Convert(Conversion::Unwrap(_) | Conversion::UnwrapAny(_)) =>
+                        Access::Private,
+                    What::Convert(Conversion::Wrap(_)) | What::Check(_) | What::Rewrap { .. } =>
+                        Access::LikeOld,
                 };
                 match OutputFile::create(self.rt, name, &protected, access) {
                     Ok(file) => Output::File(file),
@@ -171,7 +167,12 @@ impl<'a, R: System> Session<'a, R> {
         output: &mut Inspected<Output<'a, Printer<'a, R>>>,
     ) -> Result<RunOutcome, ProgramFault> {
         match self.run.how {
-            How::Whole(notation) => run_whole(self.rt.alloc(), operation, notation, input, output),
+            How::Whole(notation) => {
+                let run = operation.run(self.rt.alloc(), notation, input, output);
+                let Outcome { result, same_kek } = run.map_err(ProgramFault::Job)?;
+                let result = (done_status(result), None);
+                Ok(Outcome { result, same_kek })
+            }
             How::Lines(options) => LineCommand::new(self.rt, self.run, options, self.streams).run(
                 self.rt, operation, input, output,
             ),
@@ -209,17 +210,4 @@ impl<'a, R: System> Session<'a, R> {
 // Identifies a file, if there is one.
 fn file_id<R: Files, I>(rt: &R, file: Option<&Source<I>>) -> Option<FileId> {
     Some(file?.file.id(rt))
-}
-
-fn run_whole<K: Read, I: Read, W: Write>(
-    alloc: Global,
-    operation: &mut Operation<K>,
-    notation: Notation,
-    input: &mut I,
-    out: &mut W,
-) -> Result<RunOutcome, ProgramFault> {
-    let run = operation.run(alloc, notation, input, out);
-    let Outcome { result, same_kek } = run.map_err(ProgramFault::Job)?;
-    let result = (done_status(result), None);
-    Ok(Outcome { result, same_kek })
 }

@@ -1,6 +1,6 @@
 //! The longer texts of the help: options, what hex and base64 files contain, the exit statuses,
 //! and an example per subcommand. `keywrap_cli`, which this crate does not see, has the same exit
-//! statuses: `scripts/facts.py` compares the numbers.
+//! statuses: `generate/facts.py` compares the numbers.
 
 /// The long help of `--output`.
 pub const OUTPUT: &str = "\

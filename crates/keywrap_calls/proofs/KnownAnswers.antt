@@ -15,13 +15,6 @@ use Rattle.key_wrap_core.specs.InPlace.{IsPaddedRoom, ArePaddedLengths, ArePlain
 use Rattle.keywrap_calls.specs.Status.{IsDone, IsIntegrity}
 use Rattle.keywrap_calls.specs.Calls.{IsWrapCall, IsUnwrapCall}
 
--- a wrap that is not done
-pub not_wrapped : (Legal : Type 0) (Relates : List ℕ → List ℕ → Type 0) (kek key text old new : List ℕ) (status : ℤ)
-    → IsWrapCall Legal Relates kek key old new status → (Relates key text → Legal) → ¬ IsDone status
-    → IsTrue false ↔ (IsKekLength (length kek) × Relates key text)
-not_wrapped Legal Relates kek key text old new status call legal refused =
-    (λ s. absurd (let wrong = s in cc), λ right. absurd (refused (call.done.1 (right.0, legal right.1))))
-
 -- another wrapped key
 pub other_text : (Legal : Type 0) (Relates : List ℕ → List ℕ → Type 0) (kek key text old new : List ℕ) (status : ℤ)
     → IsWrapCall Legal Relates kek key old new status → IsDone status → ¬ (new ≡ text)

@@ -1,5 +1,5 @@
 -- Each call of a rewrapping keeps the state of its phase, and the last turn ends it.
-use Rattle.std.proofs.Common.{◌≡◌, ◌⊎◌, inl, inr, refl, sym, subst, ap, ◌∙◌, ℕ, zero, suc, ◌+◌, ◌%◌, ◌/◌, ◌<◌, ◌≤◌, ◌==◌, if◌then◌else◌, Bool, true, false, List, length, drop, Option, Some, None, Result, Ok, Err, arith}
+use Rattle.std.proofs.Common.{◌≡◌, inl, inr, refl, sym, subst, ℕ, zero, suc, ◌+◌, ◌%◌, ◌/◌, ◌<◌, ◌==◌, if◌then◌else◌, Bool, true, false, List, length, Option, Some, None, Result, Ok, Err, arith}
 use Rattle.std.proofs.lemmas.Bool.Decides.{nat_tests}
 use lib.IntN.{ℤ}
 use Rattle.block_pair.specs.Pair.{AreInverse}
@@ -7,14 +7,14 @@ use Rattle.key_wrap_core.specs.declared.agreed_form.AgreedForm.{AgreedForm}
 use Rattle.key_wrap_core.specs.declared.agreed_form.AgreedForm.TheVariants.{Plain, Padded}
 use Rattle.key_wrap_core.specs.declared.rewrapping.RewrapForms.{RewrapForms}
 use Rattle.key_wrap_core.specs.declared.rewrapping.Rewrapped.{Rewrapped}
-use Rattle.key_wrap_core.specs.declared.rewrapping.RewrapFault.{RewrapFault}
+use Rattle.key_wrap_core.specs.declared.faults.Refusal.{Refusal}
 use Rattle.key_wrap_core.specs.declared.rewrap_steps.RewrapPhase.{RewrapPhase}
 use Rattle.key_wrap_core.specs.declared.rewrap_steps.RewrapPhase.TheVariants.{UnwrapOld, WrapOld, UnwrapNew, WrapNew}
 use Rattle.key_wrap_core.specs.declared.rewrap_steps.RewrapNext.{RewrapNext}
 use Rattle.key_wrap_core.specs.declared.rewrap_steps.RewrapNext.TheVariants.{Run, Done}
 use Rattle.key_wrap_core.specs.Lengths.{IsPaddedTextLength}
 use Rattle.key_wrap_core.specs.Forms.{IsTextLengthAs}
-use Rattle.key_wrap_core.specs.Rewrap.{IsOldLength, IsRewrapping}
+use Rattle.key_wrap_core.specs.Rewrap.{IsRewrapping}
 use Rattle.key_wrap_core.specs.RewrapPhases.{CanBegin, RewrapState, RewrapGoes}
 use Rattle.std.specs.Prelude.{IsErr}
 use Rattle.keywrap_calls.specs.Status.{IsDone}
@@ -37,7 +37,7 @@ ok_bits true bits done phase means e =
     subst (λ (p : RewrapPhase). bits ≡ bits_of p) same (means refl)
 ok_bits false bits done phase means e = absurd (let wrong = e in cc)
 
-err_bits : (b0 b2 b3 : Bool) (bits : ℕ) (fault : RewrapFault) (phase : RewrapPhase) → (b0 ≡ true → bits ≡ 0) → (b2 ≡ true → bits ≡ 2) → (b3 ≡ true → bits ≡ 3)
+err_bits : (b0 b2 b3 : Bool) (bits : ℕ) (fault : Refusal) (phase : RewrapPhase) → (b0 ≡ true → bits ≡ 0) → (b2 ≡ true → bits ≡ 2) → (b3 ≡ true → bits ≡ 3)
     → (if b0 then Some (WrapOld fault) else (if b2 then Some (WrapNew (Err fault)) else (if b3 then Some (UnwrapNew fault) else None))) ≡ Some phase
     → bits ≡ bits_of phase
 err_bits true b2 b3 bits fault phase zeros two three e =
@@ -51,7 +51,7 @@ err_bits false false true bits fault phase zeros two three e =
     subst (λ (p : RewrapPhase). bits ≡ bits_of p) same (three refl)
 err_bits false false false bits fault phase zeros two three e = absurd (let wrong = e in cc)
 
-with_bits : (bits : ℕ) (outcome : Option (Result Rewrapped RewrapFault)) (phase : RewrapPhase) → phase_with bits outcome ≡ Some phase → bits ≡ bits_of phase
+with_bits : (bits : ℕ) (outcome : Option (Result Rewrapped Refusal)) (phase : RewrapPhase) → phase_with bits outcome ≡ Some phase → bits ≡ bits_of phase
 with_bits bits None phase e = absurd (let wrong = e in cc)
 with_bits bits (Some (Ok done)) phase e = ok_bits (bits == 2) bits done phase (λ h. grind (arith, nat_tests)) e
 with_bits bits (Some (Err fault)) phase e =
@@ -135,12 +135,12 @@ climbed S (suc n) start step =
 -- without a phase the rewrapping has ended
 last_state : (E F : List ℕ → List ℕ) (flags : ℕ) (text : List ℕ) (s : CallAt) (next : RewrapNext) (status : ℤ) → s.number ≡ 0
     → TellsNext next s.number status → RewrapGoes (passes_new flags) (forms_of flags) E F text next s.steps s.now s.block
-    → (outcome : Result Rewrapped RewrapFault) × (status ≡ end_status outcome) × IsRewrapping (passes_new flags) (forms_of flags) E F text outcome s.now
+    → (outcome : Result Rewrapped Refusal) × (status ≡ end_status outcome) × IsRewrapping (passes_new flags) (forms_of flags) E F text outcome s.now
 last_state E F flags text s (Run phase) status none tells goes =
     let at : phase_at 0 ≡ Some phase = subst (λ (n : ℕ). phase_at n ≡ Some phase) none tells.0 in absurd (let wrong = at in cc)
 last_state E F flags text s (Done outcome) status none tells goes = (outcome, tells.1, goes)
 
-kept_by : (pass_new : Bool) (forms : RewrapForms) (E F : List ℕ → List ℕ) (text after : List ℕ) (outcome : Result Rewrapped RewrapFault)
+kept_by : (pass_new : Bool) (forms : RewrapForms) (E F : List ℕ → List ℕ) (text after : List ℕ) (outcome : Result Rewrapped Refusal)
     → IsRewrapping pass_new forms E F text outcome after → IsErr outcome → after ≡ text
 kept_by pass_new forms E F text after (Ok done) is e = absurd (let wrong = e in cc)
 kept_by pass_new forms E F text after (Err fault) is e = is.1
@@ -149,7 +149,7 @@ kept_by pass_new forms E F text after (Err fault) is e = is.1
 pub whole_calls : (E D F G : List ℕ → List ℕ) (old_kek new_kek : List ℕ) (flags : ℕ) (text : List ℕ) (calls : ℕ) (at : ℕ → CallAt) (last : CallAt) (status : ℤ)
     → AreInverse E D → AreInverse F G → AreKeks old_kek new_kek → AreFlags flags → CanBegin (passes_new flags) (forms_of flags) (length text)
     → RewrapCalls E F flags text calls at last status
-    → (outcome : Result Rewrapped RewrapFault) × (status ≡ end_status outcome)
+    → (outcome : Result Rewrapped Refusal) × (status ≡ end_status outcome)
     × Rewraps E F old_kek new_kek flags text last.now (already_of outcome) (rewrap_status outcome)
 whole_calls E D F G old_kek new_kek flags text calls at last status inv inv' keks legal can made =
     let size = can_length (passes_new flags) (forms_of flags) (length text) can in
@@ -166,6 +166,6 @@ whole_calls E D F G old_kek new_kek flags text calls at last status inv inv' kek
     let end = last_state E F flags text last found.0 status made.no_phase found.1 found.2 in (
       end.0,
       end.1,
-      rewraps E F old_kek new_kek flags text last.now end.0 keks (λ _. end.2) (λ no. absurd (no legal))
+      rewraps E F old_kek new_kek flags text last.now end.0 keks legal end.2
           (kept_by (passes_new flags) (forms_of flags) E F text last.now end.0 end.2),
     )

@@ -23,7 +23,7 @@ pub record ChecksKeks (old_kek new_kek : ℕ) (status : ℤ) : Type 0 where
   pub statuses : IsDone status ⊎ IsBadKek status
   pub bad_kek : IsBadKek status ↔ ¬ (IsKekLength old_kek × IsKekLength new_kek)
 
--- the call that finds the form of the text: a text of a length that no wrapped key has is a wrapping of no key
+-- the call that finds the form of the text: a text of a length that no wrapped key has is not a valid wrapped key
 pub record ChecksKind (kek room text : ℕ) (status : ℤ) : Type 0 where
   pub statuses : IsUnwrapStatus status
   pub bad_kek : IsBadKek status ↔ ¬ IsKekLength kek

@@ -4,7 +4,8 @@ use Rattle.std.specs.Prelude.{◌≡◌, ◌↔◌, ℕ, ℤ, pos, ◌+◌, ◌*
 use Rattle.fips197.specs.KeyExpansion.{IsKekLength}
 use Rattle.key_wrap_core.specs.declared.forms.Form.{Form}
 use Rattle.key_wrap_core.specs.declared.forms.Form.TheVariants.{Plain, Padded}
-use Rattle.key_wrap_core.specs.Lengths.{IsPlainTextLength, IsPaddedTextLength}
+use Rattle.key_wrap_core.specs.Lengths.{IsPaddedTextLength}
+use Rattle.key_wrap_core.specs.Forms.{IsTextLengthAs, by_default}
 use Rattle.key_wrap_core.specs.InPlace.{ArePlainLengths, IsPaddedRoom, key_in}
 use Rattle.key_wrap_core.specs.Rewrap.{IsOldLength}
 use Rattle.keywrap_calls.specs.Status.{IsDone, IsBadKek, IsBadLength, IsWrapStatus}
@@ -75,10 +76,6 @@ WrapsMany E kek key_len flags old new before after status =
 abbrev pub AreUnwrapFlags : ℕ → Type 0
 AreUnwrapFlags flags = flags < 2
 
-abbrev pub IsSlotLength : Form → ℕ → Type 0
-IsSlotLength Plain len = IsPlainTextLength len
-IsSlotLength Padded len = IsPaddedTextLength len
-
 -- 8 zero bytes and the key, whose length is in the list beside it, or 0 there
 pub record UnwrapsPlainSlot (E : List ℕ → List ℕ) (kek old new : List ℕ) (key_len : ℕ) (status : ℤ) : Type 0 where
   pub call : UnwrapsInPlace E kek old new status
@@ -96,7 +93,7 @@ UnwrapsSlot Padded E kek old new key_len status = UnwrapsPaddedSlot E kek old ne
 
 abbrev pub AreUnwrapSlots : (flags len count key_lens : ℕ) → Type 0
 AreUnwrapSlots flags len count key_lens =
-    AreUnwrapFlags flags × AreSlots len count × IsSlotLength (form_of_bit flags) (len / count) × (key_lens ≡ count)
+    AreUnwrapFlags flags × AreSlots len count × IsTextLengthAs (by_default (form_of_bit flags)) (len / count) × (key_lens ≡ count)
 
 -- `lens` and `key_lens` are the lengths before and after
 abbrev pub UnwrapsMany : (E : List ℕ → List ℕ) (kek : List ℕ) (flags : ℕ) (old new lens key_lens before after : List ℕ) (status : ℤ) → Type 0

@@ -36,7 +36,7 @@ IsRewrapCall E F flags text s s' =
     ((block : List ℕ) × (status : ℤ) × IsDone status × (s'.number ≡ s.number) × MakesStep E F (s.number % 4) s block s' status)
     ⊎ ((status : ℤ) × ¬ (s'.number ≡ 0) × MakesTurn flags text s s' status)
 
--- A whole rewrapping of the text: it is begun, each of so many calls is a step or a turn, and the last turn leaves no phase.
+-- A whole rewrapping of the text: it is begun, each of its calls is a step or a turn, and the last turn leaves no phase.
 pub record RewrapCalls (E F : List ℕ → List ℕ) (flags : ℕ) (text : List ℕ) (calls : ℕ) (at : ℕ → CallAt) (last : CallAt) (status : ℤ)
     : Type 0 where
   pub old_steps : ℕ

@@ -4,8 +4,8 @@ use Rattle.std.specs.Prelude.{◌≡◌, ◌↔◌, ◌⊎◌, ℕ, ℤ, pos, �
 use Rattle.block_pair.specs.Pair.{AreInverse}
 use Rattle.key_wrap_core.specs.declared.rewrapping.Rewrapped.{Rewrapped}
 use Rattle.key_wrap_core.specs.declared.rewrapping.Rewrapped.TheVariants.{Fresh, AlreadyNew}
-use Rattle.key_wrap_core.specs.declared.rewrapping.RewrapFault.{RewrapFault}
-use Rattle.key_wrap_core.specs.declared.rewrapping.RewrapFault.TheVariants.{BadLength, Integrity, KeyNotPlain}
+use Rattle.key_wrap_core.specs.declared.faults.Refusal.{Refusal}
+use Rattle.key_wrap_core.specs.declared.faults.Refusal.TheVariants.{BadLength, Integrity, KeyNotPlain}
 use Rattle.key_wrap_core.specs.declared.rewrap_steps.RewrapPhase.{RewrapPhase}
 use Rattle.key_wrap_core.specs.declared.rewrap_steps.RewrapPhase.TheVariants.{UnwrapOld, WrapOld, UnwrapNew, WrapNew}
 use Rattle.key_wrap_core.specs.declared.rewrap_steps.RewrapNext.{RewrapNext}
@@ -17,7 +17,7 @@ use Rattle.keywrap_calls.specs.Status.{IsDone, IsBadKek, IsBadLength}
 use Rattle.keywrap_calls.specs.Rewraps.{AreFlags, IsInPlace, already_of, forms_of, passes_new, rewrap_status}
 
 -- the outcome of a status at the end of a rewrapping: 1 for a wrapped key that was new already
-abbrev pub outcome_at : ℕ → Option (Result Rewrapped RewrapFault)
+abbrev pub outcome_at : ℕ → Option (Result Rewrapped Refusal)
 outcome_at status =
     if status == 0 then Some (Ok Fresh)
     else (if status == 1 then Some (Ok AlreadyNew)
@@ -26,7 +26,7 @@ outcome_at status =
     else (if status == 8 then Some (Err KeyNotPlain)
     else None))))
 
-abbrev pub end_status : Result Rewrapped RewrapFault → ℤ
+abbrev pub end_status : Result Rewrapped Refusal → ℤ
 end_status (Ok Fresh) = pos 0
 end_status (Ok AlreadyNew) = pos 1
 end_status (Err BadLength) = pos 4
@@ -34,7 +34,7 @@ end_status (Err Integrity) = pos 5
 end_status (Err KeyNotPlain) = pos 8
 
 -- The phase of this operation, with this outcome. Bit 0: the block is decrypted, and a step undone. Bit 1: under the new permutation.
-abbrev pub phase_with : (operation : ℕ) → Option (Result Rewrapped RewrapFault) → Option RewrapPhase
+abbrev pub phase_with : (operation : ℕ) → Option (Result Rewrapped Refusal) → Option RewrapPhase
 phase_with operation None = None
 phase_with operation (Some (Ok done)) = if operation == 2 then Some (WrapNew (Ok done)) else None
 phase_with operation (Some (Err fault)) =
@@ -85,11 +85,11 @@ pub record TurnsRunFrom (flags : ℕ) (copy : List ℕ) (number number' : ℕ) (
 
 -- What `rewrap` returns for the status at the end of a rewrapping. What is no such status is the refusal of a KEK.
 pub record EndsRewrap (end already : ℕ) (status : ℤ) : Type 0 where
-  pub outcome : (outcome : Result Rewrapped RewrapFault) → outcome_at end ≡ Some outcome
+  pub outcome : (outcome : Result Rewrapped Refusal) → outcome_at end ≡ Some outcome
       → (status ≡ rewrap_status outcome) × (already ≡ already_of outcome)
   pub bad_kek : outcome_at end ≡ None → IsBadKek status × (already ≡ 0)
 
 -- what the call of version 1.0 returns for it, and the buffer
 pub record EndsInPlace (end : ℕ) (old new : List ℕ) (status : ℤ) : Type 0 where
-  pub outcome : (outcome : Result Rewrapped RewrapFault) → outcome_at end ≡ Some outcome → IsInPlace outcome old new status
+  pub outcome : (outcome : Result Rewrapped Refusal) → outcome_at end ≡ Some outcome → IsInPlace outcome old new status
   pub bad_kek : outcome_at end ≡ None → IsBadKek status × (new ≡ old)

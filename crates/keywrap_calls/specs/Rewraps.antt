@@ -5,10 +5,11 @@ use Rattle.key_wrap_core.specs.declared.forms.Form.{Form}
 use Rattle.key_wrap_core.specs.declared.forms.Form.TheVariants.{Plain, Padded}
 use Rattle.key_wrap_core.specs.declared.rewrapping.RewrapForms.{RewrapForms}
 use Rattle.key_wrap_core.specs.declared.rewrapping.RewrapForms.TheVariants.{Kept, Changed}
+use Rattle.key_wrap_core.specs.declared.rewrap_steps.RewrapRequest.{RewrapRequest}
 use Rattle.key_wrap_core.specs.declared.rewrapping.Rewrapped.{Rewrapped}
 use Rattle.key_wrap_core.specs.declared.rewrapping.Rewrapped.TheVariants.{Fresh, AlreadyNew}
-use Rattle.key_wrap_core.specs.declared.rewrapping.RewrapFault.{RewrapFault}
-use Rattle.key_wrap_core.specs.declared.rewrapping.RewrapFault.TheVariants.{BadLength, Integrity, KeyNotPlain}
+use Rattle.key_wrap_core.specs.declared.faults.Refusal.{Refusal}
+use Rattle.key_wrap_core.specs.declared.faults.Refusal.TheVariants.{BadLength, Integrity, KeyNotPlain}
 use Rattle.key_wrap_core.specs.Forms.{by_default}
 use Rattle.key_wrap_core.specs.Rewrap.{IsRewrapping}
 use Rattle.keywrap_calls.specs.Status.{IsDone, IsBadKek, IsBadLength, IsIntegrity}
@@ -30,18 +31,21 @@ forms_of flags = if flags / 4 % 2 == 0 then Changed (by_default (form_of_bit (fl
 abbrev pub passes_new : ℕ → Bool
 passes_new flags = nat_lt 7 flags
 
+abbrev pub Requests : ℕ → RewrapRequest → Type 0
+Requests flags request = AreFlags flags × (request.forms ≡ forms_of flags) × (request.pass_new ≡ passes_new flags)
+
 -- both KEKs have legal lengths
 abbrev pub AreKeks : List ℕ → List ℕ → Type 0
 AreKeks old_kek new_kek = IsKekLength (length old_kek) × IsKekLength (length new_kek)
 
-abbrev pub rewrap_status : Result Rewrapped RewrapFault → ℤ
+abbrev pub rewrap_status : Result Rewrapped Refusal → ℤ
 rewrap_status (Ok done) = pos 0
 rewrap_status (Err BadLength) = pos 4
 rewrap_status (Err Integrity) = pos 5
 rewrap_status (Err KeyNotPlain) = pos 8
 
 -- 1 if the wrapped key was new already
-abbrev pub already_of : Result Rewrapped RewrapFault → ℕ
+abbrev pub already_of : Result Rewrapped Refusal → ℕ
 already_of (Ok Fresh) = 0
 already_of (Ok AlreadyNew) = 1
 already_of (Err fault) = 0
@@ -52,14 +56,14 @@ pub record Rewraps (E F : List ℕ → List ℕ) (old_kek new_kek : List ℕ) (f
   pub bad_kek : IsBadKek status ↔ ¬ AreKeks old_kek new_kek
   pub bad_flags : AreKeks old_kek new_kek → ¬ AreFlags flags → IsBadLength status
   -- a rewrapping of the old buffer has this status and this number; there is only one such result
-  pub rewraps : AreKeks old_kek new_kek → AreFlags flags → (result : Result Rewrapped RewrapFault)
+  pub rewraps : AreKeks old_kek new_kek → AreFlags flags → (result : Result Rewrapped Refusal)
       × IsRewrapping (passes_new flags) (forms_of flags) E F old result new × (status ≡ rewrap_status result) × (already ≡ already_of result)
   pub kept : ¬ IsDone status → new ≡ old
   pub not_already : ¬ IsDone status → already ≡ 0
 
 -- In the call of version 1.0 a key whose length is not legal in the new form is a bad length, and two refusals leave zeros in
 -- place of the buffer after the rewrapping.
-abbrev pub IsInPlace : Result Rewrapped RewrapFault → (after new : List ℕ) → ℤ → Type 0
+abbrev pub IsInPlace : Result Rewrapped Refusal → (after new : List ℕ) → ℤ → Type 0
 IsInPlace (Ok done) after new status = IsDone status × (new ≡ after)
 IsInPlace (Err BadLength) after new status = IsBadLength status × (new ≡ after)
 IsInPlace (Err Integrity) after new status = IsIntegrity status × All (λ byte. byte ≡ 0) new
@@ -71,5 +75,5 @@ pub record RewrapsInPlace (E F : List ℕ → List ℕ) (old_kek new_kek : List 
   pub bad_kek : IsBadKek status ↔ ¬ AreKeks old_kek new_kek
   pub kept : IsBadKek status → new ≡ old
   pub bad_flags : AreKeks old_kek new_kek → ¬ (flags < 4) → IsBadLength status × (new ≡ old)
-  pub rewraps : AreKeks old_kek new_kek → flags < 4 → (result : Result Rewrapped RewrapFault) × (after : List ℕ)
+  pub rewraps : AreKeks old_kek new_kek → flags < 4 → (result : Result Rewrapped Refusal) × (after : List ℕ)
       × IsRewrapping false (forms_of flags) E F old result after × IsInPlace result after new status

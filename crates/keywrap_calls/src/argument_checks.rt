@@ -55,7 +55,7 @@ pub fn check_room(kek_len: usize, room: usize, text_len: usize) -> i32
 }
 
 /// Checks the arguments of `kind`. A text of a length that no wrapped key has is not refused for it:
-/// it is the wrapping of no key.
+/// it is not a valid wrapped key.
 pub fn check_kind(kek_len: usize, room: usize, text_len: usize) -> i32
     ensures { ChecksKind kek_len room text_len result }
 {

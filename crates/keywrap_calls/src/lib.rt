@@ -33,6 +33,7 @@ pub use argument_checks::{
     check_keks, check_kind, check_padded, check_plain, check_rewrap_in_place, check_room,
 };
 pub use arguments::{In, Out};
+pub use key_wrap_core::step_count;
 pub use kinds::kind;
 pub use known_answers::{TestedCalls, self_test};
 pub use many_kinds::kind_many;
@@ -58,4 +59,4 @@ pub use unwrap_steps::{
     begin_unwrap, begin_unwrap_padded, end_unwrap, end_unwrap_padded, step_unwrap,
 };
 pub use version_number::version;
-pub use wrap_steps::{begin_wrap, begin_wrap_padded, end_wrap, step_count, step_wrap};
+pub use wrap_steps::{begin_wrap, begin_wrap_padded, end_wrap, step_wrap};

@@ -1,18 +1,17 @@
 //! Rewrapping many wrapped keys of one length in one buffer.
 
-ghost use Rattle.std.specs.Prelude.{◌≡◌, ◌+◌, ◌*◌, ◌/◌, ◌<◌, ℕ, List, length, pos, slice_index, IfSome, IfNone, IsTrue, ◌↔◌, Err};
+ghost use Rattle.std.specs.Prelude.{◌≡◌, ◌*◌, ◌/◌, ◌<◌, ℕ, List, length, slice_index, IfSome, IfNone};
 ghost use Rattle.fips197.specs.Cipher.{cipher};
-ghost use Rattle.keywrap_calls.specs.Rewraps.{AreFlags, AreKeks, already_of, forms_of, rewrap_status};
-ghost use Rattle.key_wrap_core.specs.Rewrap.{IsOldLength};
+ghost use Rattle.keywrap_calls.specs.Rewraps.{AreKeks, Requests};
 ghost use Rattle.keywrap_calls.specs.Many.{AreRewrapSlots, RewrapsMany, RewrapsSlot, slot_at};
 
 use crate::many_slots::slot_len;
 use crate::rewrap_steps::outcome_byte;
-use crate::rewrapping::{forms_of, rewrap_as};
+use crate::rewrapping::{request_of, rewrap_as};
 use crate::status::{BAD_KEK, BAD_LENGTH, DONE};
 use block_pair::{BlockPair, Meter};
 use fips197::KeyInit;
-use key_wrap_core::{RewrapFault, Rewrapped, rewrap_length_ok};
+use key_wrap_core::{RewrapRequest, rewrap_length_ok};
 
 /// Rewraps, as `rewrap` does, the wrapped key in each slot of `texts`: as many slots of one length
 /// as there are `statuses`, each with its status, or with 1 if the wrapped key was under the new
@@ -36,34 +35,29 @@ pub fn rewrap_many<A: KeyInit>(
     let Ok(new) = A::new_in(new_kek, schedules.1) else {
         return BAD_KEK;
     };
-    let Some(len) = rewrap_slot_len(flags, texts.len(), statuses.len()) else {
+    let Some((request, len)) = rewrap_slots_of(flags, texts.len(), statuses.len()) else {
         return BAD_LENGTH;
     };
-    rewrap_slots(&old, &new, flags, len, texts, statuses);
+    rewrap_slots(&old, &new, &request, len, texts, statuses);
     DONE
 }
 
-// The length of each slot, if it is legal in one of the old forms, and the flags are legal.
-pub(crate) fn rewrap_slot_len(flags: u32, len: usize, count: usize) -> Option<usize>
-    ensures some { IfSome result (λ n. AreRewrapSlots flags len count
-        × (n ≡ len / count) × (len ≡ n * count)) }
+// What the flags request, and the length of each slot, if flags and lengths are legal.
+pub(crate) fn rewrap_slots_of(
+    flags: u32,
+    len: usize,
+    count: usize,
+) -> Option<(RewrapRequest, usize)>
+    ensures some { IfSome result (λ slots. AreRewrapSlots flags len count × Requests flags slots.0
+        × (slots.1 ≡ len / count) × (len ≡ slots.1 * count)) }
     ensures none { IfNone result (¬ AreRewrapSlots flags len count) }
 {
     let n = slot_len(len, count)?;
-    if is_rewrap_length(flags, n) {
-        Some(n)
+    let request = request_of(flags)?;
+    if rewrap_length_ok(&request.forms, n) {
+        Some((request, n))
     } else {
         None
-    }
-}
-
-// Whether the flags are legal, and a wrapped key in one of the old forms can have this length.
-fn is_rewrap_length(flags: u32, len: usize) -> bool
-    ensures { IsTrue result ↔ (AreFlags flags × IsOldLength (forms_of flags) len) }
-{
-    match forms_of(flags) {
-        Some(forms) => rewrap_length_ok(&forms, len),
-        None => false,
     }
 }
 
@@ -73,27 +67,33 @@ fn is_rewrap_length(flags: u32, len: usize) -> bool
 fn rewrap_slots<O: BlockPair, N: BlockPair>(
     old: &O,
     new: &N,
-    flags: u32,
+    request: &RewrapRequest,
     len: usize,
     texts: &mut [u8],
     statuses: &mut [u8],
 )
     requires { length texts.old ≡ len * length statuses.old }
-    ensures { (old_kek new_kek : List ℕ) → AreKeks old_kek new_kek → (i : ℕ) → i < length statuses.old
+    ensures { (old_kek new_kek : List ℕ) (flags : ℕ) → AreKeks old_kek new_kek → Requests flags request.now
+        → (i : ℕ) → i < length statuses.old
         → RewrapsSlot (O.encrypted old.now) (N.encrypted new.now) old_kek new_kek flags
         (slot_at len i texts.old) (slot_at len i texts.new) (slice_index statuses.new i) }
 {
     for slot in 0..statuses.len() {
         let start = len * slot;
-        statuses[slot] = rewrap_slot(old, new, flags, &mut texts[start..start + len]);
+        statuses[slot] = rewrap_slot(old, new, request, &mut texts[start..start + len]);
     }
 }
 
 // Rewraps one wrapped key, and returns its byte.
-fn rewrap_slot<O: BlockPair, N: BlockPair>(old: &O, new: &N, flags: u32, text: &mut [u8]) -> u8
-    ensures { (old_kek new_kek : List ℕ) → AreKeks old_kek new_kek
+fn rewrap_slot<O: BlockPair, N: BlockPair>(
+    old: &O,
+    new: &N,
+    request: &RewrapRequest,
+    text: &mut [u8],
+) -> u8
+    ensures { (old_kek new_kek : List ℕ) (flags : ℕ) → AreKeks old_kek new_kek → Requests flags request.now
         → RewrapsSlot (O.encrypted old.now) (N.encrypted new.now) old_kek new_kek flags
         text.old text.new result }
 {
-    outcome_byte(rewrap_as(&mut Meter::new(old), &mut Meter::new(new), flags, text))
+    outcome_byte(rewrap_as(&mut Meter::new(old), &mut Meter::new(new), request, text))
 }

@@ -4,8 +4,6 @@ ghost use Rattle.std.specs.Prelude.{◌≡◌, ◌*◌, ◌/◌, pos, IfSome, If
 ghost use Rattle.keywrap_calls.specs.Many.{AreSlots};
 ghost use Rattle.keywrap_calls.specs.Status.{IsUnwrapStatus};
 
-use crate::status::{BAD_KEK, BAD_LENGTH, DONE, INTEGRITY};
-
 // The length of each of `count` slots in `len` bytes.
 pub(crate) fn slot_len(len: usize, count: usize) -> Option<usize>
     ensures some { IfSome result (λ n. AreSlots len count × (n ≡ len / count) × (len ≡ n * count)) }
@@ -23,10 +21,5 @@ pub(crate) fn status_byte(status: i32) -> u8
     requires { IsUnwrapStatus status }
     ensures { status ≡ pos result }
 {
-    match status {
-        DONE => 0,
-        BAD_KEK => 3,
-        BAD_LENGTH => 4,
-        _ => 5,
-    }
+    status as u8
 }

@@ -5,7 +5,7 @@ ghost use Rattle.fips197.specs.Cipher.{cipher};
 ghost use Rattle.fips197.specs.KeyExpansion.{IsKekLength};
 ghost use Rattle.keywrap_calls.specs.Rewraps.{form_of_bit};
 ghost use Rattle.keywrap_calls.specs.Many.{slot_at, AreWrapFlags, wrap_form, IsKeySlot, AreWrapSlots, WrapsSlot, WrapsMany};
-ghost use Rattle.keywrap_calls.specs.Many.{AreUnwrapFlags, IsSlotLength, AreUnwrapSlots, UnwrapsPlainSlot, UnwrapsSlot, UnwrapsMany};
+ghost use Rattle.keywrap_calls.specs.Many.{AreUnwrapFlags, AreUnwrapSlots, UnwrapsPlainSlot, UnwrapsSlot, UnwrapsMany};
 
 use crate::many_slots::{slot_len, status_byte};
 use crate::padded_in_place::{unwrap_padded_under, wrap_padded_under};
@@ -13,7 +13,7 @@ use crate::plain_in_place::{unwrap_under, wrap_under};
 use crate::status::{BAD_KEK, BAD_LENGTH, DONE};
 use block_pair::BlockPair;
 use fips197::KeyInit;
-use key_wrap_core::{Form, key_length_ok, padded_length_ok, padded_text_length_ok, text_length_ok};
+use key_wrap_core::{AgreedForm, Form, key_length_ok, padded_length_ok, text_len};
 
 /// Wraps the key of `key_len` bytes after the first 8 bytes of each slot of `texts`: as many slots
 /// of the length of its wrapped key as there are `statuses`. `flags` is 0, or 2 for the padded
@@ -78,8 +78,8 @@ pub(crate) fn is_key_slot(form: Form, key_len: usize, len: usize) -> bool
     ensures { IsTrue result ↔ IsKeySlot form key_len len }
 {
     match form {
-        Form::Plain => key_length_ok(key_len) && len == key_len + 8,
-        Form::Padded => padded_length_ok(key_len) && len == 8 + key_len.next_multiple_of(8),
+        Form::Plain => key_length_ok(key_len) && len == text_len(key_len),
+        Form::Padded => padded_length_ok(key_len) && len == text_len(key_len),
     }
 }
 
@@ -156,7 +156,7 @@ pub(crate) fn unwrap_slots_of(
 {
     let n = slot_len(len, count)?;
     let form = old_form(flags)?;
-    if lens == count && is_slot_length(form, n) {
+    if lens == count && AgreedForm::by_default(form).takes_text(n) {
         Some((form, n))
     } else {
         None
@@ -172,16 +172,6 @@ pub(crate) fn old_form(flags: u32) -> Option<Form>
         0 => Some(Form::Plain),
         1 => Some(Form::Padded),
         _ => None,
-    }
-}
-
-// Whether a wrapped key can have this length.
-fn is_slot_length(form: Form, len: usize) -> bool
-    ensures { IsTrue result ↔ IsSlotLength form len }
-{
-    match form {
-        Form::Plain => text_length_ok(len),
-        Form::Padded => padded_text_length_ok(len),
     }
 }
 

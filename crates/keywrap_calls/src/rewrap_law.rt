@@ -7,7 +7,7 @@ ghost use Rattle.keywrap_calls.specs.Rewraps.{AreFlags, AreKeks, Rewraps, alread
 ghost use Rattle.keywrap_calls.specs.RewrapSteps.{end_status};
 ghost use Rattle.keywrap_calls.specs.RewrapCalls.{CallAt, RewrapCalls};
 
-use key_wrap_core::{RewrapFault, Rewrapped};
+use key_wrap_core::{Refusal, Rewrapped};
 
 /// Says that the calls for a rewrapping, each step with the AES that the phase asks for, end in what
 /// `rewrap` promises, for every two permutations. It does nothing.
@@ -17,6 +17,6 @@ pub fn rewrap_calls_law()
         → AreInverse E D → AreInverse F G → AreKeks old_kek new_kek → AreFlags flags
         → CanBegin (passes_new flags) (forms_of flags) (length text)
         → RewrapCalls E F flags text calls at last status
-        → (outcome : Result Rewrapped RewrapFault) × (status ≡ end_status outcome)
+        → (outcome : Result Rewrapped Refusal) × (status ≡ end_status outcome)
         × Rewraps E F old_kek new_kek flags text last.now (already_of outcome) (rewrap_status outcome) }
 {}

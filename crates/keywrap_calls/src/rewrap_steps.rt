@@ -1,12 +1,11 @@
 //! Rewrapping run by run, for an AES outside the library.
 
-ghost use Rattle.std.specs.Prelude.{◌≡◌, Some, Option, pos, ℕ, IfSome, IfNone};
-ghost use Rattle.keywrap_calls.specs.Rewraps.{AreFlags, forms_of, passes_new};
+ghost use Rattle.std.specs.Prelude.{◌≡◌, Some, Option, pos, ℕ};
 ghost use Rattle.keywrap_calls.specs.RewrapSteps.{BeginsRewrap, TurnsRun, TurnsRunFrom, TellsNext, EndsRewrap, EndsInPlace, end_status, outcome_at, phase_at};
 
-use crate::rewrapping::{PASS_NEW, forms_of, in_place_status, report};
-use crate::status::{BAD_KEK, BAD_LENGTH, DONE};
-use key_wrap_core::{RewrapFault, RewrapNext, RewrapPhase, RewrapRequest, Rewrapped};
+use crate::rewrapping::{in_place_status, report, request_of};
+use crate::status::{ALREADY_NEW, BAD_KEK, BAD_LENGTH, DONE, INTEGRITY, KEY_NOT_PLAIN};
+use key_wrap_core::{Refusal, RewrapNext, RewrapPhase, Rewrapped};
 
 /// Begins to rewrap the wrapped key in `text`, as `rewrap` does: `*phase` is the operation of the first
 /// run, `*steps` its number of steps, and `block` the first block for the operation.
@@ -114,17 +113,6 @@ pub fn end_rewrap_in_place(status: u32, buffer: &mut [u8]) -> i32
     }
 }
 
-// What the flags request.
-fn request_of(flags: u32) -> Option<RewrapRequest>
-    ensures some { IfSome result (λ request. AreFlags flags × (request.forms ≡ forms_of flags)
-        × (request.pass_new ≡ passes_new flags)) }
-    ensures none { IfNone result (¬ AreFlags flags) }
-{
-    let forms = forms_of(flags)?;
-    let pass_new = flags >= PASS_NEW;
-    Some(RewrapRequest { forms, pass_new })
-}
-
 // Writes the number of the next phase, or 0, and returns the status.
 fn tell(next: RewrapNext, phase: &mut u32) -> i32
     ensures { TellsNext next phase.new result }
@@ -175,28 +163,28 @@ fn phase_of(number: u32) -> Option<RewrapPhase>
 }
 
 // The outcome of a status.
-fn outcome_of(status: u32) -> Option<Result<Rewrapped, RewrapFault>>
+fn outcome_of(status: u32) -> Option<Result<Rewrapped, Refusal>>
     ensures { result ≡ outcome_at status }
 {
-    match status {
-        0 => Some(Ok(Rewrapped::Fresh)),
-        1 => Some(Ok(Rewrapped::AlreadyNew)),
-        4 => Some(Err(RewrapFault::BadLength)),
-        5 => Some(Err(RewrapFault::Integrity)),
-        8 => Some(Err(RewrapFault::KeyNotPlain)),
+    match i32::try_from(status).ok()? {
+        DONE => Some(Ok(Rewrapped::Fresh)),
+        ALREADY_NEW => Some(Ok(Rewrapped::AlreadyNew)),
+        BAD_LENGTH => Some(Err(Refusal::BadLength)),
+        INTEGRITY => Some(Err(Refusal::Integrity)),
+        KEY_NOT_PLAIN => Some(Err(Refusal::KeyNotPlain)),
         _ => None,
     }
 }
 
 // The status of an outcome, as a byte: 1 for a wrapped key that was new already.
-pub(crate) fn outcome_byte(outcome: Result<Rewrapped, RewrapFault>) -> u8
+pub(crate) fn outcome_byte(outcome: Result<Rewrapped, Refusal>) -> u8
     ensures { end_status outcome ≡ pos result }
 {
     match outcome {
-        Ok(Rewrapped::Fresh) => 0,
-        Ok(Rewrapped::AlreadyNew) => 1,
-        Err(RewrapFault::BadLength) => 4,
-        Err(RewrapFault::Integrity) => 5,
-        Err(RewrapFault::KeyNotPlain) => 8,
+        Ok(Rewrapped::Fresh) => DONE as u8,
+        Ok(Rewrapped::AlreadyNew) => ALREADY_NEW as u8,
+        Err(Refusal::BadLength) => BAD_LENGTH as u8,
+        Err(Refusal::Integrity) => INTEGRITY as u8,
+        Err(Refusal::KeyNotPlain) => KEY_NOT_PLAIN as u8,
     }
 }

@@ -1,19 +1,19 @@
 //! Rewrapping in one buffer: from one KEK and form to another, the key never given out.
 
-ghost use Rattle.std.specs.Prelude.{◌≡◌, IfSome, IfNone, IsErr, Err};
+ghost use Rattle.std.specs.Prelude.{◌≡◌, IfSome, IfNone, IsErr};
 ghost use Rattle.fips197.specs.Cipher.{cipher};
 ghost use Rattle.keywrap_calls.specs.Status.{IsBadKek};
-ghost use Rattle.keywrap_calls.specs.Rewraps.{AreFlags, IsInPlace, forms_of, passes_new};
+ghost use Rattle.keywrap_calls.specs.Rewraps.{AreFlags, IsInPlace, Requests, forms_of};
 ghost use Rattle.keywrap_calls.specs.Rewraps.{Rewraps, RewrapsInPlace, already_of, rewrap_status};
 ghost use Rattle.key_wrap_core.specs.Rewrap.{IsRewrapping};
 
 use crate::status::{BAD_KEK, BAD_LENGTH, DONE, INTEGRITY, KEY_NOT_PLAIN};
 use block_pair::{BlockPair, Meter};
 use fips197::KeyInit;
-use key_wrap_core::{Form, RewrapFault, RewrapForms, Rewrapped};
+use key_wrap_core::{Form, Refusal, RewrapForms, RewrapRequest, Rewrapped};
 
 // The flag beside the forms: a wrapped key that is new already is passed.
-pub(crate) const PASS_NEW: u32 = 8;
+const PASS_NEW: u32 = 8;
 
 /// Replaces the wrapped key in `buffer`, under the old KEK, by the same key wrapped under the new
 /// KEK, of the same length (RFC 3394 and RFC 5649). `keywrap.h` has the `flags`. `*already` is
@@ -39,7 +39,15 @@ pub fn rewrap<A: KeyInit>(
     let Ok(new) = A::new_in(new_kek, schedules.1) else {
         return BAD_KEK;
     };
-    let outcome = rewrap_as(&mut Meter::new(&old), &mut Meter::new(&new), flags, buffer);
+    let Some(request) = request_of(flags) else {
+        return BAD_LENGTH;
+    };
+    let outcome = rewrap_as(
+        &mut Meter::new(&old),
+        &mut Meter::new(&new),
+        &request,
+        buffer,
+    );
     report(outcome, already)
 }
 
@@ -66,52 +74,66 @@ pub fn rewrap_in_place<A: KeyInit>(
     if forms > 3 {
         return BAD_LENGTH;
     }
-    let outcome = rewrap_as(&mut Meter::new(&old), &mut Meter::new(&new), forms, buffer);
+    let Some(request) = request_of(forms) else {
+        return BAD_LENGTH;
+    };
+    let outcome = rewrap_as(
+        &mut Meter::new(&old),
+        &mut Meter::new(&new),
+        &request,
+        buffer,
+    );
     in_place_status(outcome, buffer)
 }
 
 // The status of version 1.0, and its buffer.
-pub(crate) fn in_place_status(outcome: Result<Rewrapped, RewrapFault>, buffer: &mut [u8]) -> i32
+pub(crate) fn in_place_status(outcome: Result<Rewrapped, Refusal>, buffer: &mut [u8]) -> i32
     ensures is { IsInPlace outcome buffer.old buffer.new result }
     ensures other { ¬ IsBadKek result }
 {
     match outcome {
         Ok(_) => DONE,
-        Err(RewrapFault::BadLength) => BAD_LENGTH,
-        Err(RewrapFault::Integrity) => {
+        Err(Refusal::BadLength) => BAD_LENGTH,
+        Err(Refusal::Integrity) => {
             buffer.fill(0);
             INTEGRITY
         }
-        Err(RewrapFault::KeyNotPlain) => {
+        Err(Refusal::KeyNotPlain) => {
             buffer.fill(0);
             BAD_LENGTH
         }
     }
 }
 
-// Rewraps as the flags request, under any pairs. Not inlined, its frame lies over what the making
+// Rewraps as requested, under any pairs. Not inlined, its frame lies over what the making
 // of the key schedules left on the stack.
 #[inline(never)]
 pub(crate) fn rewrap_as<O: BlockPair, N: BlockPair>(
     old: &mut Meter<O>,
     new: &mut Meter<N>,
-    flags: u32,
+    request: &RewrapRequest,
     buf: &mut [u8],
-) -> Result<Rewrapped, RewrapFault>
-    ensures rewraps { AreFlags flags → IsRewrapping (passes_new flags) (forms_of flags)
+) -> Result<Rewrapped, Refusal>
+    ensures rewraps { IsRewrapping request.now.pass_new request.now.forms
         (O.encrypted old.old.pair) (N.encrypted new.old.pair) buf.old result buf.new }
-    ensures bad_flags { ¬ AreFlags flags → result ≡ Err RewrapFault.BadLength }
     ensures kept { IsErr result → buf.new ≡ buf.old }
 {
-    match forms_of(flags) {
-        Some(forms) => key_wrap_core::rewrap(old, new, &forms, flags >= PASS_NEW, buf),
-        None => Err(RewrapFault::BadLength),
-    }
+    key_wrap_core::rewrap(old, new, &request.forms, request.pass_new, buf)
+}
+
+// What the flags request.
+pub(crate) fn request_of(flags: u32) -> Option<RewrapRequest>
+    ensures some { IfSome result (λ request. Requests flags request) }
+    ensures none { IfNone result (¬ AreFlags flags) }
+{
+    let forms = forms_of(flags)?;
+    let pass_new = flags >= PASS_NEW;
+    Some(RewrapRequest { forms, pass_new })
 }
 
 // The forms that the flags request. Bit 0: the old form is padded. Bit 1: the new form is padded. Bit 2:
 // the form is kept.
-pub(crate) fn forms_of(flags: u32) -> Option<RewrapForms>
+fn forms_of(flags: u32) -> Option<RewrapForms>
     ensures named { IfSome result (λ forms. AreFlags flags × (forms ≡ forms_of flags)) }
     ensures refused { IfNone result (¬ AreFlags flags) }
 {
@@ -126,15 +148,15 @@ pub(crate) fn forms_of(flags: u32) -> Option<RewrapForms>
 }
 
 // The status of an outcome, and 1 for a wrapped key that was new already, else 0.
-pub(crate) fn report(outcome: Result<Rewrapped, RewrapFault>, already: &mut u32) -> i32
+pub(crate) fn report(outcome: Result<Rewrapped, Refusal>, already: &mut u32) -> i32
     ensures status { result ≡ rewrap_status outcome }
     ensures already { already.new ≡ already_of outcome }
 {
     *already = u32::from(outcome == Ok(Rewrapped::AlreadyNew));
     match outcome {
         Ok(_) => DONE,
-        Err(RewrapFault::BadLength) => BAD_LENGTH,
-        Err(RewrapFault::Integrity) => INTEGRITY,
-        Err(RewrapFault::KeyNotPlain) => KEY_NOT_PLAIN,
+        Err(Refusal::BadLength) => BAD_LENGTH,
+        Err(Refusal::Integrity) => INTEGRITY,
+        Err(Refusal::KeyNotPlain) => KEY_NOT_PLAIN,
     }
 }

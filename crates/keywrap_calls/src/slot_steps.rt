@@ -9,7 +9,7 @@ ghost use Rattle.keywrap_calls.specs.SlotSteps.{BeginsSlot, EndsSlot};
 
 use crate::argument_checks::is_kek_length;
 use crate::many_kinds::are_kind_slots;
-use crate::many_rewraps::rewrap_slot_len;
+use crate::many_rewraps::rewrap_slots_of;
 use crate::many_wraps::{new_form, old_form, unwrap_slots_of, wrap_slots_of};
 use crate::status::{BAD_KEK, BAD_LENGTH, DONE};
 use crate::unwrap_steps::{end_unwrap, end_unwrap_padded};
@@ -71,7 +71,7 @@ pub fn check_rewrap_many(
     if !is_kek_length(old_kek_len) || !is_kek_length(new_kek_len) {
         return BAD_KEK;
     }
-    match rewrap_slot_len(flags, texts_len, count) {
+    match rewrap_slots_of(flags, texts_len, count) {
         Some(_) => DONE,
         None => BAD_LENGTH,
     }

@@ -8,6 +8,9 @@ use key_wrap_core::InPlaceFault;
 /// Done.
 pub const DONE: i32 = 0;
 
+// A rewrapping run by run ends with it if the wrapped key was under the new KEK already.
+pub(crate) const ALREADY_NEW: i32 = 1;
+
 /// The initial value is not 8 bytes long, or is reserved for the padded form.
 pub const BAD_IV: i32 = 2;
 

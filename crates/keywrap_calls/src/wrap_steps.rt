@@ -1,19 +1,9 @@
 //! Wrapping step by step, for an AES outside the library.
 
-ghost use Rattle.std.specs.Prelude.{◌≡◌, ◌+◌};
-ghost use Rattle.key_wrap_core.specs.Lengths.{IsPaddedTextLength};
-ghost use Rattle.key_wrap_core.specs.BlockCalls.{block_calls};
 ghost use Rattle.keywrap_calls.specs.StepPromises.{BeginsWrap, BeginsPadded, StepsWrap, EndsWrap};
 
 use crate::plain_with::iv_from_bytes;
 use crate::status::{BAD_IV, BAD_LENGTH, DONE};
-
-/// Returns the number of steps over registers of `len` bytes.
-pub fn step_count(len: usize) -> u64
-    ensures { IsPaddedTextLength (8 + len) → result ≡ block_calls (8 + len) }
-{
-    if len == 8 { 1 } else { 6 * (len / 8) as u64 }
-}
 
 /// Begins the plain wrapping of the key in `registers` under the initial value `iv` (RFC 3394,
 /// section 2.2.1): `*done` is 0, and `block` the first block to encrypt.

@@ -1,57 +1,14 @@
 -- What operations answer, and what a run has written.
-use Rattle.keywrap_cli.proofs.Common.{◌≡◌, ◌∙◌, ℕ, List, length, Option, Result, Ok, Err, Vec, IsOk, ap, refl, Keeps-refl, Global, cipher, Answer, IsAnswered, LineFault, Note, IsPaddedTextLength, AgreedForm, RewrapFault, IsInputLength, IsOneLine, printed, Answers, AnswersTo, FindsKey, IsMade, IsPrinted, MakesConversion, MayLack, WritesFor, conversion, OpensKeks, ReadsInput, last_kek, RunsOperation, RunsUnder, WritesTheAnswer, IsRefusedBefore, RunsInput, WritesAnswer, WritesFrom, WritesOutput, job_fault_of, Direction, Notation, Ciphers, Keks, Done, JobFault, What}
-use Rattle.std.proofs.Common.{◌≢◌}
+use Rattle.keywrap_cli.proofs.Common.{◌≡◌, ℕ, List, length, Option, Result, Ok, Err, Vec, IsOk, refl, Keeps-refl, Global, cipher, cipher_by, Answer, IsAnswered, LineFault, Note, Refusal, IsOneLine, printed, Answers, AnswersTo, IsMade, IsPrinted, MayLack, WritesFor, OpensKeks, ReadsInput, last_kek, RunsOperation, RunsUnder, WritesTheAnswer, IsRefusedBefore, RunsInput, WritesAnswer, WritesFrom, WritesOutput, job_fault_of, Conversion, Notation, Ciphers, Keks, Done, JobFault, What}
 use Rattle.key_lines.specs.declared.fault.LineFault.TheVariants.{Input, Refused, Memory, TooManyLines}
 use Rattle.key_lines.specs.declared.job.Note.TheVariants as notes
-use Rattle.key_wrap_core.specs.declared.rewrapping.RewrapFault.TheVariants as refusals
-use Rattle.keywrap_cli.specs.declared.convert.Direction.TheVariants as directions
-use Rattle.keywrap_cli.specs.declared.what.What.TheVariants.{UnwrapAny}
+use Rattle.key_wrap_core.specs.declared.faults.Refusal.TheVariants as refusals
+use Rattle.keywrap_cli.specs.declared.what.What.TheVariants.{Convert}
 use Rattle.keywrap_cli.proofs.KekFiles.{keks_weaker, refused_keks, under_keks}
 
--- memory may be lacking for an answer to bytes of a legal length
-pub may_lack : (direction : Direction) (form : AgreedForm) (E F : List ℕ → List ℕ) (X : List ℕ) → IsInputLength direction form (length X)
-    → MayLack (conversion direction form) E F X
-may_lack directions.Wrap form E F X legal = λ bad. bad legal
-may_lack directions.Unwrap form E F X legal = λ bad. bad legal
-
--- what is answered to bytes, from what a conversion makes of them
-pub converted_fault : (direction : Direction) (form : AgreedForm) (notation : Notation) (E F : List ℕ → List ℕ) (X made text : List ℕ)
-    (fault : LineFault RewrapFault) → IsMade (MakesConversion direction form E X) made (Err fault)
-    → (fault ≢ Refused refusals.BadLength → IsInputLength direction form (length X))
-    → AnswersTo (conversion direction form) notation E F X text (Err fault)
-converted_fault directions.Wrap form notation E F X made text (Refused refusals.BadLength) h legal = h
-converted_fault directions.Unwrap form notation E F X made text (Refused refusals.BadLength) h legal = h
-converted_fault directions.Wrap form notation E F X made text (Refused refusals.Integrity) h legal = h.1
-converted_fault directions.Unwrap form notation E F X made text (Refused refusals.Integrity) h legal = h
-converted_fault direction form notation E F X made text (Refused refusals.KeyNotPlain) h legal = absurd h
-converted_fault direction form notation E F X made text Memory h legal = may_lack direction form E F X (legal (λ e. cc e))
-converted_fault direction form notation E F X made text (Input fault) h legal = absurd h
-converted_fault direction form notation E F X made text TooManyLines h legal = absurd h
-
-pub converted : (direction : Direction) (form : AgreedForm) (notation : Notation) (E F : List ℕ → List ℕ) (X Y text : List ℕ)
-    → MakesConversion direction form E X (Ok Y) → text ≡ printed notation Y → IsOneLine notation text
-    → Answers (conversion direction form) notation E F X (Ok (record { text = text; note = notes.None }))
-converted directions.Wrap form notation E F X Y text h is line = ((Y, h, (is, refl)), line)
-converted directions.Unwrap form notation E F X Y text h is line = ((Y, h, (is, refl)), line)
-
--- what an unwrap in either form answers, from what it finds
-pub found_fault : (iv : ℕ) (notation : Notation) (E F : List ℕ → List ℕ) (X made text : List ℕ) (fault : LineFault RewrapFault)
-    → IsMade (FindsKey iv E X) made (Err fault) → (fault ≢ Refused refusals.BadLength → IsPaddedTextLength (length X))
-    → AnswersTo (UnwrapAny iv) notation E F X text (Err fault)
-found_fault iv notation E F X made text (Refused refusals.BadLength) h legal = h
-found_fault iv notation E F X made text (Refused refusals.Integrity) h legal = h
-found_fault iv notation E F X made text (Refused refusals.KeyNotPlain) h legal = h
-found_fault iv notation E F X made text Memory h legal = λ bad. bad (legal (λ e. cc e))
-found_fault iv notation E F X made text (Input fault) h legal = absurd h
-found_fault iv notation E F X made text TooManyLines h legal = absurd h
-
-pub found : (iv : ℕ) (notation : Notation) (E F : List ℕ → List ℕ) (X Y text : List ℕ) → FindsKey iv E X (Ok Y) → text ≡ printed notation Y
-    → IsOneLine notation text → Answers (UnwrapAny iv) notation E F X (Ok (record { text = text; note = notes.None }))
-found iv notation E F X Y text h is line = ((h.0, Y, h.1, (is, refl)), line)
-
 -- what a call answers with the bytes Y, from what it printed
-pub printed_answer : (answers : Result Answer RewrapFault → Type 0) (lacks : Type 0) (notation : Notation) (Y text : List ℕ)
-    (result : Result Note (LineFault RewrapFault)) → IsPrinted notation Y text result
+pub printed_answer : (answers : Result Answer Refusal → Type 0) (lacks : Type 0) (notation : Notation) (Y text : List ℕ)
+    (result : Result Note (LineFault Refusal)) → IsPrinted notation Y text result
     → (text ≡ printed notation Y → IsOneLine notation text → answers (Ok (record { text = text; note = notes.None }))) → lacks
     → IsAnswered answers lacks text result
 printed_answer answers lacks notation Y text (Ok notes.None) h answer none = answer h.1 h.2
@@ -62,9 +19,25 @@ printed_answer answers lacks notation Y text (Err Memory) h answer none = none
 printed_answer answers lacks notation Y text (Err (Input fault)) h answer none = cc
 printed_answer answers lacks notation Y text (Err TooManyLines) h answer none = cc
 
+-- what is answered to bytes, from what a conversion makes of them
+pub converted_fault : (conversion : Conversion) (notation : Notation) (E F : List ℕ → List ℕ) (X made text : List ℕ)
+    (fault : LineFault Refusal) → IsMade conversion E X made (Err fault) → AnswersTo (Convert conversion) notation E F X text (Err fault)
+converted_fault conversion notation E F X made text (Refused refusals.BadLength) h = h
+converted_fault conversion notation E F X made text (Refused refusals.Integrity) h = h
+converted_fault conversion notation E F X made text (Refused refusals.KeyNotPlain) h = h
+converted_fault conversion notation E F X made text Memory h = h
+converted_fault conversion notation E F X made text (Input fault) h = h
+converted_fault conversion notation E F X made text TooManyLines h = h
+
+pub converted : (conversion : Conversion) (notation : Notation) (E F : List ℕ → List ℕ) (X Y text : List ℕ) (result : Result Note (LineFault Refusal))
+    → IsMade conversion E X Y (Ok tt) → IsPrinted notation Y text result → AnswersTo (Convert conversion) notation E F X text result
+converted conversion notation E F X Y text result made printed =
+    printed_answer (Answers (Convert conversion) notation E F X) (MayLack (Convert conversion) E F X) notation Y text result printed
+    (λ is line. ((Y, made.1, (is, refl)), line)) made.0
+
 -- without an answer nothing is written
-pub failed_write : (answers : List ℕ → Result Answer RewrapFault → Type 0) (lacks : List ℕ → Type 0) (X text : List ℕ) (out : Option (List ℕ))
-    (fault : LineFault RewrapFault) → IsAnswered (answers X) (lacks X) text (Err fault) → WritesAnswer answers lacks X out out (Err (job_fault_of fault))
+pub failed_write : (answers : List ℕ → Result Answer Refusal → Type 0) (lacks : List ℕ → Type 0) (X text : List ℕ) (out : Option (List ℕ))
+    (fault : LineFault Refusal) → IsAnswered (answers X) (lacks X) text (Err fault) → WritesAnswer answers lacks X out out (Err (job_fault_of fault))
 failed_write answers lacks X text out (Refused refusals.BadLength) h = (h, Keeps-refl out)
 failed_write answers lacks X text out (Refused refusals.Integrity) h = (h, Keeps-refl out)
 failed_write answers lacks X text out (Refused refusals.KeyNotPlain) h = (h, Keeps-refl out)
@@ -107,10 +80,10 @@ headline what notation keks keks' input input' out out' result run ok =
 -- a run whose KEKs were read
 pub whole_run : (what : What) (notation : Notation) (keks keks' : Keks (Option (List ℕ))) (ciphers : Ciphers)
     (input input' out out' : Option (List ℕ)) (result : Result Done JobFault) → OpensKeks keks keks' (Ok ciphers)
-    → RunsUnder what notation (cipher ciphers.kek) (cipher (last_kek ciphers.kek ciphers.new_kek)) input input' out out' result
+    → RunsUnder what notation (cipher_by ciphers.kek) (cipher_by (last_kek ciphers.kek ciphers.new_kek)) input input' out out' result
     → RunsOperation what notation keks keks' input input' out out' result
 whole_run what notation keks keks' ciphers input input' out out' result opened run =
-    under_keks keks keks' ciphers (λ K L. RunsUnder what notation (cipher K) (cipher L) input input' out out' result)
+    under_keks keks keks' ciphers (λ w v. RunsUnder what notation (cipher_by w) (cipher_by v) input input' out out' result)
     (λ fault. IsRefusedBefore fault input input' out out' result) opened run
 
 -- a run that was refused a KEK

@@ -2,7 +2,7 @@
 use Rattle.keywrap_cli.proofs.Common.{Global, ◌≡◌, ℕ, List, Vec, Option, Result, Ok, Err, IfErr, IsErrAnd, refl, sym, ap, subst, IfErr-weaker, hex_line, WritesHex, Form, DrillAnswer, hex_fault_of, Direction}
 use Rattle.key_files.specs.declared.fault.HexWriteFault.{HexWriteFault}
 use Rattle.key_files.specs.declared.fault.HexWriteFault.TheVariants as hex
-use Rattle.keywrap_cli.specs.Fileless.{IsDrillFault}
+use Rattle.keywrap_cli.specs.ToyAndVectors.{IsDrillFault}
 use Rattle.keywrap_cli.specs.declared.fault.ProgramFault.{ProgramFault}
 use Rattle.keywrap_cli.specs.declared.fault.ProgramFault.TheVariants.{Flush}
 

@@ -2,6 +2,7 @@
 -- its digits. So the decoding's answer is the text's answer, by cases.
 use Rattle.keywrap_cli.proofs.Common.{◌≡◌, ◌↔◌, ◌||◌, not, position, ℕ, ◌<◌, ◌≤◌, List, length, Vec, Bool, true, false, Option, Some, None, Result, Ok, Err, IsOk, IsErrAnd, refl, sym, ◌∙◌, ap, subst, cond, Global, digits_of, is_skipped, FileFault, drill_meaning, text_fault_of, TextAnswer}
 use Rattle.std.proofs.Common.{◌≢◌, IfOk, MatchResult}
+use Rattle.std.specs.Prelude.{⊤}
 use Rattle.std.proofs.lemmas.Bool.{lt-ltb, le-ltb}
 use Rattle.key_files.specs.HexText.{is_hex_digit}
 use Rattle.key_files.specs.FileMeaning.{file_meaning, hex_meaning, digits_meaning}
@@ -9,22 +10,23 @@ use Rattle.key_files.specs.declared.fault.FileFault.TheVariants as files
 use Rattle.key_files.specs.declared.read.TheConstants.{MAX_FILE}
 use Rattle.keywrap_cli.specs.declared.drilling.DrillFault.{DrillFault}
 
--- digits that are odd in number are refused as such, and others denote bytes
-odd_or_paired : (odd : Bool) (bytes : List ℕ) (fault : FileFault) → fault ≢ files.OddDigits
-    → cond odd (Err files.OddDigits) (Ok bytes) ≢ Err fault
-odd_or_paired true bytes fault other e = other (cc)
-odd_or_paired false bytes fault other e = cc
+-- a text in hex is refused only for a bad digit or for odd digits
+abbrev IsHexFault : FileFault → Type 0
+IsHexFault (files.BadDigit at) = ⊤
+IsHexFault files.OddDigits = ⊤
+IsHexFault fault = ⊥
 
--- such a text is refused only for a bad digit or for odd digits
-spelled_faults : (bad : Option ℕ) (digits : List ℕ) (fault : FileFault) → ((at : ℕ) → fault ≢ files.BadDigit at)
-    → fault ≢ files.OddDigits → digits_meaning bad digits ≢ Err fault
-spelled_faults (Some at) digits fault not_bad not_odd e = not_bad at (cc)
-spelled_faults None digits fault not_bad not_odd e = odd_or_paired _ _ fault not_odd e
+odd_or_paired : (odd : Bool) (bytes : List ℕ) (fault : FileFault) → cond odd (Err files.OddDigits) (Ok bytes) ≡ Err fault → IsHexFault fault
+odd_or_paired true bytes fault e = let same : files.OddDigits ≡ fault = cc in subst IsHexFault same tt
+odd_or_paired false bytes fault e = cc
 
-hex_faults : (text : List ℕ) (fault : FileFault) → ((at : ℕ) → fault ≢ files.BadDigit at)
-    → fault ≢ files.OddDigits → hex_meaning text ≢ Err fault
+spelled_faults : (bad : Option ℕ) (digits : List ℕ) (fault : FileFault) → digits_meaning bad digits ≡ Err fault → IsHexFault fault
+spelled_faults (Some at) digits fault e = let same : files.BadDigit at ≡ fault = cc in subst IsHexFault same tt
+spelled_faults None digits fault e = odd_or_paired _ _ fault e
+
+hex_faults : (text : List ℕ) (fault : FileFault) → hex_meaning text ≡ Err fault → IsHexFault fault
 unfolding hex_meaning
-hex_faults text fault not_bad not_odd e = spelled_faults (position (λ c. not (is_skipped c || is_hex_digit c)) text) (digits_of text) fault not_bad not_odd e
+hex_faults text fault e = spelled_faults (position (λ c. not (is_skipped c || is_hex_digit c)) text) (digits_of text) fault e
 
 -- a long text is too long
 pub long_text : (text : List ℕ) → MAX_FILE < length text → drill_meaning text ≡ Err files.TooLong
@@ -45,18 +47,12 @@ contained (Err fault) h = cc
 fault_answer : (text : List ℕ) (fault : FileFault) → length text ≤ MAX_FILE
     → (fault ≢ files.Memory → hex_meaning text ≡ Err fault) → (fault ≡ files.Memory → IsOk (hex_meaning text))
     → TextAnswer text (Err (text_fault_of fault))
-fault_answer text files.Read short refused memory =
-    absurd (hex_faults text files.Read (λ at h. (cc)) (λ h. (cc)) (refused (λ h. (cc))))
-fault_answer text files.TooLong short refused memory =
-    absurd (hex_faults text files.TooLong (λ at h. (cc)) (λ h. (cc)) (refused (λ h. (cc))))
-fault_answer text (files.BadCharacter place) short refused memory =
-    absurd (hex_faults text (files.BadCharacter place) (λ at h. (cc)) (λ h. (cc)) (refused (λ h. (cc))))
-fault_answer text (files.BehindPadding place) short refused memory =
-    absurd (hex_faults text (files.BehindPadding place) (λ at h. (cc)) (λ h. (cc)) (refused (λ h. (cc))))
-fault_answer text files.BadBase64Length short refused memory =
-    absurd (hex_faults text files.BadBase64Length (λ at h. (cc)) (λ h. (cc)) (refused (λ h. (cc))))
-fault_answer text files.TrailingBits short refused memory =
-    absurd (hex_faults text files.TrailingBits (λ at h. (cc)) (λ h. (cc)) (refused (λ h. (cc))))
+fault_answer text files.Read short refused memory = absurd (hex_faults text files.Read (refused (λ h. (cc))))
+fault_answer text files.TooLong short refused memory = absurd (hex_faults text files.TooLong (refused (λ h. (cc))))
+fault_answer text (files.BadCharacter place) short refused memory = absurd (hex_faults text (files.BadCharacter place) (refused (λ h. (cc))))
+fault_answer text (files.BehindPadding place) short refused memory = absurd (hex_faults text (files.BehindPadding place) (refused (λ h. (cc))))
+fault_answer text files.BadBase64Length short refused memory = absurd (hex_faults text files.BadBase64Length (refused (λ h. (cc))))
+fault_answer text files.TrailingBits short refused memory = absurd (hex_faults text files.TrailingBits (refused (λ h. (cc))))
 fault_answer text (files.BadDigit at) short refused memory = short_text text short ∙ refused (λ h. (cc))
 fault_answer text files.OddDigits short refused memory = short_text text short ∙ refused (λ h. (cc))
 fault_answer text files.Memory short refused memory =

@@ -1,5 +1,5 @@
 -- What a run says that ends with status 0, and that its answers to lines are lines.
-use Rattle.keywrap_cli.proofs.Common.{◌≡◌, ℕ, ◌+◌, List, [], ◌∷◌, ◌++◌, length, map, Option, Some, None, Result, Ok, Err, Vec, refl, sym, subst, ap, ◌∙◌, arith, IfSome, Global, AllByRecursion, Appends, cipher, IsLine, Answer, AreLines, note_count, notes_of, output_of, refusals_of, LineFault, Note, IsWrappingWithIv, IsKindWith, Form, Kind, RewrapFault, IsOneLine, line_notation, Answers, Makes, MayLack, done_of, kind_note, OpensKeks, ReadsFile, ReadsInput, last_kek, RunsOperation, RunsOperationLines, RunsUnder, WritesTheLines, AnswersEachLine, AnswersLines, IsRefusedBefore, WritesFrom, Notation, Ciphers, Keks, Done, JobFault, What}
+use Rattle.keywrap_cli.proofs.Common.{◌≡◌, ℕ, ◌+◌, List, [], ◌∷◌, ◌++◌, length, map, Option, Some, None, Result, Ok, Err, Vec, refl, sym, subst, ap, ◌∙◌, arith, IfSome, Global, AllByRecursion, Appends, cipher, cipher_by, IsLine, Answer, AreLines, note_count, notes_of, output_of, refusals_of, LineFault, Note, IsWrappingWithIv, IsKindWith, Form, Kind, Refusal, IsOneLine, line_notation, Answers, Makes, MayLack, done_of, kind_note, OpensKeks, ReadsFile, ReadsInput, last_kek, RunsOperation, RunsOperationLines, RunsUnder, WritesTheLines, AnswersEachLine, AnswersLines, IsRefusedBefore, WritesFrom, Notation, Ciphers, Keks, Done, JobFault, What}
 use Rattle.std.proofs.Common.{◌≢◌, append-nil}
 use Rattle.std.specs.Prelude.{IfOk, MatchResult}
 use Rattle.key_lines.specs.Lines.{lines_of}
@@ -14,9 +14,10 @@ use Rattle.key_lines.specs.declared.text.TextNotation.{TextNotation}
 use Rattle.key_lines.specs.declared.text.TextNotation.TheVariants as texts
 use Rattle.key_wrap_core.specs.declared.forms.Form.TheVariants as forms
 use Rattle.key_wrap_core.specs.declared.forms.Kind.TheVariants as kinds
-use Rattle.keywrap_cli.specs.EndsWell.{AnswersAllLines, AnswersLinesOf, AnswersWhole, AreOutputs, EndsWell, FindsKeys, IsAnsweredLine, IsWrapped, IsWrappedLine}
+use Rattle.keywrap_cli.specs.Operation.{AnswersAllLines, AnswersLinesOf, AnswersWhole, AreOutputs, EndsWell, FindsKeys, IsAnsweredLine, IsWrapped, IsWrappedLine}
 use Rattle.keywrap_cli.specs.declared.outcome.Done.TheVariants.{Written}
-use Rattle.keywrap_cli.specs.declared.what.What.TheVariants.{Wrap, Unwrap, UnwrapAny, Check, Rewrap}
+use Rattle.keywrap_cli.specs.declared.what.What.TheVariants.{Convert, Check, Rewrap}
+use Rattle.keywrap_cli.specs.declared.what.Conversion.TheVariants.{Wrap, Unwrap, UnwrapAny}
 use Rattle.keywrap_cli.proofs.KekFiles.{keks_weaker, under_keks}
 
 -- an answer whose note is not that of `none` is to a wrapping, unless the operation wraps or rewraps
@@ -28,9 +29,9 @@ of_kind iv E X kinds.Neither is done = cc
 
 wrapped_of : (what : What) (notation : Notation) (E F : List ℕ → List ℕ) (X : List ℕ) (answer : Answer) → Makes what notation E F X answer
     → Written ≡ done_of answer.note → IsWrapped what E X
-wrapped_of (Wrap form) notation E F X answer h done = tt
-wrapped_of (Unwrap form) notation E F X answer h done = (h.0, h.1.wrapping)
-wrapped_of (UnwrapAny iv) notation E F X answer h done = (h.0, h.1, h.2.wrapping)
+wrapped_of (Convert (Wrap form)) notation E F X answer h done = tt
+wrapped_of (Convert (Unwrap form)) notation E F X answer h done = (h.0, h.1.wrapping)
+wrapped_of (Convert (UnwrapAny iv)) notation E F X answer h done = (h.1.0, h.0, h.1.1.wrapping)
 wrapped_of (Check iv) notation E F X answer h done = of_kind iv E X h.0 h.1 (done ∙ ap done_of h.3)
 wrapped_of (Rewrap forms pass_new) notation E F X answer h done = tt
 
@@ -64,7 +65,7 @@ are_lines : (what : What) (notation : TextNotation) (E F : List ℕ → List ℕ
 are_lines what notation E F X answer h = line_in notation answer.text h.1
 
 abbrev Results : Type 0
-Results = List (Result Answer (LineFault RewrapFault))
+Results = List (Result Answer (LineFault Refusal))
 
 nothing_first : {A : Type 0} (xs : List A) → first_of xs ≡ None → xs ≡ []
 nothing_first [] h = refl
@@ -75,7 +76,7 @@ unnoted notes.None zero = refl
 unnoted notes.NoKey zero = cc
 unnoted notes.AlreadyNew zero = refl
 
-same_length : (options : RunOptions) (answers : List ℕ → Result Answer RewrapFault → Type 0) (lines : List (List ℕ)) (results : Results)
+same_length : (options : RunOptions) (answers : List ℕ → Result Answer Refusal → Type 0) (lines : List (List ℕ)) (results : Results)
     → AreResults options answers lines results → length lines ≡ length results
 same_length options answers [] [] are = refl
 same_length options answers (line ∷ lines) (result ∷ results) (h, rest) =
@@ -85,7 +86,7 @@ same_length options answers [] (result ∷ results) are = absurd are
 same_length options answers (line ∷ lines) [] are = absurd are
 
 module _ (options : RunOptions) (what : What) (E F : List ℕ → List ℕ) where
-  abbrev LineAnswers : List ℕ → Result Answer RewrapFault → Type 0
+  abbrev LineAnswers : List ℕ → Result Answer Refusal → Type 0
   LineAnswers X answer = Answers what (line_notation options.notation) E F X answer
 
   all_answered : (lines : List (List ℕ)) (results : Results) (n : ℕ) → AreResults options LineAnswers lines results → refusals_of n results ≡ []
@@ -109,7 +110,7 @@ all_wrapped options iv E F [] (result ∷ results) n are none zero = absurd are
 all_wrapped options iv E F (line ∷ lines) [] n are none zero = absurd are
 
 -- the text has the lines of a run that reached its end
-some_lines : (text : List ℕ) (lines more : List (List ℕ)) (results : Results) (summary : RunSummary RewrapFault)
+some_lines : (text : List ℕ) (lines more : List (List ℕ)) (results : Results) (summary : RunSummary Refusal)
     → lines_of text ≡ lines ++ more → more ≡ [] → length lines ≡ length results → summary.lines ≡ length results → summary.lines ≢ 0
     → lines_of text ≢ []
 some_lines text lines more results summary split end same count some empty =
@@ -118,12 +119,10 @@ some_lines text lines more results summary split end same count some empty =
     let zero : length lines ≡ 0 = ap length (sym whole ∙ none) in
     some (omega (arith, count, same, zero))
 
-module _ (options : RunOptions) (E F : List ℕ → List ℕ) (text : List ℕ) (out out' : Option (List ℕ)) (summary : RunSummary RewrapFault) where
+module _ (options : RunOptions) (E F : List ℕ → List ℕ) (text : List ℕ) (out out' : Option (List ℕ)) (summary : RunSummary Refusal) where
   finds_keys : (what : What) → EndsWell what summary → WritesAnswers options (LineAnswers options what E F) text out out' (Ok summary)
       → lines_of text ≢ [] → FindsKeys what options.notation E text
-  finds_keys (Wrap form) well w some = tt
-  finds_keys (Unwrap form) well w some = tt
-  finds_keys (UnwrapAny iv) well w some = tt
+  finds_keys (Convert conversion) well w some = tt
   finds_keys (Check iv) well w some =
       let none : refusals_of 1 w.results ≡ [] = nothing_first (refusals_of 1 w.results) (sym w.counts.0.first_refused ∙ well.none_refused) in
       let zero : notes_of w.results ≡ 0 = sym w.counts.0.noted ∙ well.all_found tt in
@@ -152,14 +151,14 @@ module _ (options : RunOptions) (E F : List ℕ → List ℕ) (text : List ℕ) 
       )
 
 -- the same, if the text is known
-known_answered : (input out out' : Option (List ℕ)) (options : RunOptions) (what : What) (E F : List ℕ → List ℕ) (summary : RunSummary RewrapFault)
+known_answered : (input out out' : Option (List ℕ)) (options : RunOptions) (what : What) (E F : List ℕ → List ℕ) (summary : RunSummary Refusal)
     → EndsWell what summary → IfSome input (λ text. WritesAnswers options (LineAnswers options what E F) text out out' (Ok summary))
     → IfSome input (λ text. AnswersLinesOf options.notation what E F text out out' × FindsKeys what options.notation E text)
 known_answered None out out' options what E F summary well w = tt
 known_answered (Some text) out out' options what E F summary well w = text_answered options E F text out out' summary what well w
 
 each_line : (input out out' : Option (List ℕ)) (options : RunOptions) (what : What) (E F : List ℕ → List ℕ)
-    (run : Result (RunSummary RewrapFault) (RunFault RewrapFault))
+    (run : Result (RunSummary Refusal) (RunFault Refusal))
     → IfSome input (λ text. WritesAnswers options (LineAnswers options what E F) text out out' run)
     → IfSome input (λ text. AnswersEachLine options (LineAnswers options what E F) text out out' run)
 each_line None out out' options what E F run w = tt
@@ -169,33 +168,33 @@ each_line (Some text) out out' options what E F run w = record { written = w; on
 module _ (what : What) (options : RunOptions) (keks keks' : Keks (Option (List ℕ))) (ciphers : Ciphers) (opened : OpensKeks keks keks' (Ok ciphers))
     (input out out' : Option (List ℕ)) where
   abbrev E : List ℕ → List ℕ
-  E = cipher ciphers.kek
+  E = cipher_by ciphers.kek
 
   abbrev F : List ℕ → List ℕ
-  F = cipher (last_kek ciphers.kek ciphers.new_kek)
+  F = cipher_by (last_kek ciphers.kek ciphers.new_kek)
 
-  pub lines_run : (input' : Option (List ℕ)) (log log' : Option (List (RefusedLine RewrapFault))) (run : Result (RunSummary RewrapFault) (RunFault RewrapFault))
+  pub lines_run : (input' : Option (List ℕ)) (log log' : Option (List (RefusedLine Refusal))) (run : Result (RunSummary Refusal) (RunFault Refusal))
       → RunsLines options (LineAnswers options what E F) input input' out out' log log' run
       → IfSome input (λ text. WritesAnswers options (LineAnswers options what E F) text out out' run)
       → RunsOperationLines what options keks keks' input input' out out' log log' (Ok run)
   lines_run input' log log' run lines w =
       under_keks keks keks' ciphers
-      (λ K L. AnswersLines options (Answers what (line_notation options.notation) (cipher K) (cipher L)) input input' out out' log log' (Ok run))
+      (λ w v. AnswersLines options (Answers what (line_notation options.notation) (cipher_by w) (cipher_by v)) input input' out out' log log' (Ok run))
       (λ fault. (log' ≡ log) × IsRefusedBefore fault input input' out out' (Ok run)) opened (lines, w)
 
-  pub lines_written : (run : Result (RunSummary RewrapFault) (RunFault RewrapFault))
+  pub lines_written : (run : Result (RunSummary Refusal) (RunFault Refusal))
       → IfSome input (λ text. WritesAnswers options (LineAnswers options what E F) text out out' run)
       → WritesTheLines what options keks keks' input out out' run
   lines_written run w =
       under_keks keks keks' ciphers
-      (λ K L. IfSome input (λ text. AnswersEachLine options (Answers what (line_notation options.notation) (cipher K) (cipher L)) text out out' run)) (λ _. ⊥)
+      (λ w v. IfSome input (λ text. AnswersEachLine options (Answers what (line_notation options.notation) (cipher_by w) (cipher_by v)) text out out' run)) (λ _. ⊥)
       opened (each_line input out out' options what E F run w)
 
-  pub lines_end_well : (run : Result (RunSummary RewrapFault) (RunFault RewrapFault))
+  pub lines_end_well : (run : Result (RunSummary Refusal) (RunFault Refusal))
       → IfSome input (λ text. WritesAnswers options (LineAnswers options what E F) text out out' run)
       → IfOk run (λ summary. EndsWell what summary → AnswersAllLines what options.notation keks keks' input out out')
   lines_end_well (Ok summary) w = λ well.
-      under_keks keks keks' ciphers (λ K L. IfSome input
-      (λ text. AnswersLinesOf options.notation what (cipher K) (cipher L) text out out' × FindsKeys what options.notation (cipher K) text)) (λ _. ⊥)
+      under_keks keks keks' ciphers (λ w v. IfSome input
+      (λ text. AnswersLinesOf options.notation what (cipher_by w) (cipher_by v) text out out' × FindsKeys what options.notation (cipher_by w) text)) (λ _. ⊥)
       opened (known_answered input out out' options what E F summary well w)
   lines_end_well (Err fault) w = tt

@@ -1,5 +1,5 @@
 -- Reading the KEK files: what a call says of the KEKs that it read, and what follows for the rest of it.
-use Rattle.keywrap_cli.proofs.Common.{◌≡◌, ◌↔◌, ℕ, Bool, false, List, Option, Some, None, Result, Ok, Err, IsTrue, ap, refl, subst, IsOkAnd, FileFault, AreCiphers, OpensKek, OpensKeks, UnderKek, UnderKeks, UnderNewKek, kek_fault_of, last_kek, one_kek, two_keks, TellsSameKek, Notation, Ciphers, Keks, JobFault}
+use Rattle.keywrap_cli.proofs.Common.{◌≡◌, ◌↔◌, ℕ, Bool, false, List, [], Option, Some, None, Result, Ok, Err, IsTrue, ap, refl, subst, sym, IsOkAnd, key_expansion, FileFault, AreCiphers, OpensKek, OpensKeks, UnderKek, UnderKeks, UnderNewKek, kek_fault_of, last_kek, one_kek, two_keks, TellsSameKek, Notation, Ciphers, Keks, JobFault}
 use Rattle.std.specs.Prelude.{MatchResult}
 use Rattle.keywrap_cli.specs.declared.kek_file.KekRole.TheVariants.{Kek, NewKek}
 
@@ -42,11 +42,13 @@ read ciphers = Ok ciphers
 abbrev not_read : JobFault → Result Ciphers JobFault
 not_read fault = Err fault
 
--- a call that read the KEKs
+-- a call that read the KEKs: what holds for their key schedules
 pub under_keks : (keks keks' : Keks (Option (List ℕ))) (ciphers : Ciphers) (Then : List ℕ → List ℕ → Type 0) (Refused : JobFault → Type 0)
-    → OpensKeks keks keks' (Ok ciphers) → Then ciphers.kek (last_kek ciphers.kek ciphers.new_kek) → UnderKeks keks keks' Then Refused
+    → OpensKeks keks keks' (Ok ciphers) → Then ciphers.kek (last_kek ciphers.kek ciphers.new_kek)
+    → UnderKeks keks keks' (λ K L. Then (key_expansion K) (key_expansion L)) Refused
 under_keks keks keks' ciphers Then Refused opened h =
-    keks_weaker keks keks' (λ K L. IsOkAnd (read ciphers) (λ c. AreCiphers keks.new_kek K L c)) Then (λ fault. read ciphers ≡ Err fault) Refused
+    keks_weaker keks keks' (λ K L. IsOkAnd (read ciphers) (λ c. AreCiphers keks.new_kek K L c)) (λ K L. Then (key_expansion K) (key_expansion L))
+    (λ fault. read ciphers ≡ Err fault) Refused
     (λ K L is. rw (is.kek, is.last) h) (λ fault e. absurd (cc e)) opened
 
 pub same_kek : (keks keks' : Keks (Option (List ℕ))) (ciphers : Ciphers) → OpensKeks keks keks' (Ok ciphers) → TellsSameKek keks keks' ciphers.same
@@ -63,37 +65,37 @@ refused_keks keks keks' fault Then Refused opened h =
 
 -- ---- the calls that read them
 
-pub one_read : (notation : Notation) (kek kek' : Option (List ℕ)) (aes : List ℕ) → OpensKek Kek notation kek kek' (Ok aes)
+pub one_read : (notation : Notation) (kek kek' : Option (List ℕ)) (K aes : List ℕ) → OpensKek Kek notation kek kek' K (Ok aes)
     → OpensKeks (one_kek notation kek) (one_kek notation kek') (Ok (record { kek = aes; new_kek = None; same = false }))
-one_read notation kek kek' aes opened = record {
-  found = Ok aes;
-  read = opened;
-  rest = record { kek = refl; last = refl; same = (λ no. cc, λ h. let no = h.0 in cc) };
+one_read notation kek kek' K aes opened = record {
+  found = Ok K;
+  read = opened.0;
+  rest = record { kek = sym opened.1; last = sym opened.1; same = (λ no. cc, λ h. let no = h.0 in cc) };
 }
 
-pub one_refused : (notation : Notation) (kek kek' : Option (List ℕ)) (fault : JobFault) → OpensKek Kek notation kek kek' (Err fault)
+pub one_refused : (notation : Notation) (kek kek' : Option (List ℕ)) (fault : JobFault) → OpensKek Kek notation kek kek' [] (Err fault)
     → OpensKeks (one_kek notation kek) (one_kek notation kek') (Err fault)
 one_refused notation kek kek' fault (why, opened, is) = record { found = Err why; read = opened; rest = (refl, ap Err is) }
 
-pub both_read : (notation : Notation) (kek kek' new new' : Option (List ℕ)) (aes new_aes : List ℕ) (same : Bool)
-    → OpensKek Kek notation kek kek' (Ok aes) → OpensKek NewKek notation new new' (Ok new_aes) → (IsTrue same ↔ (aes ≡ new_aes))
+pub both_read : (notation : Notation) (kek kek' new new' : Option (List ℕ)) (K L aes new_aes : List ℕ) (same : Bool)
+    → OpensKek Kek notation kek kek' K (Ok aes) → OpensKek NewKek notation new new' L (Ok new_aes) → (IsTrue same ↔ (K ≡ L))
     → OpensKeks (two_keks notation kek new) (two_keks notation kek' new') (Ok (record { kek = aes; new_kek = Some new_aes; same = same }))
-both_read notation kek kek' new new' aes new_aes same opened new_opened is = record {
-  found = Ok aes;
-  read = opened;
+both_read notation kek kek' new new' K L aes new_aes same opened new_opened is = record {
+  found = Ok K;
+  read = opened.0;
   rest = record {
-    found = Ok new_aes;
-    read = new_opened;
-    rest = record { kek = refl; last = refl; same = (λ true. (refl, is.0 true), λ h. is.1 h.1) };
+    found = Ok L;
+    read = new_opened.0;
+    rest = record { kek = sym opened.1; last = sym new_opened.1; same = (λ true. (refl, is.0 true), λ h. is.1 h.1) };
   };
 }
 
-pub first_refused : (notation : Notation) (kek kek' new : Option (List ℕ)) (fault : JobFault) → OpensKek Kek notation kek kek' (Err fault)
+pub first_refused : (notation : Notation) (kek kek' new : Option (List ℕ)) (fault : JobFault) → OpensKek Kek notation kek kek' [] (Err fault)
     → OpensKeks (two_keks notation kek new) (two_keks notation kek' new) (Err fault)
 first_refused notation kek kek' new fault (why, opened, is) = record { found = Err why; read = opened; rest = (refl, ap Err is) }
 
-pub second_refused : (notation : Notation) (kek kek' new new' : Option (List ℕ)) (aes : List ℕ) (fault : JobFault)
-    → OpensKek Kek notation kek kek' (Ok aes) → OpensKek NewKek notation new new' (Err fault)
+pub second_refused : (notation : Notation) (kek kek' new new' : Option (List ℕ)) (K aes : List ℕ) (fault : JobFault)
+    → OpensKek Kek notation kek kek' K (Ok aes) → OpensKek NewKek notation new new' [] (Err fault)
     → OpensKeks (two_keks notation kek new) (two_keks notation kek' new') (Err fault)
-second_refused notation kek kek' new new' aes fault opened (why, new_opened, is) =
-    record { found = Ok aes; read = opened; rest = record { found = Err why; read = new_opened; rest = ap Err is } }
+second_refused notation kek kek' new new' K aes fault opened (why, new_opened, is) =
+    record { found = Ok K; read = opened.0; rest = record { found = Err why; read = new_opened; rest = ap Err is } }

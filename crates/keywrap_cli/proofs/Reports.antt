@@ -1,40 +1,27 @@
 -- A report grows by a line at a time: each of its parts for one vector more, and then the report itself.
-use Rattle.keywrap_cli.proofs.Common.{Appends, ◌≡◌, ◌+◌, ◌<◌, ◌&&◌, ℕ, Option, subst, take, map, get_or, Bool, true, false, List, [], ◌∷◌, ◌++◌, length, refl, sym, inl, inr, ap, ◌∙◌, append_assoc, arith, length-append, map-append, take_more, AreVerdicts, Gave, IsReport, IsVerdict, IsVerdictOnAll, report_lines, verdict, all_true, TestVector}
+use Rattle.keywrap_cli.proofs.Common.{Appends, ◌≡◌, ◌+◌, ◌<◌, ◌&&◌, ℕ, Option, subst, take, map, get_or, Bool, true, false, List, [], ◌∷◌, ◌++◌, length, refl, sym, inl, inr, ap, ◌∙◌, map-append, take_more, AllByRecursion, list_all, Gave, IsReport, IsVerdict, IsVerdictOnAll, Line, line_text, verdict, TestVector}
 use Rattle.std.proofs.lemmas.List.{append-nil}
+use Rattle.std.proofs.lemmas.List.Folds.{concat-append, list_all-append}
 
-lines_more : (vectors : List TestVector) (oks : List Bool) (v : TestVector) (ok : Bool) → length oks ≡ length vectors
-    → report_lines (vectors ++ v ∷ []) (oks ++ ok ∷ []) ≡ report_lines vectors oks ++ (v.name ++ verdict ok)
-lines_more [] [] v ok e = append-nil (v.name ++ verdict ok)
-lines_more [] (o ∷ oks) v ok e = absurd (omega arith)
-lines_more (w ∷ vectors) [] v ok e = absurd (omega arith)
-lines_more (w ∷ vectors) (o ∷ oks) v ok e =
-    let rest : length oks ≡ length vectors = omega arith in
-    rw (lines_more vectors oks v ok rest)
-    (sym (append_assoc (w.name ++ verdict o) (report_lines vectors oks) (v.name ++ verdict ok)))
+each_more : {X : Type 0} (P : X → Type 0) (xs : List X) (x : X) → AllByRecursion P xs → P x → AllByRecursion P (xs ++ x ∷ [])
+each_more P [] x each more = (more, tt)
+each_more P (y ∷ xs) x each more = (each.0, each_more P xs x each.1 more)
 
-verdicts_more : (gave : Gave) (vectors : List TestVector) (oks : List Bool) (v : TestVector) (ok : Bool) → length oks ≡ length vectors
-    → AreVerdicts gave vectors oks → IsVerdict gave v ok → AreVerdicts gave (vectors ++ v ∷ []) (oks ++ ok ∷ [])
-verdicts_more gave [] [] v ok e each more = (more, tt)
-verdicts_more gave [] (o ∷ oks) v ok e each more = absurd (omega arith)
-verdicts_more gave (w ∷ vectors) [] v ok e each more = absurd (omega arith)
-verdicts_more gave (w ∷ vectors) (o ∷ oks) v ok e each more =
-    (each.0, verdicts_more gave vectors oks v ok (omega arith) each.1 more)
-
-all_more : (oks : List Bool) (ok : Bool) → all_true (oks ++ ok ∷ []) ≡ (all_true oks && ok)
-all_more [] true = refl
-all_more [] false = refl
-all_more (true ∷ oks) ok = all_more oks ok
-all_more (false ∷ oks) ok = refl
+and_true : (b : Bool) → (b && true) ≡ b
+and_true true = refl
+and_true false = refl
 
 pub report_more : (gave : Gave) (vectors : List TestVector) (v : TestVector) (text : List ℕ) (all_ok ok : Bool)
     → IsReport gave vectors text all_ok → IsVerdict gave v ok → IsReport gave (vectors ++ v ∷ []) (text ++ (v.name ++ verdict ok)) (all_ok && ok)
-report_more gave vectors v text all_ok ok r right = record {
-  oks = r.oks ++ ok ∷ [];
-  one_each = omega (arith, length-append r.oks (ok ∷ []), length-append vectors (v ∷ []), r.one_each);
-  lines = ap (λ (t : List ℕ). t ++ (v.name ++ verdict ok)) r.lines ∙ sym (lines_more vectors r.oks v ok r.one_each);
-  right = verdicts_more gave vectors r.oks v ok r.one_each r.right right;
-  all = ap (λ (b : Bool). b && ok) r.all ∙ sym (all_more r.oks ok);
-}
+report_more gave vectors v text all_ok ok r right =
+    let more : List Line = record { vector = v; ok = ok } ∷ [] in
+    record {
+      lines = r.lines ++ more;
+      one_each = map-append (λ (line : Line). line.vector) r.lines more ∙ ap (λ (vs : List TestVector). vs ++ v ∷ []) r.one_each;
+      written = rw (r.written, map-append line_text r.lines more, concat-append (map line_text r.lines) (map line_text more), append-nil) refl;
+      right = each_more _ r.lines _ r.right right;
+      all = rw (r.all, list_all-append (λ (line : Line). line.ok) r.lines more, and_true ok) refl;
+    }
 
 -- a report grows by the line of the next element of a table
 pub report_step : {X : Type 0} (gave : Gave) (f : X → TestVector) (xs : List X) (i : ℕ) (d : X) (text text' : List ℕ) (all_ok all_ok' ok : Bool)
@@ -47,21 +34,20 @@ report_step gave f xs i d text text' all_ok all_ok' ok h report right line all =
     rw (vectors, line, all) (report_more gave (map f (take i xs)) (f (get_or xs i d)) text all_ok ok report right)
 
 -- the verdict on all vectors, from the verdicts on each
-all_said : (gave : Gave) (vectors : List TestVector) (oks : List Bool) → length oks ≡ length vectors → AreVerdicts gave vectors oks
-    → IsVerdictOnAll gave vectors (all_true oks)
-all_said gave [] [] e each = tt
-all_said gave [] (o ∷ oks) e each = absurd (omega arith)
-all_said gave (v ∷ vectors) [] e each = absurd (omega arith)
-all_said gave (v ∷ vectors) (false ∷ oks) e each = inl each.0
-all_said gave (v ∷ vectors) (true ∷ oks) e each = others (all_true oks) (all_said gave vectors oks (omega arith) each.1)
+all_said : (gave : Gave) (lines : List Line) → AllByRecursion (λ line. IsVerdict gave line.vector line.ok) lines
+    → IsVerdictOnAll gave (map (λ (line : Line). line.vector) lines) (list_all (λ (line : Line). line.ok) lines)
+all_said gave [] each = tt
+all_said gave (line ∷ lines) each = with_first line.ok each.0 (list_all (λ (l : Line). l.ok) lines) (all_said gave lines each.1)
   where
-    others : (b : Bool) → IsVerdictOnAll gave vectors b → IsVerdictOnAll gave (v ∷ vectors) b
-    others true rest = (each.0, rest)
-    others false rest = inr rest
+    with_first : (ok : Bool) → IsVerdict gave line.vector ok → (b : Bool) → IsVerdictOnAll gave (map (λ (l : Line). l.vector) lines) b
+        → IsVerdictOnAll gave (line.vector ∷ map (λ (l : Line). l.vector) lines) (ok && b)
+    with_first false said b rest = inl said
+    with_first true said true rest = (said, rest)
+    with_first true said false rest = inr rest
 
 pub on_all : (gave : Gave) (vectors : List TestVector) (text : List ℕ) (all_ok : Bool) → IsReport gave vectors text all_ok
     → IsVerdictOnAll gave vectors all_ok
-on_all gave vectors text all_ok r = subst (IsVerdictOnAll gave vectors) (sym r.all) (all_said gave vectors r.oks r.one_each r.right)
+on_all gave vectors text all_ok r = rw (r.all, ← r.one_each) (all_said gave r.lines r.right)
 
 -- the front of a report that was written
 pub front_of_report : (gave : Gave) (vectors : List TestVector) (text bytes : List ℕ) (old new : Option (List ℕ)) (taken written : ℕ) (all_ok : Bool)

@@ -2,7 +2,7 @@
 use Rattle.keywrap_cli.proofs.Common.{◌∙◌, ℕ, List, length, Option, Some, None, ap, inl, inr, sym, cipher, Differs, LibraryGives, IsReproduced, IsMissed, IsRight, Takes, TestVector}
 use Rattle.std.specs.Prelude.{◌≢◌}
 use Rattle.fips197.specs.KeyExpansion.{IsKekLength}
-use Rattle.keywrap_cli.specs.declared.convert.Direction.TheVariants.{Wrap, Unwrap}
+use Rattle.keywrap_cli.specs.declared.job.Direction.TheVariants.{Wrap, Unwrap}
 use Rattle.test_vectors.specs.declared.table.Algorithm.{Algorithm}
 use Rattle.test_vectors.specs.declared.table.Algorithm.TheVariants.{KeyWrap, KeyWrapWithPadding, Encryption}
 
@@ -12,13 +12,13 @@ Right algorithm key input output = IsKekLength (length key) × Takes algorithm (
 there : (algorithm : Algorithm) (key input output : List ℕ) → LibraryGives Wrap algorithm key input (Some output) → Right algorithm key input output
 there KeyWrap key input output gave = (gave.0, gave.1.wrapping)
 there KeyWrapWithPadding key input output gave = (gave.0, gave.1.wrapping)
-there Encryption key input output gave = (gave.0, (gave.1.0, gave.1.2))
+there Encryption key input output gave = (gave.0, (gave.1.plain, gave.1.value))
 
 not_there : (algorithm : Algorithm) (key input output : List ℕ) (found : Option (List ℕ)) → LibraryGives Wrap algorithm key input found
     → found ≢ Some output → ¬ Right algorithm key input output
 not_there KeyWrap key input output (Some other) gave unlike right = unlike (ap Some (sym (gave.1.alone output right.1)))
 not_there KeyWrapWithPadding key input output (Some other) gave unlike right = unlike (ap Some (sym (gave.1.alone output right.1)))
-not_there Encryption key input output (Some other) gave unlike right = unlike (ap Some (sym gave.1.2 ∙ right.1.1))
+not_there Encryption key input output (Some other) gave unlike right = unlike (ap Some (sym gave.1.value ∙ right.1.1))
 not_there KeyWrap key input output None gave unlike right = elim (gave right.0) [ inl bad ↦ bad right.1.legal | inr none ↦ none ]
 not_there KeyWrapWithPadding key input output None gave unlike right = elim (gave right.0) [ inl bad ↦ bad right.1.legal | inr none ↦ none ]
 not_there Encryption key input output None gave unlike right = gave right.0 right.1.0
@@ -27,11 +27,11 @@ not_back : (algorithm : Algorithm) (key input output : List ℕ) (found : Option
     → LibraryGives Unwrap algorithm key output found → found ≢ Some input → ¬ Right algorithm key input output
 not_back KeyWrap key input output (Some other) made gave unlike right = unlike (ap Some (sym (gave.1.alone input right.1)))
 not_back KeyWrapWithPadding key input output (Some other) made gave unlike right = unlike (ap Some (sym (gave.1.alone input right.1)))
-not_back Encryption key input output (Some other) made gave unlike right = unlike (ap Some (sym (gave.1.2 input right.1.0 right.1.1)))
+not_back Encryption key input output (Some other) made gave unlike right = unlike (ap Some (sym (gave.1.1 input right.1.0 right.1.1)))
 not_back KeyWrap key input output None made gave unlike right = elim (gave right.0) [ inl bad ↦ bad made.1.legal | inr none ↦ none input right.1 ]
 not_back KeyWrapWithPadding key input output None made gave unlike right =
     elim (gave right.0) [ inl bad ↦ bad made.1.legal | inr none ↦ none input right.1 ]
-not_back Encryption key input output None made gave unlike right = gave right.0 made.1.1
+not_back Encryption key input output None made gave unlike right = gave right.0 made.1.encrypted
 
 pub found_right : (v : TestVector) → IsReproduced LibraryGives v → IsRight v
 found_right v found = there v.algorithm v.key v.input v.output found.0

@@ -9,12 +9,13 @@ use Rattle.keywrap_cli.specs.declared.outcome.Done.{Done}
 use Rattle.keywrap_cli.specs.declared.outcome.JobFault.{JobFault}
 use Rattle.keywrap_cli.specs.declared.outcome.JobFault.TheVariants.{BadLength, KeyNotPlain}
 use Rattle.keywrap_cli.specs.declared.what.What.{What}
-use Rattle.keywrap_cli.specs.declared.what.What.TheVariants.{Wrap, Unwrap, Check}
+use Rattle.keywrap_cli.specs.declared.what.Conversion.TheVariants.{Wrap, Unwrap}
+use Rattle.keywrap_cli.specs.declared.what.What.TheVariants.{Convert, Check}
 
 -- the job in this form, with the default initial value
 abbrev pub what_of : Job → Form → What
-what_of jobs.Wrap form = Wrap (by_default form)
-what_of jobs.Unwrap form = Unwrap (by_default form)
+what_of jobs.Wrap form = Convert (Wrap (by_default form))
+what_of jobs.Unwrap form = Convert (Unwrap (by_default form))
 what_of jobs.Check form = Check default_iv
 
 -- the fault, and the result, in which both lengths, of the wrapped key and of its key, have one cause

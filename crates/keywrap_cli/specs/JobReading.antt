@@ -1,7 +1,7 @@
 -- The first steps of a call: each KEK file is read and gives a KEK, its input file is read and gives bytes.
 use Rattle.std.specs.Prelude.{◌≡◌, ◌↔◌, ℕ, IsTrue, List, length, Option, Some, None, IsSome, Result, Ok, Err, Vec, IsOkAnd, MatchResult}
 use Rattle.std.specs.declared.alloc.Global.{Global}
-use Rattle.fips197.specs.KeyExpansion.{IsKekLength}
+use Rattle.fips197.specs.KeyExpansion.{IsKekLength, key_expansion}
 use Rattle.key_files.specs.FileReading.{ReadsAs}
 use Rattle.key_files.specs.declared.fault.FileFault.{FileFault}
 use Rattle.key_files.specs.declared.fault.FileFault.TheVariants as files
@@ -42,10 +42,10 @@ kek_fault_of Kek None = KekLength
 kek_fault_of NewKek (Some fault) = named_fault_of (λ f. NewKekFile f) fault
 kek_fault_of NewKek None = NewKekLength
 
--- the result of a call that reads a KEK file: the KEK, or the operation's fault
-abbrev pub OpensKek : KekRole → Notation → Option (List ℕ) → Option (List ℕ) → Result (List ℕ) JobFault → Type 0
-OpensKek role notation old new (Ok K) = ReadsKek notation old new (Ok K)
-OpensKek role notation old new (Err fault) =
+-- the result of a call that reads a KEK K from a file: AES under it, or the operation's fault
+abbrev pub OpensKek : KekRole → Notation → Option (List ℕ) → Option (List ℕ) → List ℕ → Result (List ℕ) JobFault → Type 0
+OpensKek role notation old new K (Ok aes) = ReadsKek notation old new (Ok K) × (aes ≡ key_expansion K)
+OpensKek role notation old new K (Err fault) =
     (why : Option FileFault) × ReadsKek notation old new (Err why) × (fault ≡ kek_fault_of role why)
 
 -- The effect of a call that reads a KEK file: if the file denotes a KEK, `Then` holds for it, and otherwise `Refused`
@@ -90,8 +90,8 @@ last_kek kek None = kek
 
 -- AES under these KEKs, and whether there is a new one, which is the same key
 pub record AreCiphers (new_kek : Option (Option (List ℕ))) (K L : List ℕ) (ciphers : Ciphers) : Type 0 where
-  pub kek : K ≡ ciphers.kek
-  pub last : L ≡ last_kek ciphers.kek ciphers.new_kek
+  pub kek : key_expansion K ≡ ciphers.kek
+  pub last : key_expansion L ≡ last_kek ciphers.kek ciphers.new_kek
   pub same : IsTrue ciphers.same ↔ (IsSome new_kek × (K ≡ L))
 
 -- the result of the call that reads the KEK files

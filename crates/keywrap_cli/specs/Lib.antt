@@ -1,14 +1,9 @@
-pub mod Conversion
-pub mod Drill
-pub mod EndsWell
 pub mod Faults
-pub mod Fileless
 pub mod Files
 pub mod InitialValue
 pub mod Job
 pub mod JobAnswers
 pub mod JobReading
 pub mod Operation
-pub mod RunSteps
-pub mod Statuses
+pub mod ToyAndVectors
 pub mod VectorReport

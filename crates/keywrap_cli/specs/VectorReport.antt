@@ -1,6 +1,6 @@
 -- When a vector is right, what calls gave for its bytes, and the lines that report on vectors.
-use Rattle.std.specs.Prelude.{◌≡◌, ◌≢◌, ◌&&◌, ◌⊎◌, ⊤, ℕ, Bool, true, false, List, [], ◌∷◌, ◌++◌, length, codes, Option, Some, None, Vec}
-use Rattle.std.specs.List.{AllByRecursion}
+use Rattle.std.specs.Prelude.{◌≡◌, ◌≢◌, ◌⊎◌, ℕ, Bool, true, false, List, [], ◌∷◌, ◌++◌, length, codes, map, Option, Some, None, Vec}
+use Rattle.std.specs.List.{AllByRecursion, concat, list_all}
 use Rattle.std.specs.declared.alloc.Global.{Global}
 use Rattle.fips197.specs.Cipher.{cipher}
 use Rattle.fips197.specs.KeyExpansion.{IsKekLength}
@@ -10,9 +10,9 @@ use Rattle.key_wrap_core.specs.Forms.{by_default}
 use Rattle.key_wrap_core.specs.Plain.{Plain, default_iv}
 use Rattle.key_wrap_core.specs.declared.forms.Form.{Form}
 use Rattle.key_wrap_core.specs.declared.forms.Form.TheVariants as forms
-use Rattle.keywrap_cli.specs.Conversion.{HasNoAnswer, IsAnswer, IsInputLength}
-use Rattle.keywrap_cli.specs.declared.convert.Direction.{Direction}
-use Rattle.keywrap_cli.specs.declared.convert.Direction.TheVariants.{Wrap, Unwrap}
+use Rattle.keywrap_cli.specs.JobAnswers.{HasNoAnswer, IsAnswer, IsInputLength, conversion}
+use Rattle.keywrap_cli.specs.declared.job.Direction.{Direction}
+use Rattle.keywrap_cli.specs.declared.job.Direction.TheVariants.{Wrap, Unwrap}
 use Rattle.test_vectors.specs.Vectors.{TestVector}
 use Rattle.test_vectors.specs.declared.table.Algorithm.{Algorithm}
 use Rattle.test_vectors.specs.declared.table.Algorithm.TheVariants.{KeyWrap, KeyWrapWithPadding, Encryption}
@@ -59,31 +59,22 @@ abbrev pub verdict : Bool → List ℕ
 verdict true = codes " ok\n"
 verdict false = codes " failed\n"
 
--- a line for each vector, with its name and its verdict
-abbrev pub report_lines : List TestVector → List Bool → List ℕ
-report_lines [] oks = []
-report_lines (v ∷ vectors) [] = []
-report_lines (v ∷ vectors) (ok ∷ oks) = (v.name ++ verdict ok) ++ report_lines vectors oks
+-- a vector, and whether its line has `ok`
+pub record Line : Type 0 where
+  pub vector : TestVector
+  pub ok : Bool
 
--- each of them is true
-abbrev pub all_true : List Bool → Bool
-all_true [] = true
-all_true (ok ∷ oks) = ok && all_true oks
-
--- the verdicts on the vectors
-abbrev pub AreVerdicts : Gave → List TestVector → List Bool → Type 0
-AreVerdicts gave [] oks = ⊤
-AreVerdicts gave (v ∷ vectors) [] = ⊤
-AreVerdicts gave (v ∷ vectors) (ok ∷ oks) = IsVerdict gave v ok × AreVerdicts gave vectors oks
+abbrev pub line_text : Line → List ℕ
+line_text line = line.vector.name ++ verdict line.ok
 
 -- The text has a line for each vector: `ok` if calls gave its bytes in both directions, or `failed` if a call gave
 -- something else. all_ok is true exactly if each line has `ok`.
 pub record IsReport (gave : Gave) (vectors : List TestVector) (text : List ℕ) (all_ok : Bool) : Type 0 where
-  pub oks : List Bool
-  pub one_each : length oks ≡ length vectors
-  pub lines : text ≡ report_lines vectors oks
-  pub right : AreVerdicts gave vectors oks
-  pub all : all_ok ≡ all_true oks
+  pub lines : List Line
+  pub one_each : map (λ (line : Line). line.vector) lines ≡ vectors
+  pub written : text ≡ concat (map line_text lines)
+  pub right : AllByRecursion (λ line. IsVerdict gave line.vector line.ok) lines
+  pub all : all_ok ≡ list_all (λ (line : Line). line.ok) lines
 
 -- a call gave something else for one of the vectors
 abbrev pub IsOneMissed : Gave → List TestVector → Type 0
@@ -97,13 +88,20 @@ IsVerdictOnAll gave vectors false = IsOneMissed gave vectors
 
 -- the one answer to the bytes in a form, under E, or a refusal
 abbrev pub Converts : Direction → Form → (List ℕ → List ℕ) → List ℕ → Option (List ℕ) → Type 0
-Converts direction form E X (Some Y) = IsAnswer direction (by_default form) E X Y
-Converts direction form E X None = ¬ IsInputLength direction (by_default form) (length X) ⊎ HasNoAnswer direction (by_default form) E X
+Converts direction form E X (Some Y) = IsAnswer (conversion direction (by_default form)) E X Y
+Converts direction form E X None =
+    ¬ IsInputLength (conversion direction (by_default form)) (length X) ⊎ HasNoAnswer (conversion direction (by_default form)) E X
+
+-- the block Y is the encryption of the block X
+pub record IsEncryption (E : List ℕ → List ℕ) (X Y : List ℕ) : Type 0 where
+  pub plain : IsBlock X
+  pub encrypted : IsBlock Y
+  pub value : E X ≡ Y
 
 -- the same for one block
 abbrev pub Codes : Direction → (List ℕ → List ℕ) → List ℕ → Option (List ℕ) → Type 0
-Codes Wrap E X (Some Y) = IsBlock X × IsBlock Y × (E X ≡ Y)
-Codes Unwrap E X (Some Y) = IsBlock Y × (E Y ≡ X) × ((other : List ℕ) → IsBlock other → E other ≡ X → other ≡ Y)
+Codes Wrap E X (Some Y) = IsEncryption E X Y
+Codes Unwrap E X (Some Y) = IsEncryption E Y X × ((other : List ℕ) → IsBlock other → E other ≡ X → other ≡ Y)
 Codes direction E X None = ¬ IsBlock X
 
 abbrev pub GivesUnder : Algorithm → Direction → (List ℕ → List ℕ) → List ℕ → Option (List ℕ) → Type 0

@@ -1,106 +1,101 @@
-//! Wrapping and unwrapping in a direction and a form.
+//! Wraps and unwraps under a block permutation.
 
-ghost use Rattle.std.specs.Prelude.{◌≡◌, ◌≢◌, ◌↔◌, length, Err, IsTrue};
+ghost use Rattle.std.specs.Prelude.{◌≡◌, ◌↔◌, length, IsTrue};
 ghost use Rattle.key_lines.specs.LineAnswers.{made};
-ghost use Rattle.keywrap_cli.specs.JobAnswers.{IsMade, MakesConversion, job_refusal};
-ghost use Rattle.keywrap_cli.specs.Conversion.{HasRoom, IsInputLength};
+ghost use Rattle.keywrap_cli.specs.JobAnswers.{HasRoom, IsInputLength, IsMade, MakesConversion, job_refusal};
 
+use crate::what::Conversion;
 use block_pair::{BlockPair, Meter};
 use key_lines::LineFault;
 use key_wrap_core::{
-    AgreedForm, InPlaceFault, RewrapFault, key_length_ok, padded_length_ok, padded_text_length_ok,
-    text_length_ok, unwrap_into_with, unwrap_padded_into, wrap_into_with, wrap_padded_into,
+    AgreedForm, InPlaceFault, Refusal, WORD, padded_text_length_ok, text_len, unwrap_any_into,
+    unwrap_into_with, unwrap_padded_into, wrap_into_with, wrap_padded_into,
 };
-
-// The size of a word in bytes.
-const WORD: usize = 8;
-
-/// Which way a conversion goes.
-#[derive(Clone, Copy)]
-pub enum Direction {
-    /// From a key to its wrapping.
-    Wrap,
-    /// From a wrapped key to the key.
-    Unwrap,
-}
 
 /// Replaces `output` with the wrapping of a key, or with the key of a wrapping. The only errors are
 /// Refused, with BadLength or Integrity, and Memory.
 pub fn convert_into<B: BlockPair>(
-    direction: Direction,
-    form: &AgreedForm,
+    conversion: &Conversion,
     pair: &B,
     input: &[u8],
     output: &mut Vec<u8>,
-) -> Result<(), LineFault<RewrapFault>>
-    ensures answer { IsMade (MakesConversion direction form.now (B.encrypted pair.now) input.now)
-        output.new.items result }
-    ensures legal { result ≢ Err (LineFault.Refused RewrapFault.BadLength)
-        → IsInputLength direction form.now (length input.now) }
+) -> Result<(), LineFault<Refusal>>
+    ensures { IsMade conversion.now (B.encrypted pair.now) input.now output.new.items result }
 {
-    if !is_input_length(direction, form, input.len()) {
-        return Err(LineFault::Refused(RewrapFault::BadLength));
+    if !is_input_length(conversion, input.len()) {
+        return Err(LineFault::Refused(Refusal::BadLength));
     }
-    output.resize(room_for(direction, form, input.len()), 0)?;
-    match convert_in_room(direction, form, &mut Meter::new(pair), input, output) {
+    output.resize(room_for(conversion, input.len()), 0)?;
+    match convert_in_room(conversion, &mut Meter::new(pair), input, output) {
         Ok(()) => Ok(()),
         Err(fault) => Err(LineFault::Refused(job_refusal(fault))),
     }
 }
 
-/// Returns a job's refusal for the fault of a conversion.
-pub fn job_refusal(fault: InPlaceFault) -> RewrapFault
+// Returns a job's refusal for the fault of a conversion.
+fn job_refusal(fault: InPlaceFault) -> Refusal
     ensures { result ≡ job_refusal fault }
 {
     match fault {
-        InPlaceFault::BadLength => RewrapFault::BadLength,
-        InPlaceFault::Integrity => RewrapFault::Integrity,
+        InPlaceFault::BadLength => Refusal::BadLength,
+        InPlaceFault::Integrity => Refusal::Integrity,
     }
 }
 
-fn is_input_length(direction: Direction, form: &AgreedForm, len: usize) -> bool
-    ensures { IsTrue result ↔ IsInputLength direction form.now len }
+fn is_input_length(conversion: &Conversion, len: usize) -> bool
+    ensures { IsTrue result ↔ IsInputLength conversion.now len }
 {
-    match (direction, form) {
-        (Direction::Wrap, AgreedForm::Plain(_)) => key_length_ok(len),
-        (Direction::Wrap, AgreedForm::Padded) => padded_length_ok(len),
-        (Direction::Unwrap, AgreedForm::Plain(_)) => text_length_ok(len),
-        (Direction::Unwrap, AgreedForm::Padded) => padded_text_length_ok(len),
+    match conversion {
+        Conversion::Wrap(form) => form.takes_key(len),
+        Conversion::Unwrap(form) => form.takes_text(len),
+        // The padded form has all legal lengths of the plain form.
+        Conversion::UnwrapAny(_) => padded_text_length_ok(len),
     }
 }
 
-// Returns the room that the call for this direction and form needs.
-fn room_for(direction: Direction, form: &AgreedForm, len: usize) -> usize
-    requires { IsInputLength direction form.now len }
-    ensures { HasRoom direction form.now len result }
+// Returns the room that the call for this conversion needs.
+fn room_for(conversion: &Conversion, len: usize) -> usize
+    requires { IsInputLength conversion.now len }
+    ensures { HasRoom conversion.now len result }
 {
-    match (direction, form) {
-        (Direction::Wrap, AgreedForm::Plain(_)) => len + WORD,
-        (Direction::Wrap, AgreedForm::Padded) => WORD + len.next_multiple_of(WORD),
-        (Direction::Unwrap, AgreedForm::Plain(_)) => len - WORD,
-        (Direction::Unwrap, AgreedForm::Padded) => len - WORD,
+    match conversion {
+        Conversion::Wrap(AgreedForm::Plain(_)) => len + WORD,
+        Conversion::Wrap(AgreedForm::Padded) => text_len(len),
+        Conversion::Unwrap(AgreedForm::Plain(_)) => len - WORD,
+        Conversion::Unwrap(AgreedForm::Padded) => len - WORD,
+        Conversion::UnwrapAny(_) => len - WORD,
     }
 }
 
 // Converts into `output`, which has this room.
 fn convert_in_room<B: BlockPair>(
-    direction: Direction,
-    form: &AgreedForm,
+    conversion: &Conversion,
     meter: &mut Meter<B>,
     input: &[u8],
     output: &mut Vec<u8>,
 ) -> Result<(), InPlaceFault>
-    requires { HasRoom direction form.now (length input.now) (length output.old.items) }
-    ensures { MakesConversion direction form.now (B.encrypted meter.old.pair)
+    requires { HasRoom conversion.now (length input.now) (length output.old.items) }
+    ensures { MakesConversion conversion.now (B.encrypted meter.old.pair)
         input.now (made output.new.items result) }
 {
-    match (direction, form) {
-        (Direction::Wrap, AgreedForm::Plain(iv)) => wrap_into_with(meter, iv, input, output),
-        (Direction::Wrap, AgreedForm::Padded) => wrap_padded_into(meter, input, output),
-        (Direction::Unwrap, AgreedForm::Plain(iv)) => unwrap_into_with(meter, iv, input, output),
-        (Direction::Unwrap, AgreedForm::Padded) => match unwrap_padded_into(meter, input, output) {
-            Ok(len) => {
-                output.truncate(len);
+    match conversion {
+        Conversion::Wrap(form) => match form {
+            AgreedForm::Plain(iv) => wrap_into_with(meter, iv, input, output),
+            AgreedForm::Padded => wrap_padded_into(meter, input, output),
+        },
+        Conversion::Unwrap(form) => match form {
+            AgreedForm::Plain(iv) => unwrap_into_with(meter, iv, input, output),
+            AgreedForm::Padded => match unwrap_padded_into(meter, input, output) {
+                Ok(len) => {
+                    output.truncate(len);
+                    Ok(())
+                }
+                Err(refusal) => Err(refusal),
+            },
+        },
+        Conversion::UnwrapAny(iv) => match unwrap_any_into(meter, iv, input, output) {
+            Ok(found) => {
+                output.truncate(found.len);
                 Ok(())
             }
             Err(refusal) => Err(refusal),

@@ -3,13 +3,14 @@
 
 ghost use Rattle.std.specs.Prelude.{◌≡◌, ◌↔◌, ℕ, Err};
 ghost use Rattle.key_files.specs.declared.fault.FileFault.TheVariants as FileFaults;
-ghost use Rattle.keywrap_cli.specs.Drill.{DrillAnswer, TextAnswer, drill_meaning, text_fault_of};
+ghost use Rattle.keywrap_cli.specs.ToyAndVectors.{DrillAnswer, TextAnswer, drill_meaning, text_fault_of};
 
-use crate::convert::{Direction, convert_into};
+use crate::convert::convert_into;
+use crate::job::Direction;
 use block_pair::SwapHalves;
 use key_files::{FileFault, MAX_FILE, decode_hex};
 use key_lines::LineFault;
-use key_wrap_core::{AgreedForm, Form, InPlaceFault, RewrapFault};
+use key_wrap_core::{AgreedForm, Form, InPlaceFault, Refusal};
 use std::alloc::Global;
 use thiserror::Error;
 
@@ -53,12 +54,12 @@ pub fn drill(
         ↔ (drill_meaning text.now ≡ Err FileFaults.OddDigits) }
 {
     let input = bytes_of(alloc, text)?;
-    let form = AgreedForm::by_default(form);
+    let conversion = direction.conversion(AgreedForm::by_default(form));
     let mut output = Vec::new(alloc);
-    match convert_into(direction, &form, &SwapHalves, &input, &mut output) {
+    match convert_into(&conversion, &SwapHalves, &input, &mut output) {
         Ok(()) => Ok(output),
-        Err(LineFault::Refused(RewrapFault::BadLength)) => Err(DrillFault::BadLength),
-        Err(LineFault::Refused(RewrapFault::Integrity)) => Err(DrillFault::Integrity),
+        Err(LineFault::Refused(Refusal::BadLength)) => Err(DrillFault::BadLength),
+        Err(LineFault::Refused(Refusal::Integrity)) => Err(DrillFault::Integrity),
         // Memory: no other fault can occur.
         Err(_) => Err(DrillFault::Memory),
     }

@@ -1,8 +1,7 @@
 //! The faults of the program, with their lines on standard error and their exit statuses.
 
 ghost use Rattle.std.specs.Prelude.{◌≡◌, ◌≢◌, ◌↔◌, ◌⊎◌};
-ghost use Rattle.keywrap_cli.specs.Faults.{hex_fault_of, vectors_fault_of};
-ghost use Rattle.keywrap_cli.specs.Statuses.{drill_status, program_status, job_status, line_status};
+ghost use Rattle.keywrap_cli.specs.Faults.{hex_fault_of, vectors_fault_of, drill_status, program_status, job_status, line_status};
 ghost use Rattle.keywrap_cli.specs.declared.fault.ProgramFault.TheVariants as ProgramFaults;
 
 use crate::drilling::DrillFault;
@@ -12,7 +11,7 @@ use crate::statuses;
 use crate::vector_report::VectorsFault;
 use key_files::{FileFault, HexWriteFault, WriteFault};
 use key_lines::{LineFault, RefusedLine};
-use key_wrap_core::RewrapFault;
+use key_wrap_core::Refusal;
 use thiserror::Error;
 
 /// A fault of the program, other than one of its arguments. Its message is its line on standard
@@ -32,13 +31,12 @@ pub enum ProgramFault {
     /// The output file can't be made, or must not be replaced.
     #[error("keywrap: output: cannot be opened")]
     OutputOpen,
-    /// Raw bytes would go to a terminal.
     #[error("keywrap: output: raw bytes do not go to a terminal; redirect it or use --output")]
     RawToTerminal,
     #[error("keywrap: {0}")]
     Job(JobFault),
     #[error("keywrap: {0}")]
-    Line(RefusedLine<RewrapFault>),
+    Line(RefusedLine<Refusal>),
     #[error("keywrap: no lines")]
     NoLines,
     #[error("keywrap: {0}")]
@@ -103,15 +101,13 @@ fn job_status(fault: &JobFault) -> u8
     }
 }
 
-pub(crate) fn line_status(fault: LineFault<RewrapFault>) -> u8
+pub(crate) fn line_status(fault: LineFault<Refusal>) -> u8
     ensures status { result ≡ line_status fault }
     ensures failed { result ≢ 0 }
 {
     match fault {
-        LineFault::Refused(RewrapFault::BadLength | RewrapFault::KeyNotPlain) => {
-            statuses::BAD_LENGTH
-        }
-        LineFault::Refused(RewrapFault::Integrity) => statuses::FAILED,
+        LineFault::Refused(Refusal::BadLength | Refusal::KeyNotPlain) => { statuses::BAD_LENGTH }
+        LineFault::Refused(Refusal::Integrity) => statuses::FAILED,
         LineFault::Memory | LineFault::Input(FileFault::Memory) => statuses::MEMORY,
         LineFault::TooManyLines
         | LineFault::Input(

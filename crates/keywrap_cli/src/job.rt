@@ -11,14 +11,34 @@ ghost use Rattle.keywrap_cli.specs.Operation.{RunsOperation, WritesTheAnswer};
 ghost use Rattle.key_wrap_core.specs.declared.agreed_form.AgreedForm.TheVariants as AgreedForms;
 ghost use Rattle.keywrap_cli.specs.declared.what.What.TheVariants as Whats;
 
-use crate::convert::Direction;
 use crate::files::Notation;
 use crate::kek_file::{read_kek, read_keks};
 use crate::outcome::{Done, JobFault};
-use crate::what::What;
+use crate::what::{Conversion, What};
 use key_wrap_core::{AgreedForm, Form, InitialValue, RewrapForms};
 use std::alloc::Global;
 use std::io::{Read, Write};
+
+/// Which way a conversion goes.
+#[derive(Clone, Copy)]
+pub enum Direction {
+    /// From a key to its wrapping.
+    Wrap,
+    /// From a wrapped key to the key.
+    Unwrap,
+}
+
+impl Direction {
+    /// Returns the conversion in a form.
+    pub fn conversion(self, form: AgreedForm) -> Conversion
+        ensures { result ≡ conversion self form }
+    {
+        match self {
+            Direction::Wrap => Conversion::Wrap(form),
+            Direction::Unwrap => Conversion::Unwrap(form),
+        }
+    }
+}
 
 /// The kind of a job.
 #[derive(Clone, Copy)]
@@ -34,13 +54,11 @@ pub enum Job {
 /// A job, with the form of the wrapping and the notations of its files.
 #[derive(Clone, Copy)]
 pub struct Task {
-    /// The kind of the job.
     pub job: Job,
     /// The form of the wrapping. `Check` tries both forms.
     pub form: Form,
     /// The notation of the input, and of the output unless this is a `Check`.
     pub input: Notation,
-    /// The notation of the KEK file.
     pub kek: Notation,
 }
 
@@ -49,9 +67,10 @@ impl Task {
     pub fn what(self) -> What
         ensures { result ≡ what_of self.job self.form }
     {
+        let form = AgreedForm::by_default(self.form);
         match self.job {
-            Job::Wrap => What::Wrap(AgreedForm::by_default(self.form)),
-            Job::Unwrap => What::Unwrap(AgreedForm::by_default(self.form)),
+            Job::Wrap => What::Convert(Conversion::Wrap(form)),
+            Job::Unwrap => What::Convert(Conversion::Unwrap(form)),
             Job::Check => What::Check(InitialValue::default()),
         }
     }
@@ -81,10 +100,7 @@ pub fn run_job<K: Read, R: Read, W: Write>(
         (R.remaining input.old) (R.remaining input.new)
         (W.contents out.old) (W.contents out.new) }
 {
-    match read_kek(alloc, task.kek, kek) {
-        Ok(ciphers) => ciphers.run(alloc, task.what(), task.input, input, out),
-        Err(fault) => Err(fault),
-    }
+    read_kek(alloc, task.kek, kek)?.run(alloc, task.what(), task.input, input, out)
 }
 
 /// Does what `run_job` does, for a plain wrapping or unwrapping under this initial value.
@@ -98,23 +114,21 @@ pub fn run_with<K: Read, R: Read, W: Write>(
     input: &mut R,
     out: &mut W,
 ) -> Result<Done, JobFault>
-    ensures run { RunsOperation (conversion direction (AgreedForms.Plain iv.now)) input_notation
-        (one_kek kek_notation (K.remaining kek.old)) (one_kek kek_notation (K.remaining kek.new))
+    ensures run { RunsOperation (Whats.Convert (conversion direction (AgreedForms.Plain iv.now)))
+        input_notation (one_kek kek_notation (K.remaining kek.old))
+        (one_kek kek_notation (K.remaining kek.new))
         (R.remaining input.old) (R.remaining input.new)
         (W.contents out.old) (W.contents out.new) result }
-    // A key is written only if the input is its wrapping with this initial value, and no other
-    // key's.
+    // A key is written only if the input is its wrapping with this value, and no other key's.
     ensures headline { IsOk result
-        → WritesTheAnswer (conversion direction (AgreedForms.Plain iv.now)) input_notation
-        (one_kek kek_notation (K.remaining kek.old)) (one_kek kek_notation (K.remaining kek.new))
+        → WritesTheAnswer (Whats.Convert (conversion direction (AgreedForms.Plain iv.now)))
+        input_notation (one_kek kek_notation (K.remaining kek.old))
+        (one_kek kek_notation (K.remaining kek.new))
         (R.remaining input.old) (R.remaining input.new)
         (W.contents out.old) (W.contents out.new) }
 {
-    let what = conversion(direction, AgreedForm::Plain(*iv));
-    match read_kek(alloc, kek_notation, kek) {
-        Ok(ciphers) => ciphers.run(alloc, what, input_notation, input, out),
-        Err(fault) => Err(fault),
-    }
+    let what = What::Convert(direction.conversion(AgreedForm::Plain(*iv)));
+    read_kek(alloc, kek_notation, kek)?.run(alloc, what, input_notation, input, out)
 }
 
 /// Reads the old KEK, the new KEK and a wrapped key under the old one, and writes the wrapping of
@@ -172,15 +186,5 @@ fn without_cause(fault: JobFault) -> JobFault
     match fault {
         JobFault::KeyNotPlain => JobFault::BadLength,
         fault => fault,
-    }
-}
-
-// Returns what a conversion in a form is.
-fn conversion(direction: Direction, form: AgreedForm) -> What
-    ensures { result ≡ conversion direction form }
-{
-    match direction {
-        Direction::Wrap => What::Wrap(form),
-        Direction::Unwrap => What::Unwrap(form),
     }
 }

@@ -1,8 +1,7 @@
 //! Reads KEKs from files.
 
-ghost use Rattle.std.specs.Prelude.{◌≡◌, Some, None, IfOk};
-ghost use Rattle.keywrap_cli.specs.JobReading.{OpensKek, OpensKeks, kek_fault_of, known_keks};
-ghost use Rattle.keywrap_cli.specs.JobReading.{one_kek, two_keks};
+ghost use Rattle.std.specs.Prelude.{◌≡◌, Some, None};
+ghost use Rattle.keywrap_cli.specs.JobReading.{OpensKek, OpensKeks, kek_fault_of, known_keks, one_kek, two_keks};
 
 use crate::files::{Notation, read_file};
 use crate::outcome::JobFault;
@@ -16,9 +15,7 @@ pub use aes_vector::VectorAes as Aes;
 /// The KEK files of an operation: their names, or open files.
 #[derive(Drop)]
 pub struct Keks<K> {
-    /// The notation of the KEK files.
     pub notation: Notation,
-    /// The KEK.
     pub kek: K,
     /// The new KEK of a rewrap.
     pub new_kek: Option<K>,
@@ -27,18 +24,14 @@ pub struct Keks<K> {
 /// One of the KEKs of an operation.
 #[derive(Clone, Copy)]
 pub enum KekRole {
-    /// The KEK.
     Kek,
-    /// The new KEK of a rewrap.
     NewKek,
 }
 
 /// AES under each KEK of an operation.
 #[derive(Drop)]
 pub struct Ciphers {
-    /// AES under the KEK.
     pub kek: Aes,
-    /// AES under the new KEK.
     pub new_kek: Option<Aes>,
     /// Whether there are two KEKs, which are the same key.
     pub same: bool,
@@ -110,8 +103,8 @@ fn read_into<K: Read>(
     file: &mut K,
     kek: &mut Vec<u8>,
 ) -> Result<Aes, JobFault>
-    ensures opens { OpensKek role notation (K.remaining file.old) (K.remaining file.new) result }
-    ensures bytes { IfOk result (λ aes. kek.new.items ≡ aes) }
+    ensures { OpensKek role notation (K.remaining file.old) (K.remaining file.new)
+        kek.new.items result }
 {
     match read_file(alloc, notation, file) {
         Ok(bytes) => *kek = bytes,

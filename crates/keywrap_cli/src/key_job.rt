@@ -2,19 +2,15 @@
 
 ghost use Rattle.std.specs.Prelude.{◌≡◌, IfOk, Ok, string_bytes};
 ghost use Rattle.key_lines.specs.LineAnswers.{answered};
-ghost use Rattle.keywrap_cli.specs.JobAnswers.{Answers, AnswersTo, IsPrinted, MayLack, conversion};
-ghost use Rattle.keywrap_cli.specs.JobAnswers.{kind_line, kind_note, rewrap_note};
+ghost use Rattle.keywrap_cli.specs.JobAnswers.{Answers, AnswersTo, IsPrinted, MayLack, kind_line, kind_note, rewrap_note};
 ghost use Rattle.keywrap_cli.specs.JobReading.{last_kek};
 
-use crate::any_form::unwrap_any;
-use crate::convert::{Direction, convert_into};
+use crate::convert::convert_into;
 use crate::files::{Notation, print_in};
-use crate::what::What;
+use crate::what::{Conversion, What};
 use block_pair::{BlockPair, Meter};
 use key_lines::{LineFault, LineJob, Note};
-use key_wrap_core::{
-    AgreedForm, InitialValue, Kind, RewrapFault, RewrapForms, Rewrapped, kind_into_with, rewrap,
-};
+use key_wrap_core::{InitialValue, Kind, Refusal, RewrapForms, Rewrapped, kind_into_with, rewrap};
 use std::alloc::{AllocError, Global};
 
 /// An operation under its block permutations. A rewrap without a new one stays under the first.
@@ -28,7 +24,7 @@ pub struct KeyJob<B: BlockPair> {
 }
 
 impl<B: BlockPair> LineJob for KeyJob<B> {
-    type Refusal = RewrapFault;
+    type Refusal = Refusal;
 
     ghost answers = { λ job bytes answer. Answers job.what job.notation (B.encrypted job.pair)
         (B.encrypted (last_kek job.pair job.new_pair)) bytes answer };
@@ -40,11 +36,9 @@ impl<B: BlockPair> LineJob for KeyJob<B> {
         &self,
         bytes: &mut Vec<u8>,
         output: &mut Vec<u8>,
-    ) -> Result<Note, LineFault<RewrapFault>> {
+    ) -> Result<Note, LineFault<Refusal>> {
         match &self.what {
-            What::Wrap(form) => self.convert(Direction::Wrap, form, bytes, output),
-            What::Unwrap(form) => self.convert(Direction::Unwrap, form, bytes, output),
-            What::UnwrapAny(iv) => self.unwrap_any(iv, bytes, output),
+            What::Convert(conversion) => self.convert(conversion, bytes, output),
             What::Check(iv) => match self.check(iv, bytes, output) {
                 Ok(note) => Ok(note),
                 Err(_) => Err(LineFault::Memory),
@@ -55,34 +49,18 @@ impl<B: BlockPair> LineJob for KeyJob<B> {
 }
 
 impl<B: BlockPair> KeyJob<B> {
-    // Makes the answer of a wrap, or of an unwrap in a form.
+    // Makes the answer of a wrap or of an unwrap.
     fn convert(
         &self,
-        direction: Direction,
-        form: &AgreedForm,
+        conversion: &Conversion,
         bytes: &mut Vec<u8>,
         output: &mut Vec<u8>,
-    ) -> Result<Note, LineFault<RewrapFault>>
-        ensures { AnswersTo (conversion direction form.now) self.now.notation
+    ) -> Result<Note, LineFault<Refusal>>
+        ensures { AnswersTo (What.Convert conversion.now) self.now.notation
             (B.encrypted self.now.pair) (B.encrypted (last_kek self.now.pair self.now.new_pair))
             bytes.old.items output.new.items result }
     {
-        convert_into(direction, form, &self.pair, bytes, output)?;
-        self.print(bytes, output)
-    }
-
-    // Makes the answer of an unwrap in either form.
-    fn unwrap_any(
-        &self,
-        iv: &InitialValue,
-        bytes: &mut Vec<u8>,
-        output: &mut Vec<u8>,
-    ) -> Result<Note, LineFault<RewrapFault>>
-        ensures { AnswersTo (What.UnwrapAny iv.now) self.now.notation
-            (B.encrypted self.now.pair) (B.encrypted (last_kek self.now.pair self.now.new_pair))
-            bytes.old.items output.new.items result }
-    {
-        unwrap_any(iv, &self.pair, bytes, output)?;
+        convert_into(conversion, &self.pair, bytes, output)?;
         self.print(bytes, output)
     }
 
@@ -114,7 +92,7 @@ impl<B: BlockPair> KeyJob<B> {
         pass_new: bool,
         bytes: &mut Vec<u8>,
         output: &mut Vec<u8>,
-    ) -> Result<Note, LineFault<RewrapFault>>
+    ) -> Result<Note, LineFault<Refusal>>
         ensures { AnswersTo (What.Rewrap forms.now pass_new) self.now.notation
             (B.encrypted self.now.pair) (B.encrypted (last_kek self.now.pair self.now.new_pair))
             bytes.old.items output.new.items result }
@@ -124,10 +102,8 @@ impl<B: BlockPair> KeyJob<B> {
             Ok(rewrapped) => rewrapped,
             Err(fault) => return Err(LineFault::Refused(fault)),
         };
-        match print_in(self.notation, bytes, output) {
-            Ok(()) => Ok(rewrap_note(rewrapped)),
-            Err(_) => Err(LineFault::Memory),
-        }
+        print_in(self.notation, bytes, output)?;
+        Ok(rewrap_note(rewrapped))
     }
 
     // Returns the new block permutation or, without it, the only one.
@@ -141,11 +117,7 @@ impl<B: BlockPair> KeyJob<B> {
     }
 
     // Prints the answer in `output`, without a note. `bytes` is room for it.
-    fn print(
-        &self,
-        bytes: &mut Vec<u8>,
-        output: &mut Vec<u8>,
-    ) -> Result<Note, LineFault<RewrapFault>>
+    fn print(&self, bytes: &mut Vec<u8>, output: &mut Vec<u8>) -> Result<Note, LineFault<Refusal>>
         ensures { IsPrinted self.now.notation output.old.items output.new.items result }
     {
         print_in(self.notation, output, bytes)?;

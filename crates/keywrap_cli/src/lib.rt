@@ -3,11 +3,9 @@
 //! each run, and the messages, which are tested and not proved.
 #![tactic(auto)]
 
-mod any_form;
 mod convert;
 mod drilling;
 mod fault;
-mod fileless;
 mod files;
 mod initial_value;
 mod job;
@@ -19,22 +17,22 @@ mod run_status;
 pub mod statuses;
 #[cfg(test)]
 mod tests;
+mod toy_and_vectors;
 mod vector_check;
 mod vector_report;
 mod what;
 mod whole_input;
 
-pub use convert::Direction;
 pub use drilling::{DrillFault, drill};
 pub use fault::ProgramFault;
-pub use fileless::{run_drill, run_vectors, write_help};
 pub use files::{Notation, line_notation};
 pub use initial_value::{IvFault, parse_iv};
-pub use job::{Job, Task, run_job, run_rewrap, run_with};
+pub use job::{Direction, Job, Task, run_job, run_rewrap, run_with};
 pub use kek_file::Keks;
 pub use operation::Operation;
 pub use outcome::{Done, JobFault, Outcome};
 pub use run_status::{done_status, lines_status};
+pub use toy_and_vectors::{run_drill, run_vectors, write_help};
 pub use vector_check::{Library, VectorCalls, library_law};
 pub use vector_report::{VectorsFault, vectors};
-pub use what::{How, What};
+pub use what::{Conversion, How, What};

@@ -1,12 +1,9 @@
 //! An operation on an input, whole or line by line, under KEKs from files.
 
 ghost use Rattle.std.specs.Prelude.{◌≡◌, IfOk, IsOk};
-ghost use Rattle.fips197.specs.Cipher.{cipher};
-ghost use Rattle.keywrap_cli.specs.EndsWell.{AnswersAllLines, AnswersWhole, EndsWell};
+ghost use Rattle.fips197.specs.Cipher.{cipher_by};
+ghost use Rattle.keywrap_cli.specs.Operation.{AnswersAllLines, AnswersWhole, EndsWell, RunsOperation, RunsOperationLines, RunsUnder, TellsSameKek, WritesTheAnswer, WritesTheLines, result_of};
 ghost use Rattle.keywrap_cli.specs.JobReading.{known_keks, last_kek};
-ghost use Rattle.keywrap_cli.specs.Operation.{RunsOperation, RunsOperationLines, RunsUnder};
-ghost use Rattle.keywrap_cli.specs.Operation.{TellsSameKek, WritesTheAnswer, WritesTheLines};
-ghost use Rattle.keywrap_cli.specs.Operation.{result_of};
 
 use crate::files::{Notation, line_notation};
 use crate::kek_file::{Aes, Ciphers, Keks};
@@ -15,7 +12,7 @@ use crate::outcome::{Done, JobFault, Outcome};
 use crate::what::What;
 use crate::whole_input::run_input;
 use key_lines::{LineRun, LineSource, RefusalLog, RunFault, RunOptions, RunSummary};
-use key_wrap_core::RewrapFault;
+use key_wrap_core::Refusal;
 use std::alloc::Global;
 use std::io::{Read, Write};
 
@@ -70,14 +67,14 @@ impl<K: Read> Operation<K> {
     ///
     /// The outer `Err` is the fault of a KEK file: then the input was not read, and nothing was
     /// written. `noted` in the summary counts answers that are `none` or a copied wrapped key.
-    pub fn run_lines<L: RefusalLog<RewrapFault>, I: LineSource, W: Write>(
+    pub fn run_lines<L: RefusalLog<Refusal>, I: LineSource, W: Write>(
         &mut self,
         alloc: Global,
         options: RunOptions,
         log: &mut L,
         input: &mut I,
         out: &mut W,
-    ) -> Result<Outcome<Result<RunSummary<RewrapFault>, RunFault<RewrapFault>>>, JobFault>
+    ) -> Result<Outcome<Result<RunSummary<Refusal>, RunFault<Refusal>>>, JobFault>
         ensures run { RunsOperationLines self.old.what options
             (known_keks K.remaining self.old.keks) (known_keks K.remaining self.new.keks)
             (I.remaining input.old) (I.remaining input.new)
@@ -121,8 +118,8 @@ impl Ciphers {
         input: &mut I,
         out: &mut W,
     ) -> Result<Done, JobFault>
-        ensures { RunsUnder what notation (cipher self.kek)
-            (cipher (last_kek self.kek self.new_kek)) (I.remaining input.old)
+        ensures { RunsUnder what notation (cipher_by self.kek)
+            (cipher_by (last_kek self.kek self.new_kek)) (I.remaining input.old)
             (I.remaining input.new) (W.contents out.old) (W.contents out.new) result }
     {
         let job = self.job(alloc, what, notation);

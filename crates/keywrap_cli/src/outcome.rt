@@ -15,7 +15,6 @@ pub enum Done {
 /// The result of an operation, and whether its KEKs are the same key.
 #[derive(Clone, Copy)]
 pub struct Outcome<T> {
-    /// The result.
     pub result: T,
     /// Whether there are two KEKs, which are the same key.
     pub same_kek: bool,
@@ -29,14 +28,11 @@ pub enum JobFault {
     KekFile(FileFault),
     #[error("key length is not 16, 24 or 32 bytes")]
     KekLength,
-    /// The new KEK file cannot be read, is too long, or does not decode. Only a rewrapping returns
-    /// this.
+    /// The same for the new KEK file of a rewrapping.
     #[error("new key file: {0}")]
     NewKekFile(FileFault),
-    /// The new KEK is not 16, 24 or 32 bytes long. Only a rewrapping returns this.
     #[error("new key length is not 16, 24 or 32 bytes")]
     NewKekLength,
-    /// The input cannot be read, is too long, or does not decode.
     #[error("input: {0}")]
     InputFile(FileFault),
     /// The length of the key or the wrapped key is not legal in this form.

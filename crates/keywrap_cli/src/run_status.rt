@@ -1,15 +1,15 @@
 //! The exit status of a run that was not refused.
 
 ghost use Rattle.std.specs.Prelude.{◌≡◌, ◌≢◌, ◌↔◌, Some, None};
-ghost use Rattle.keywrap_cli.specs.EndsWell.{EndsWell};
-ghost use Rattle.keywrap_cli.specs.Statuses.{line_status};
+ghost use Rattle.keywrap_cli.specs.Operation.{EndsWell};
+ghost use Rattle.keywrap_cli.specs.Faults.{line_status};
 
 use crate::fault::line_status;
 use crate::outcome::Done;
 use crate::statuses;
 use crate::what::What;
 use key_lines::{RefusedLine, RunSummary};
-use key_wrap_core::RewrapFault;
+use key_wrap_core::Refusal;
 
 /// Returns the exit status of a run over a whole input.
 pub fn done_status(done: Done) -> u8
@@ -24,10 +24,10 @@ pub fn done_status(done: Done) -> u8
 
 /// Returns the exit status of a run over lines: the status of the first refused line. A check notes
 /// the lines for which it found no key. A run over no lines is refused.
-pub fn lines_status(what: &What, summary: &RunSummary<RewrapFault>) -> u8
+pub fn lines_status(what: &What, summary: &RunSummary<Refusal>) -> u8
     ensures done { (result ≡ 0) ↔ EndsWell what.now summary.now }
     ensures no_lines { summary.now.lines ≡ 0 → result ≡ 4 }
-    ensures refused { summary.now.lines ≢ 0 → (refused : RefusedLine RewrapFault)
+    ensures refused { summary.now.lines ≢ 0 → (refused : RefusedLine Refusal)
         → summary.now.first_refused ≡ Some refused → result ≡ line_status refused.fault }
     ensures none { summary.now.lines ≢ 0 → summary.now.first_refused ≡ None → result ≢ 0
         → result ≡ 5 }

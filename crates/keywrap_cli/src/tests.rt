@@ -2,13 +2,14 @@
 
 mod block_calls;
 mod cases;
+mod changed_texts;
 mod drills;
+mod failures;
 mod faults;
 mod fixed_calls;
-mod hostile;
 mod initial_values;
 mod jobs;
 mod lines;
+mod memory_is_ample;
 mod published;
-mod rewraps;
 mod vectors;

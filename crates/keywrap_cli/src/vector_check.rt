@@ -2,11 +2,11 @@
 
 ghost use Rattle.std.specs.Prelude.{◌≡◌, ◌≢◌, ◌↔◌, length, Some, IfOk, IsTrue, MatchOption};
 ghost use Rattle.block_pair.specs.Words.{IsBlock};
-ghost use Rattle.keywrap_cli.specs.VectorReport.{Codes, Converts, Gave, LibraryGives, IsReproduced, IsMissed};
-ghost use Rattle.keywrap_cli.specs.VectorReport.{IsRight, IsVerdict, bytes_of};
+ghost use Rattle.keywrap_cli.specs.VectorReport.{Codes, Converts, Gave, LibraryGives, IsReproduced, IsMissed, IsRight, IsVerdict, bytes_of};
 ghost use Rattle.test_vectors.specs.Vectors.{TestVector, shown};
 
-use crate::convert::{Direction, convert_into};
+use crate::convert::convert_into;
+use crate::job::Direction;
 use crate::kek_file::Aes;
 use block_pair::BlockPair;
 use key_lines::LineFault;
@@ -57,6 +57,7 @@ impl VectorCalls for Library {
 }
 
 /// A law: what the calls of this crate gave is right exactly if they gave the bytes of the vector.
+#[tactic(auto, using(crate::proofs::VectorLaws::found_right, crate::proofs::VectorLaws::missed_wrong))]
 pub fn library_law()
     ensures found { (v : TestVector) → IsReproduced ⟦<Library as VectorCalls>⟧.gave v → IsRight v }
     ensures missed { (v : TestVector) → IsMissed ⟦<Library as VectorCalls>⟧.gave v → ¬ IsRight v }
@@ -96,9 +97,9 @@ fn convert<B: BlockPair>(
     ensures { IfOk result (λ found. Converts direction form (B.encrypted pair.now) input.now
         (bytes_of found)) }
 {
-    let form = AgreedForm::by_default(form);
+    let conversion = direction.conversion(AgreedForm::by_default(form));
     let mut output = Vec::new(alloc);
-    match convert_into(direction, &form, pair, input, &mut output) {
+    match convert_into(&conversion, pair, input, &mut output) {
         Ok(()) => Ok(Some(output)),
         Err(LineFault::Refused(_)) => Ok(None),
         Err(_) => Err(AllocError),
@@ -119,10 +120,7 @@ fn code<B: BlockPair>(
         return Ok(None);
     };
     let coded = code_block(direction, pair, block);
-    match coded.to_vec(alloc) {
-        Ok(bytes) => Ok(Some(bytes)),
-        Err(fault) => Err(fault),
-    }
+    Ok(Some(coded.to_vec(alloc)?))
 }
 
 fn code_block<B: BlockPair>(direction: Direction, pair: &B, block: [u8; 16]) -> [u8; 16]

@@ -1,7 +1,6 @@
 //! The published vectors of RFC 3394, RFC 5649 and FIPS 197.
 
-ghost use Rattle.std.specs.Prelude.{◌≡◌, ◌<◌, Bool, List, ℕ, length, take, map, IfOk, Err};
-ghost use Rattle.std.specs.Prelude.{string_bytes};
+ghost use Rattle.std.specs.Prelude.{◌≡◌, ◌<◌, Bool, List, ℕ, length, take, map, IfOk, Err, string_bytes};
 ghost use Rattle.std.specs.Io.KnownBytes.{Appends, Keeps};
 ghost use Rattle.keywrap_cli.specs.VectorReport.{IsReport, IsVerdictOnAll, verdict};
 ghost use Rattle.test_vectors.specs.Published.{published_vectors};

@@ -11,12 +11,8 @@ use key_wrap_core::{AgreedForm, InitialValue, RewrapForms};
 /// What an operation does with a key.
 #[derive(Clone, Copy)]
 pub enum What {
-    /// The input is a key, and the output its wrapping in this form.
-    Wrap(AgreedForm),
-    /// The input is a wrapped key in this form, and the output the key.
-    Unwrap(AgreedForm),
-    /// The same for a wrapped key in either form. The plain form has this initial value.
-    UnwrapAny(InitialValue),
+    /// A wrap or an unwrap.
+    Convert(Conversion),
     /// The input is a wrapped key in either form, and the output a line with its form and the
     /// length of its key.
     Check(InitialValue),
@@ -27,6 +23,17 @@ pub enum What {
         /// Whether a wrapped key that is already under the new KEK, in the new form, is copied.
         pass_new: bool,
     },
+}
+
+/// A wrap or an unwrap.
+#[derive(Clone, Copy)]
+pub enum Conversion {
+    /// The input is a key, and the output its wrapping in this form.
+    Wrap(AgreedForm),
+    /// The input is a wrapped key in this form, and the output the key.
+    Unwrap(AgreedForm),
+    /// The same for a wrapped key in either form. The plain form has this initial value.
+    UnwrapAny(InitialValue),
 }
 
 /// How a command reads its keys, and the notation of its input and of its output.
@@ -45,7 +52,7 @@ impl What {
     {
         match self {
             What::Check(_) => true,
-            What::Wrap(_) | What::Unwrap(_) | What::UnwrapAny(_) | What::Rewrap { .. } => false,
+            What::Convert(_) | What::Rewrap { .. } => false,
         }
     }
 
@@ -66,7 +73,7 @@ impl What {
                 } => true,
                 _ => false,
             },
-            What::Wrap(_) | What::Unwrap(_) | What::UnwrapAny(_) | What::Check(_) => false,
+            What::Convert(_) | What::Check(_) => false,
         }
     }
 }

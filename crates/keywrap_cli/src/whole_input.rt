@@ -2,19 +2,19 @@
 
 ghost use Rattle.std.specs.Prelude.{◌≡◌};
 ghost use Rattle.keywrap_cli.specs.JobAnswers.{done_of};
-ghost use Rattle.keywrap_cli.specs.RunSteps.{RunsInput, WritesAnswer, job_fault_of};
+ghost use Rattle.keywrap_cli.specs.Operation.{RunsInput, WritesAnswer, job_fault_of};
 
 use crate::files::{Notation, input_fault, read_file};
 use crate::outcome::{Done, JobFault};
 use key_files::write_raw;
 use key_lines::{LineFault, LineJob, Note};
-use key_wrap_core::RewrapFault;
+use key_wrap_core::Refusal;
 use std::alloc::Global;
 use std::io::{Read, Write};
 
 /// Reads the input, and writes the answer of the job for this input. Nothing is written before the
 /// whole output is made, and the call does not flush.
-pub fn run_input<J: LineJob<Refusal = RewrapFault>, R: Read, W: Write>(
+pub fn run_input<J: LineJob<Refusal = Refusal>, R: Read, W: Write>(
     alloc: Global,
     notation: Notation,
     job: &J,
@@ -32,7 +32,7 @@ pub fn run_input<J: LineJob<Refusal = RewrapFault>, R: Read, W: Write>(
 }
 
 // Makes the whole answer for the bytes, and then writes it.
-fn write_answer<J: LineJob<Refusal = RewrapFault>, W: Write>(
+fn write_answer<J: LineJob<Refusal = Refusal>, W: Write>(
     alloc: Global,
     job: &J,
     bytes: &mut Vec<u8>,
@@ -66,13 +66,13 @@ fn done_of(note: Note) -> Done
 
 // Returns the fault of a run for the fault of its job. Input and TooManyLines cannot occur: the job
 // got decoded bytes.
-fn job_fault(fault: LineFault<RewrapFault>) -> JobFault
+fn job_fault(fault: LineFault<Refusal>) -> JobFault
     ensures { result ≡ job_fault_of fault }
 {
     match fault {
-        LineFault::Refused(RewrapFault::BadLength) => JobFault::BadLength,
-        LineFault::Refused(RewrapFault::Integrity) => JobFault::Integrity,
-        LineFault::Refused(RewrapFault::KeyNotPlain) => JobFault::KeyNotPlain,
+        LineFault::Refused(Refusal::BadLength) => JobFault::BadLength,
+        LineFault::Refused(Refusal::Integrity) => JobFault::Integrity,
+        LineFault::Refused(Refusal::KeyNotPlain) => JobFault::KeyNotPlain,
         LineFault::Input(_) | LineFault::Memory | LineFault::TooManyLines => JobFault::Memory,
     }
 }

@@ -16,8 +16,8 @@ PLAIN, PADDED = 0, 1
 
 
 def any_bytes(name, n):
-    """Returns n bytes of any value."""
-    return [input_byte(name, i) for i in range(n)]
+    """Returns n bytes of any value; or zeros, if they are so many that the call has to refuse them unread."""
+    return [input_byte(name, i) for i in range(n)] if n <= LONGEST else [0] * n
 
 
 def little(v, n=8):
@@ -232,13 +232,11 @@ def unwrap_in_place(given, kek_len, key_len):
 def wrap_padded(given, kek_len, key_len, out_len=None):
     kek, key = any_bytes('kek', kek_len), any_bytes('key', key_len)
     out_len = room_of(key_len) + 8 if out_len is None else out_len
+    legal = is_kek(kek_len) and 1 <= key_len <= LONGEST and out_len == room_of(key_len) + 8
+    wrapped = given.standard(standard.wrapped_padded, kek, key) if legal else None
 
     def expected(_):
-        if not is_kek(kek_len):
-            return BAD_KEK, None
-        if not 1 <= key_len <= LONGEST or out_len != room_of(key_len) + 8:
-            return BAD_LENGTH, None
-        return OK, standard.wrapped_padded(kek, key)
+        return (OK, wrapped()) if legal else (BAD_LENGTH if is_kek(kek_len) else BAD_KEK, None)
     call = Call(given, 'keywrap_wrap_padded').reads(kek).reads(key)
     call.changes(any_bytes('old', out_len)).check(expected)
 
@@ -405,7 +403,7 @@ def rewrap_steps(given, old_len, new_len, text_len, flags, from_copy=0):
 
     def follow(call, path, status, now, phase, rest):
         Known.now = path.known
-        phase, steps = (little_number(path, some) for some in (phase, rest[:8]))
+        phase = little_number(path, phase)
         if phase == 0:
             want, after, already = one.of(path.is_zero)
             call.compare(path, status, now, ALREADY_NEW if already else want, after)
@@ -413,7 +411,7 @@ def rewrap_steps(given, old_len, new_len, text_len, flags, from_copy=0):
             return
         if status != OK:
             raise Refused(f'status {status} at phase {phase}')
-        r, block, undo = now[8:], rest[8:], phase & 1
+        r, steps, block, undo = now[8:], little_number(path, rest[:8]), rest[8:], phase & 1
         for _ in range(steps_of(len(r))):
             block = (standard.inv_cipher if undo else standard.cipher)(schedules[phase >> 1 & 1], block)
             r, steps, block = stepped(r, steps if undo else steps + 1, block, undo)
@@ -533,6 +531,37 @@ def kind_many(given, kek_len, text_len, count, only=None):
     call.changes(any_bytes('old', max(text_len - 8, 0))).changes(any_bytes('form', count))
     call.changes_numbers(any_bytes('number', given.module.size_bytes * count), count)
     call.changes(any_bytes('status', count)).check(expected, count if only is None else 1)
+
+
+def uneven_many(given, name, texts_len, lens, count, forms=None):
+    """A call for many keys of 16 bytes, whose numbers of bytes, lengths and statuses do not fit each other."""
+    call, texts = Call(given, f'keywrap_{name}').reads(any_bytes('kek', 16)), any_bytes('text', texts_len)
+    if name == 'rewrap_many':
+        call.reads(any_bytes('new', 16))
+    if name == 'kind_many':
+        call.reads(texts).changes(any_bytes('old', 16)).changes(any_bytes('form', count if forms is None else forms))
+    else:
+        call = call.changes(texts).number(16) if name == 'wrap_many' else call.changes(texts)
+        call.number32(0)
+    if name in ('unwrap_many', 'kind_many'):
+        call.changes_numbers(any_bytes('number', given.module.size_bytes * lens), lens)
+    call.changes(any_bytes('status', count)).check(lambda _: (BAD_LENGTH, None))
+
+
+def uneven_wrap_many(given, texts_len, count):
+    uneven_many(given, 'wrap_many', texts_len, 0, count)
+
+
+def uneven_unwrap_many(given, texts_len, lens, count):
+    uneven_many(given, 'unwrap_many', texts_len, lens, count)
+
+
+def uneven_rewrap_many(given, texts_len, count):
+    uneven_many(given, 'rewrap_many', texts_len, 0, count)
+
+
+def uneven_kind_many(given, texts_len, lens, forms, count):
+    uneven_many(given, 'kind_many', texts_len, lens, count, forms)
 
 
 def self_test(given):
@@ -736,7 +765,8 @@ def step_unwrap_many(given, n, left, count, lanes):
 
 CALLS = {f.__name__: f for f in (
     wrap, unwrap, wrap_with, unwrap_with, wrap_in_place, unwrap_in_place, wrap_padded, unwrap_padded,
-    wrap_padded_in_place, unwrap_padded_in_place, unwrap_any, kind, rewrap, rewrap_in_place, rewrap_steps, wrap_many,
-    unwrap_many, rewrap_many, kind_many, self_test, begin_wrap, begin_wrap_padded, step_wrap, end_wrap, begin_unwrap,
-    step_unwrap, end_unwrap, end_unwrap_padded, end_unwrap_any, begin_wrap_many, step_wrap_many, end_wrap_many,
+    wrap_padded_in_place, unwrap_padded_in_place, unwrap_any, kind, rewrap, rewrap_in_place, rewrap_steps,
+    wrap_many, unwrap_many, rewrap_many, kind_many, uneven_wrap_many, uneven_unwrap_many, uneven_rewrap_many,
+    uneven_kind_many, self_test, begin_wrap, begin_wrap_padded, step_wrap, end_wrap, begin_unwrap, step_unwrap,
+    end_unwrap, end_unwrap_padded, end_unwrap_any, begin_wrap_many, step_wrap_many, end_wrap_many,
     begin_unwrap_many, step_unwrap_many, end_unwrap_many)}

@@ -1,14 +1,15 @@
 #!/usr/bin/env python3
 """Checks keywrap.wasm or libkeywrap for x86-64 against the standards, for all inputs of some lengths at once.
 
-usage: check.py OBJECT [short | long | full]        a list of calls (short)
-       check.py OBJECT CALL NUMBER..                one call, for instance: wrap 32 16
+usage: check.py OBJECT [short | long | full] [PROCESSES]        a list of calls (short)
+       check.py OBJECT CALL NUMBER..                            one call, for instance: wrap 32 16
 
 OBJECT is a WebAssembly module or a shared object (.so). README.md says what a pass shows. The exit status is 0 if all
 calls pass, 1 if a call is refused, and 2 if the arguments are wrong."""
 
 import hashlib
 import inspect
+import multiprocessing
 import sys
 import textwrap
 import time
@@ -19,11 +20,9 @@ import x86
 from calls import CALLS, perform
 from terms import Refused
 
-GAPS = {'short': (16,), 'long': (16,), 'full': (16, 0)}
-
-
 def is_exported(module, name):
-    return ('keywrap_begin_rewrap' if name == 'rewrap_steps' else f'keywrap_{name}') in module.exports
+    export = 'begin_rewrap' if name == 'rewrap_steps' else name.removeprefix('uneven_')
+    return f'keywrap_{export}' in module.exports
 
 
 def show(name, numbers):
@@ -43,28 +42,52 @@ def show_all(name, calls):
     return f'{name}: {len(calls)} calls, {sum(paths for _, paths in calls)} paths; {", ".join(texts)}'
 
 
+def load(path):
+    """Returns the module, and keeps it for the calls of this process."""
+    global module
+    with open(path, 'rb') as file:
+        is_wasm = file.read(4) == b'\0asm'
+    module = (wasm if is_wasm else x86).Module(path)
+    return module
+
+
+def tried(todo):
+    """Makes a call. Returns its Result or the reason of its refusal, and its seconds of a processor."""
+    (name, *numbers), gap = todo
+    begun = time.process_time()
+    try:
+        result = perform(module, name, numbers, gap)
+    except Refused as refused:
+        result = str(refused)
+    return result, time.process_time() - begun
+
+
 def main(args):
     which = args[1] if len(args) > 1 else 'short'
     if not args or which not in lists.LISTS and which not in CALLS:
         print(__doc__, file=sys.stderr)
         return 2
+    exported, numbers = load(args[0]), [int(n) for n in args[2:]]
     with open(args[0], 'rb') as file:
-        content = file.read()
-    module = wasm.Module(args[0]) if content[:4] == b'\0asm' else x86.Module(args[0])
-    print(f'{hashlib.sha256(content).hexdigest()}  {args[0].rsplit("/", 1)[-1]}')
-    listed = list(lists.LISTS[which]()) if which in lists.LISTS else [(which, *map(int, args[2:]))]
-    missing = sorted({name for name, *_ in listed if not is_exported(module, name)})
-    todo = [(call, gap) for call in listed for gap in GAPS.get(which, (16, 0)) if call[0] not in missing]
-    begun, bad, places, passed = time.time(), 0, {}, {}
+        print(f'{hashlib.sha256(file.read()).hexdigest()}  {args[0].rsplit("/", 1)[-1]}')
+    listed = list(lists.LISTS[which]()) if which in lists.LISTS else [(which, *numbers)]
+    beside = listed if which in CALLS else list(lists.long_list()) if which == 'full' else []
+    missing = sorted({name for name, *_ in listed if not is_exported(exported, name)})
+    todo = [(call, gap) for gap, calls in ((16, listed), (0, beside)) for call in calls if call[0] not in missing]
+    processes = numbers[0] if which in lists.LISTS and numbers else 1
+    if processes > 1:
+        pool = multiprocessing.Pool(processes, load, args[:1])
+    made = pool.imap(tried, todo) if processes > 1 else map(tried, todo)
+    seconds, bad, places, passed = 0, 0, {}, {}
     for i, ((name, *numbers), gap) in enumerate(todo, 1):
-        line, since = f'[{i}/{len(todo)}] {show(name, numbers)}' + ' side by side' * (gap == 0), time.time()
+        line = f'[{i}/{len(todo)}] {show(name, numbers)}' + ' side by side' * (gap == 0)
         if sys.stderr.isatty():
             print(f'{line} ..', end='\r', file=sys.stderr, flush=True)
-        try:
-            result = perform(module, name, numbers, gap)
-        except Refused as refused:
+        result, took = next(made)
+        seconds += took
+        if isinstance(result, str):
             bad += 1
-            print(f'{line}: REFUSED: {refused}', flush=True)
+            print(f'{line}: REFUSED: {result}', flush=True)
             continue
         statuses = ', '.join(str(status) for status in sorted({status for status, _ in result.paths}))
         forks = sorted({place for _, forks in result.paths for place in forks})
@@ -73,9 +96,9 @@ def main(args):
         passed.setdefault(name, []).append((numbers, len(result.paths)))
         print(f'{line}: passes, status {statuses}, {len(result.paths)} paths, branches: {"; ".join(forks) or "none"}; '
               f'{result.lookups} look-ups in tables, {result.steps} instructions, {result.stack} bytes of stack, '
-              f'{time.time() - since:.1f} s', flush=True)
+              f'{took:.1f} s', flush=True)
     paths = sum(paths for calls in passed.values() for _, paths in calls)
-    lines = [f'{len(todo) - bad} of {len(todo)} calls pass, {paths} paths, {time.time() - begun:.0f} s']
+    lines = [f'{len(todo) - bad} of {len(todo)} calls pass, {paths} paths, {seconds:.0f} s of a processor']
     lines += [show_all(name, calls) for name, calls in passed.items()]
     if missing:
         lines.append(f'not exported: {", ".join(missing)}')

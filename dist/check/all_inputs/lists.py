@@ -4,17 +4,21 @@ import itertools
 
 KEKS = 16, 24, 32
 SHORT = """
-begin_wrap 16 8,begin_wrap_padded 5 8,step_wrap 16 3,step_unwrap 16 3,step_wrap 8 0,end_wrap 16 12,begin_unwrap 16 0
-begin_unwrap 8 1,end_unwrap 16 0,end_unwrap_padded 16 0,end_unwrap_any 16 0,wrap 17 16,wrap 16 8,wrap 16 17,wrap 16 20
-wrap 16 16 23,unwrap 16 16 23,wrap_padded 16 16 23,unwrap_padded 16 16 23,unwrap 16 8,unwrap_padded 16 15
-wrap_padded 16 0,unwrap_padded 16 8,wrap_padded 16 1,wrap_padded 16 17,wrap 16 16,unwrap 16 16,wrap 24 24,unwrap 24 24
-wrap 32 16,unwrap 32 16,unwrap_padded 32 16,wrap_with 16 16,unwrap_with 16 16,wrap_in_place 16 16,unwrap_in_place 16 16
-wrap_padded_in_place 16 9,unwrap_padded_in_place 16 16,unwrap_any 16 16,kind 16 16,rewrap 16 24 24 1,rewrap 16 32 24 8
-rewrap_in_place 16 16 24 2,rewrap_steps 16 24 24 9,rewrap_steps 16 16 16 4 1,wrap_many 16 16 0 2,unwrap_many 16 24 0 2
-rewrap_many 16 16 24 0 1,kind_many 16 16 1,begin_wrap_many 16 2 2,step_wrap_many 16 3 2 2,end_wrap_many 16 12 2 2
-begin_unwrap_many 16 2 2,step_unwrap_many 16 3 2 2,end_unwrap_many 16 0 2 2,self_test,wrap 16 352,unwrap 16 352
+begin_wrap 16 8,begin_wrap_padded 5 8,step_wrap 16 3,step_unwrap 16 3,step_wrap 87392 65535,step_unwrap 87392 65537
+step_wrap 8 0,end_wrap 16 12,begin_unwrap 16 0,begin_unwrap 88192,begin_unwrap 8 1,end_unwrap 16 0
+end_unwrap_padded 16 0,end_unwrap_any 16 0,wrap 17 16,wrap 16 8,wrap 16 17,wrap 16 20,wrap 16 16 23,unwrap 16 16 23
+wrap_padded 16 16 23,unwrap_padded 16 16 23,unwrap 16 8,unwrap_padded 16 15,wrap_padded 16 0,unwrap_padded 16 8
+wrap_padded 16 1,wrap_padded 16 17,wrap 16 16,unwrap 16 16,wrap 24 24,unwrap 24 24,wrap 32 16,unwrap 32 16
+unwrap_padded 32 16,wrap_with 16 16,unwrap_with 16 16,wrap_in_place 16 16,unwrap_in_place 16 16
+wrap_padded_in_place 16 9,unwrap_padded_in_place 16 16,unwrap_any 16 16,kind 16 16,rewrap 16 24 24 1,rewrap 16 24 24 5
+rewrap 16 32 24 8,rewrap_in_place 16 16 24 2,rewrap_steps 16 24 24 9,rewrap_steps 16 16 16 4 1,wrap_many 16 16 0 2
+unwrap_many 16 24 0 2,rewrap_many 16 16 24 0 1,kind_many 16 16 1,begin_wrap_many 16 2 2,step_wrap_many 16 3 2 2
+end_wrap_many 16 12 2 2,begin_unwrap_many 16 2 2,step_unwrap_many 16 3 2 2,end_unwrap_many 16 0 2 2
+uneven_wrap_many 49 2,uneven_unwrap_many 48 1 2,uneven_rewrap_many 49 2,uneven_kind_many 48 2 1 2,self_test,wrap 16 352
+unwrap 16 352
 """
 FLAGS = (0, 1, 2, 3, 4, 8, 9, 10, 11, 12)
+NO_FLAGS = (5, 6, 7, 13, 14, 15, 16, 32, 256, 1 << 31)
 
 
 def short_list():
@@ -47,16 +51,37 @@ def rewraps_list(pairs, texts):
             yield 'rewrap_in_place', old, new, text, flags
 
 
+def middle_list():
+    """Numbers of steps of two bytes, in each call that counts them itself."""
+    for name in ('wrap', 'unwrap', 'wrap_with', 'unwrap_with', 'wrap_in_place', 'unwrap_in_place', 'unwrap_any',
+                 'wrap_padded', 'unwrap_padded', 'wrap_padded_in_place', 'unwrap_padded_in_place', 'kind'):
+        yield name, 16, 352
+    for flags in 0, 10:
+        yield 'rewrap', 16, 24, 360, flags
+    yield 'rewrap_in_place', 16, 24, 360, 0
+    yield 'wrap_many', 16, 352, 0, 2, 1
+    yield 'unwrap_many', 16, 360, 0, 2, 1
+    yield 'kind_many', 16, 360, 2, 1
+    yield 'rewrap_many', 16, 24, 360, 0, 2, 0
+    yield 'rewrap_steps', 16, 24, 360, 0
+    yield 'step_wrap_many', 352, 256, 2, 2
+    yield 'step_unwrap_many', 352, 257, 2, 2
+
+
 def many_list(keks, places):
     for kek, count in itertools.product(keks, (1, 2)):
         yield 'wrap_many', kek, 16, 0, count
         yield 'wrap_many', kek, 11, 2, count
+        yield 'wrap_many', kek, 5, 2, count
+        yield 'rewrap_many', kek, 24, 16, 3, count
         yield 'unwrap_many', kek, 24, 0, count
         yield 'unwrap_many', kek, 16, 1, count
         yield 'kind_many', kek, 16, count
         yield 'kind_many', kek, 24, count
         yield 'rewrap_many', kek, 24, 24, 0, count
         yield 'rewrap_many', kek, 24, 24, 9, count
+    for flags in FLAGS:
+        yield 'rewrap_many', 16, 24, 24, flags, 1
     for count in 48, 49:
         yield 'wrap_many', 16, 16, 0, count
     for only in places:
@@ -111,6 +136,40 @@ def refusals_list():
     for name, kek, n, flags in itertools.product(('wrap_many', 'unwrap_many'), (16, 17), (0, 8, 23, 24), (0, 1, 2, 4)):
         if (kek, n) != (16, 24) and (name, flags) != ('unwrap_many', 1) or flags == 4:
             yield name, kek, n, flags, 2
+    for name in 'wrap', 'unwrap', 'wrap_in_place', 'unwrap_in_place', 'wrap_padded', 'unwrap_padded', 'unwrap_any':
+        yield name, 16, 1048584
+    for name, number in (('begin_wrap', 8), ('begin_unwrap', 0), ('step_wrap', 8), ('step_unwrap', 8),
+                         ('end_wrap', 786438), ('end_unwrap', 0), ('end_unwrap_padded', 0), ('end_unwrap_any', 0)):
+        yield name, 1048584, number
+    yield 'rewrap', 16, 24, 1048592, 0
+    for kek in 8, 20, 28, 40, 272:
+        for name in ('wrap', 'unwrap', 'wrap_with', 'unwrap_with', 'wrap_in_place', 'unwrap_in_place', 'wrap_padded',
+                     'unwrap_padded', 'wrap_padded_in_place', 'unwrap_padded_in_place', 'unwrap_any', 'kind'):
+            yield name, kek, 16
+        for old, new in (kek, 16), (16, kek):
+            yield 'rewrap', old, new, 24, 0
+            yield 'rewrap_in_place', old, new, 24, 0
+            yield 'rewrap_many', old, new, 24, 0, 2
+        yield 'wrap_many', kek, 16, 0, 2
+        yield 'unwrap_many', kek, 24, 0, 2
+        yield 'kind_many', kek, 24, 2
+    for texts_len, count in (0, 0), (48, 0), (0, 2), (47, 2), (49, 2), (24, 2), (48, 3):
+        yield 'uneven_wrap_many', texts_len, count
+        yield 'uneven_rewrap_many', texts_len, count
+        yield 'uneven_unwrap_many', texts_len, count, count
+        yield 'uneven_kind_many', texts_len, count, count, count
+    for lens in 0, 1, 3:
+        yield 'uneven_unwrap_many', 48, lens, 2
+        yield 'uneven_kind_many', 48, lens, 2, 2
+        yield 'uneven_kind_many', 48, 2, lens, 2
+    for flags in NO_FLAGS:
+        yield 'rewrap', 16, 24, 24, flags
+        yield 'rewrap_steps', 16, 24, 24, flags
+        yield 'rewrap_many', 16, 24, 24, flags, 2
+    for flags in *NO_FLAGS, 4, 8, 12:
+        yield 'rewrap_in_place', 16, 24, 24, flags
+        yield 'wrap_many', 16, 16, flags ^ 1, 2
+        yield 'unwrap_many', 16, 24, flags ^ 2, 2
     for kek, n in (17, 24), (16, 0), (16, 23):
         yield 'kind_many', kek, n, 2
         yield 'rewrap_many', kek, 16, n, 0, 2
@@ -118,6 +177,7 @@ def refusals_list():
 
 
 def long_list():
+    yield from middle_list()
     yield from lengths_list(KEKS, 32)
     yield from rewraps_list(((16, 16), (32, 24)), (16, 24, 32))
     yield from many_list((16,), (0, 47, 48))
@@ -126,18 +186,32 @@ def long_list():
     yield 'self_test',
 
 
+def far_list():
+    """Numbers of steps of two and of three bytes, first those that take longest."""
+    yield 'wrap', 16, 87392
+    yield 'unwrap', 16, 87392
+    for text_len in 264, 272:       # the longest slots that libkeywrap_hw copies, and longer ones
+        yield 'rewrap_many', 16, 24, text_len, 0, 48, 0
+        yield 'kind_many', 16, text_len, 48, 0
+    for kek in KEKS:
+        yield 'wrap', kek, 4096
+        yield 'unwrap', kek, 4096
+    yield 'wrap_padded', 16, 4096
+    yield 'unwrap_padded', 16, 4096
+    for name, done in itertools.product(('step_wrap', 'step_unwrap'), (255, 256, 257, 65535, 65536, 65537)):
+        yield name, 87392, done
+    yield 'begin_unwrap', 88192
+    yield from middle_list()
+
+
 def full_list():
+    yield from far_list()
     yield from lengths_list(KEKS, 64)
     yield from rewraps_list(tuple(itertools.product(KEKS, KEKS)), (16, 24, 32, 40))
     yield from many_list(KEKS, range(49))
     yield from steps_list(64)
     yield from refusals_list()
     yield 'self_test',
-    for kek in KEKS:
-        yield 'wrap', kek, 4096
-        yield 'unwrap', kek, 4096
-    yield 'unwrap_padded', 16, 4096
-    yield 'wrap', 16, 87392
 
 
 LISTS = {'short': short_list, 'long': long_list, 'full': full_list}

@@ -204,9 +204,12 @@ class Table:
 
 
 def looked_up(entries, v):
-    if entries not in Table.known:
-        Table.known[entries] = Table(entries)
-    return Table.known[entries].of(v)
+    if isinstance(v, int):
+        return entries[v]
+    table = Table.known.get(entries)
+    if table is None:
+        table = Table.known[entries] = Table(entries)
+    return table.of(v)
 
 
 class Refused(Exception):

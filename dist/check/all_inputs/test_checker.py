@@ -197,6 +197,9 @@ def older_atoms():
     Known.now = Known().with_zero(terms.xor(terms.substituted('T', terms.xor(x, 5)), terms.xor(z, 3)))
     assert Known.now.rewritten(before) == terms.substituted('T', terms.xor(terms.xor(x, 5), y))
     Known.now = Known()
+    # Two equations imply each of them, and one does not imply both.
+    one, both = Known().with_zero(x), Known().with_zero(terms.or_(x, terms.shl(y, 8, 64)))
+    assert both.implies(one) and not one.implies(both)
 
 
 GENERAL = ['rax', 'rcx', 'rdx', 'rbx', 'rbp', 'rsi', 'rdi', *(f'r{n}' for n in range(8, 16))]

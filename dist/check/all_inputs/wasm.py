@@ -3,6 +3,7 @@
 from paths import Machine, Path, cells_of
 from terms import V, Refused, add, and_, eq, eqz, ite, ltu, mul, ne, nz, or_, rotl, rotr, shl, shr, sub, xor
 
+STEPS = 1_000_000_000                   # more instructions than any call needs
 LOADS = {0x28: (4, 4), 0x29: (8, 8), 0x2D: (1, 4), 0x2F: (2, 4), 0x31: (1, 8), 0x33: (2, 8), 0x35: (4, 8)}
 STORES = {0x36: 4, 0x37: 8, 0x3A: 1, 0x3B: 2, 0x3C: 1, 0x3D: 2, 0x3E: 4}
 
@@ -275,6 +276,8 @@ class Run(Machine):
                         break
                     kind, start, end, height, arity = labels[-1 - depth]
                     if kind == 3:
+                        if self.steps > STEPS:
+                            raise Refused('so many instructions that it may not end')
                         del stack[height:]
                         if depth:
                             del labels[-depth:]

@@ -40,8 +40,7 @@ class Server:
         """Makes the table `keys` of wrapped keys by their ids, as bytea or as hex text."""
         prefix = r"\\x" if kind == "bytea" else ""
         copied = "".join(f"{number}\t{prefix}{key.hex()}\n" for number, key in keys.items())
-        self.sql("DROP TABLE IF EXISTS keys;\n"
-                 f"CREATE TABLE keys (id bigint PRIMARY KEY, key {kind});\n"
+        self.sql(f"DROP TABLE IF EXISTS keys;\nCREATE TABLE keys (id bigint PRIMARY KEY, key {kind});\n"
                  f"COPY keys FROM STDIN;\n{copied}\\.\nANALYZE keys;")  # fmt: skip
 
     def held(self, value="encode(key, 'hex')"):

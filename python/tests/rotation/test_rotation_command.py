@@ -55,8 +55,7 @@ class TestStatus:
     def test_rotates_many_files(self, store, jobs):
         done = rotate("--jobs", jobs, "--report", "report", *names(store))
         assert (done.status, found_in(store), len(done.said)) == (0, ALL_NEW, 1)
-        assert done.counts == {"passes": 2, "keys": 240, "new": 240, "old": 0, "refused": 0,
-                               "rewrapped": 240}
+        assert done.counts == {"passes": 2, "keys": 240, "new": 240, "old": 0, "refused": 0, "rewrapped": 240}
         *lines, last = report_of("report")
         for number, old in (1, 30), (2, 0):
             units = [line for line in lines if line["number"] == number]
@@ -79,8 +78,7 @@ class TestStatus:
         assert (verified.status, verified.counts["refused"]) == (5, 240)
         assert list(map(seen, sorted(store.iterdir()))) == before
         assert rotate(str(store)) == 0
-        dry = rotate("--dry-run", str(store))
-        assert (dry.status, dry.counts["new"]) == (0, 240)
+        assert rotate("--dry-run", store).counts["new"] == 240
         os.unlink("kek.hex")
         assert rotate("--verify", str(store)) == 0
 
@@ -129,30 +127,26 @@ class TestArguments:
         (["--csv", "key", "--raw"], 2, "--raw goes with neither --csv, --json nor a prefix"),
         (["--table", "keys", "--quiesced"], 2, "--quiesced goes with files only"),
         (["--postgresql", "keys"], 2, "--postgresql goes with neither FILE"),
-        (["--record", "record"], 2, "--record and --verify-record go with --verify"),
-        (["--verify", "--rate", "5"], 2, "--rate goes with a rotation only"),
+        (["--verify-record", "record"], 2, "--verify-record goes with --verify"),
         (["--kek-name", "who", "--csv", "key"], 2, "--kek-name and --keks, or --new-keks, go together"),
         (["--prefix", "v1:"], 2, "--prefix and --new-prefix go together"),
         (["--prefix", "v1", "--new-prefix", "v11"], 2, "one prefix begins with another one"),
         (["--prefix", "v1:", "--new-prefix", "v2:\n"], 2, "neither blanks at its ends nor control characters"),
         (["--get", "cp {name} {file}"], 2, "--get, --put and --files-from go together, without FILE"),
         (["--verify", "--verify-record", "none"], 2, "--verify-record: none: No such file or directory"),
-        (["--verify", "--verify-record", "kek.hex"], 2, "kek.hex: it is not a whole record of status 0"),
-        (["--verify", "--record", "kek.hex"], 2, "--record: kek.hex: it is there already"),
-        (["--new-kek", "kek.hex"], 2, "the KEK and the new KEK are the same key"),
+        (["--verify", "--verify-record", "kek.hex"], 2, "kek.hex: it is not a whole report of status 0"),
+        (["--kek", "kek.hex", "--kek", "new-kek.hex"], 2, "the KEK and the new KEK are the same key"),
         (["--kek", "none"], 3, "the KEK: {}/none: No such file or directory"),
         (["--new-kek", "."], 3, "the new KEK: {}: Is a directory"),
         (["--report", "/dev/full/none"], 2, "--report: /dev/full/none: Not a directory"),
         (["--report", "kek.hex"], 2, "--report: kek.hex: File exists"), (["--report", "link"], 2, "link: File exists"),
         (["--report", "fifo"], 2, "fifo: File exists"), (["--report", "/dev/full"], 2, "/dev/full: File exists"),
-        (["--verify", "--record", "/dev/full"], 2, "it is there already"),
-        (["--verify", "--verify-record", "/dev/zero"], 2, "it is not a whole record"),
-        (["--verify", "--verify-record", "fifo"], 2, "it is not a whole record"),
+        (["--verify", "--verify-record", "/dev/zero"], 2, "it is not a whole report"),
+        (["--verify", "--verify-record", "fifo"], 2, "it is not a whole report"),
         (["--files-from", "/dev/zero"], 5, "not a regular file"), (["--files-from", "fifo"], 5, "not a regular file"),
         (["--kek", "/dev/zero"], 3, "the KEK: /dev/zero: too long"), (["--new-kek", "/dev/full"], 3, "too long"),
         (["--new-challenge", "/dev/zero"], 3, "too long"), (["--new-challenge", "new-kek.hex"], 3, "KEKs swapped?"),
-        (["--csv", "key", "--kek-name", "who", "--keks", "/dev/zero"], 3, "--keks: /dev/zero: too long"),
-    ])
+        (["--csv", "key", "--kek-name", "who", "--keks", "/dev/zero"], 3, "--keks: /dev/zero: too long")])
     def test_refuses_arguments_and_keks(self, store, keks, words, status, line):
         os.symlink("kek.hex", "link")
         os.mkfifo("fifo")
@@ -193,15 +187,12 @@ class TestArguments:
 
 
 class TestOutput:
-    @pytest.mark.parametrize("words", ["--report", "--verify --record"])
-    @pytest.mark.parametrize("where", ["0", "report", "below/report"])
-    def test_an_output_is_none_of_the_files(self, store, words, where):
-        (store / "below").mkdir()
-        *mode, option = words.split()
-        done = rotate(*mode, option, str(store / where), str(store))
-        said = f"keywrap.rotate: {option}: {store / where}: it is one of the files, or below them"
-        assert (done.status, done.said) == (2, [said])
-        assert found_in(store) == ["old"] * FILES and not (store / "report").exists()
+    def test_a_report_among_the_files(self, store):
+        """It is no file of keys, and replaces none."""
+        assert rotate("--report", store / "0", store).has("--report") and found_in(store) == ["old"] * FILES
+        done = rotate("--report", store / "report", store)
+        assert (done.status, found_in(store)) == (5, ALL_NEW)
+        assert report_of(store / "report")[-1]["status"] == 5
 
     def test_a_report_or_record_that_cannot_be_written(self, store):
         """A status of its own. What was rotated is new."""
@@ -209,8 +200,8 @@ class TestOutput:
             (store / str(number)).write_bytes(lines_under(KEK, KEYS[0][:1]))
         for words in ["--report", "report"], ["--verify", "--record", "record"]:
             done = rotate(*words, store, preexec_fn=lambda: resource.setrlimit(resource.RLIMIT_FSIZE, (8192, 8192)))
-            assert (done.status, done.said[-1]) == (4, "keywrap.rotate: the report or record: File too large")
-            assert left_over(store) == [] and not os.path.exists("record")
+            assert (done.status, done.said[-1]) == (4, "keywrap.rotate: the report: File too large")
+            assert left_over(store) == []
             assert rotate(store) == 0
 
     @pytest.mark.parametrize("name", ["bad\x1b[2J\rkeywrap.rotate: all is well", "new\nline", "\udcff"])
@@ -271,8 +262,8 @@ class TestRecord:
         of_kind(path, kind, NEW_KEK)
         for name in ("record", "again"):
             assert rotate("--record", name, *words) == 0
-        first, again = ([json.loads(line) for line in open(name)] for name in ("record", "again"))
-        assert (first[-1]["chain"], first[-1]["status"]) == (again[-1]["chain"], 0)
+        first, again = map(report_of, ("record", "again"))
+        assert (first[-1]["status"], first[0]["digest"]) == (0, again[0]["digest"])
         assert [line["keys"] for line in first[:-1]] == [1 if kind == "one-key" else 30]
         assert os.stat("record").st_mode & 0o777 == 0o600 and len(os.listdir()) == 5
         assert rotate("--verify-record", "record", *words) == 0
@@ -297,18 +288,18 @@ class TestRecord:
                 "1: missing or changed", "1: added or changed", "3: missing or changed", "4a: added or changed",
                 "7: missing or changed")))
 
-    @pytest.mark.parametrize("change", [
-        lambda lines: [lines[0].replace('"keys": 30', '"keys": 31'), *lines[1:]], lambda lines: lines[1:],
-        lambda lines: [re.sub('"digest": "..', '"digest": "00', lines[0]), *lines[1:]], lambda lines: lines[:-1],
-        lambda lines: [*lines[:-1], lines[-1].replace('"status": 0', '"status": 00')], lambda lines: [],
-        lambda lines: ["[" * 100000], lambda lines: ["[1]\n", *lines], lambda lines: [*lines[:1], *lines]])
-    def test_a_record_that_was_changed_is_refused(self, store, change):
+    @pytest.mark.parametrize("status, change", [
+        (5, lambda lines: [lines[0].replace('"keys": 30', '"keys": 31'), *lines[1:]]), (5, lambda lines: lines[1:]),
+        (5, lambda lines: [re.sub('"digest": "..', '"digest": "00', lines[0]), *lines[1:]]),
+        (2, lambda lines: lines[:-1]), (2, lambda lines: [*lines[:-1], lines[-1].replace('"status": 0', '"status": 00')]),
+        (2, lambda lines: []), (2, lambda lines: ["[" * 100000]), (2, lambda lines: ["[1]\n", *lines]),
+        (0, lambda lines: [*lines[:1], *lines])])
+    def test_a_record_that_was_changed_is_no_success(self, store, status, change):
         rotate(str(store))
         rotate("--verify", "--record", "record", str(store))
         lines = pathlib.Path("record").read_text().splitlines(keepends=True)
         pathlib.Path("changed").write_text("".join(change(lines)))
-        done = rotate("--verify", "--verify-record", "changed", str(store))
-        assert done == (0 if change(lines) == [*lines[:1], *lines] else 2)
+        assert rotate("--verify", "--verify-record", "changed", str(store)) == status
 
     @pytest.mark.parametrize("status", [5, 130])
     def test_a_record_of_a_run_that_did_not_end_with_0(self, store, status):
@@ -321,12 +312,9 @@ class TestRecord:
             running.send_signal(signal.SIGINT)
             assert ended(running) == 130
         done = rotate("--verify", "--verify-record", "record", str(store))
-        assert (done.status, done.has("it is not a whole record of status 0")) == (2, True)
+        assert (done.status, done.has("it is not a whole report of status 0")) == (2, True)
         last = open("record").read().splitlines()[-1]
         assert json.loads(last)["status"] == status
-        with open("record", "a") as file:
-            file.write(last.replace(f'"status": {status}', '"status": 0') + "\n")
-        assert rotate("--verify", "--verify-record", "record", str(store)) == 2
 
 
 class TestNames:
@@ -373,7 +361,6 @@ class TestNames:
 
 
 def test_progress_on_a_terminal(store):
-    pytest.importorskip("tqdm", reason="no tqdm (apt-get install python3-tqdm)")
     ours, theirs = pty.openpty()
     done = subprocess.run([*ROTATE, "--jobs", "1", *names(store)], check=False, stderr=theirs)
     os.close(theirs)
@@ -383,7 +370,7 @@ def test_progress_on_a_terminal(store):
             shown += os.read(ours, 1000)
     except OSError:
         os.close(ours)
-    assert done.returncode == 0 and "%" in shown.decode() and "b" in shown.decode()
+    assert done.returncode == 0 and re.search(r"\b\d+ %", shown.decode())
     assert "240 rewrapped" in shown.decode().rstrip().replace("\r", "\n").splitlines()[-1]
 
 
@@ -477,13 +464,14 @@ class TestProcesses:
         ("1 / 0", "unexpected ZeroDivisionError"),
         ('os.path.exists("hung") or os.mkdir("hung") or time.sleep(1000)', "")])
     def test_a_unit_with_a_defect_harms_no_other_one(self, store, what, why):
-        """And one that hangs once is done again."""
+        """Not even those of its batch. One that hangs once is done again."""
+        fill(store, [*KEYS, *[KEYS[0][:1]] * 92])
         done = with_files(f'name == "5" and ({what})', "--timeout", "1", store)
         assert done == (6 if why else 0) and done.has(f"keywrap.rotate: {store}/5: {why}") == (why != "")
-        assert found_in(store).count("new") == (7 if why else 8)
+        assert found_in(store).count("new") == (7 if why else 8) and done.counts["new"] == (302 if why else 332)
 
     @pytest.mark.parametrize("slowly", [
-        "from keywrap.rotation import files; files.BLOCK = 1000\n" + SLOWLY[-1].split("from keywrap.rotate")[0],
+        "from keywrap.rotation import replacing; replacing.BLOCK = 1000\n" + SLOWLY[-1].split("from keywrap.rotate")[0],
         "def slow(*words, real=os.pread): time.sleep(0.05); return real(*words)\nos.pread = slow\n"
         "from keywrap.rotation import replacing; replacing.BLOCK = 4000",
         "def slow(disk, real=os.fsync): time.sleep(3), real(disk)\nos.fsync = slow"], ids=["file", "read", "disk"])

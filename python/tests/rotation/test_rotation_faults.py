@@ -143,8 +143,6 @@ def test_kills_at_each_point_of_an_exchange(store, what, each, numbers):
             assert all((store / name).read_bytes() in THEIRS for name in left_over(store))
 
 
-# Programs that rename, make, replace and delete files while a rotation runs.
-
 MOVER = """
 import os, random, sys, time
 how, rate = sys.argv[1], float(sys.argv[2])
@@ -171,7 +169,7 @@ while True:
 @pytest.mark.parametrize("how, rate", [("move", 50), ("move", 500), ("move", 5000), ("churn", 2000)])
 @pytest.mark.parametrize("runs", [3, pytest.param(24, marks=evidence)])
 def test_beside_programs_that_rename(store, how, rate, runs):
-    """Status 0 is never wrong, and it comes beside fifty renames a second, within ten seconds of a quiet machine."""
+    """Status 0 is never wrong, and it comes beside fifty renames a second, on a quiet machine within ten seconds."""
     keys = make_keys(1200)
     expected = {lines_under(NEW_KEK, [key]) for key in keys}
     for _ in range(runs):
@@ -182,12 +180,13 @@ def test_beside_programs_that_rename(store, how, rate, runs):
         mover = subprocess.Popen([sys.executable, "-B", "-c", MOVER, how, str(rate)])
         began = time.monotonic()
         try:
-            done = rotate("--jobs", "1", store)
+            done = rotate("--jobs", "1", store, timeout=1000)  # On a busy machine each pass takes long.
         finally:
             mover.kill()
             mover.wait()
         found = {path.read_bytes() for path in store.glob("*/f*")}
         assert len(found) == len(keys) and done.status in (0, 6), done
-        assert rate > 50 or done == 0 and (runs < 24 or time.monotonic() - began < 10), done
+        is_slow = time.monotonic() - began > 10 and os.getloadavg()[0] < os.cpu_count()
+        assert rate > 50 or done == 0 and not is_slow, done
         assert found == expected or done == 6
         assert rotate(store) == 0 and {path.read_bytes() for path in store.glob("*/f*")} == expected

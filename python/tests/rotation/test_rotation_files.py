@@ -1,6 +1,7 @@
 """The engine over files of lines, files of one key, CSV and JSON Lines: one unit, undisturbed and beside writers."""
 
 import base64
+import functools
 import io
 import json
 import os
@@ -14,21 +15,29 @@ from rotation_help import (KEK, NEW_KEK, left_over, lines_under, make_keys, pyca
                            wrapped_under)
 
 from keywrap import _many, rotate
-from keywrap.rotation import files, found, replacing
+from keywrap.rotation import found, keys, replacing
 from keywrap.rotation.fields import Fields
-from keywrap.rotation.files import Files, Lines, OneKey
-from keywrap.rotation.keys import Notation
+from keywrap.rotation.files import Files, lines, one_key
+from keywrap.rotation.keys import BLANKS, Notation, renewed
 from keywrap.rotation.listing import Names, Unit
 
 HEX, BASE64, RAW = Notation(), Notation("base64"), Notation("raw")
 
 
+def Lines(notation):
+    return functools.partial(lines, notation)
+
+
+def OneKey(notation):
+    return functools.partial(one_key, notation)
+
+
 def Csv(name, notation=HEX):
-    return Fields(True, name, notation)
+    return Fields(True, name, notation).renewed
 
 
 def Json(name, notation=HEX):
-    return Fields(False, name, notation)
+    return Fields(False, name, notation).renewed
 
 
 KEYS = make_keys(12)
@@ -46,9 +55,10 @@ def file(tmp_path):
 
 def rotated(path, format=None, may_write=True, verify=False):
     """What is found in one unit. No temporary file is left."""
-    store, pair = Files(format or Lines(HEX), Names([str(path)])), rotate.challenges()
-    rings = (pair._replace(old=(), challenge=None) if verify else pair).rings()
-    answer = found.found_by(lambda: store.do(Unit(str(path), str(path), 1), rings, may_write))
+    store, rings = Files(format or Lines(HEX), Names([str(path)])), rotate.challenges().rings()
+    if verify:
+        rings = {None: rings[None]._replace(old=())}
+    answer = found.found_by(lambda: store.do(Unit(str(path), 1, ""), rings, may_write))
     assert left_over(path.parent) == []
     return answer
 
@@ -72,8 +82,7 @@ def refused(path, format=None):
 @pytest.mark.parametrize("block", [100, 1000, 1 << 18])
 def test_a_restart_finds_the_first_old_key(file, monkeypatch, new, block):
     """What is new before it is copied in blocks, and never unwrapped under the KEK."""
-    monkeypatch.setattr(files, "BLOCK", block)
-    monkeypatch.setattr(replacing, "BLOCK", 7)
+    monkeypatch.setattr(replacing, "BLOCK", block)
     file.write_bytes(lines_under(NEW_KEK, KEYS[:new]) + lines_under(KEK, KEYS[new:]))
     assert rotated(file).new == new
     assert file.read_bytes() == NEW
@@ -92,7 +101,7 @@ def with_line(number, line, content=OLD):
         b"0g" * 24 + b" \r\n", b"00 " * 24 + b"\n", b"0" * 49 + b"\n", b"\x0b\x00\xff\n"))])
 @pytest.mark.parametrize("block", [100, 1 << 18])
 def test_a_refused_line_is_named_and_stays_to_the_byte(file, monkeypatch, number, line, why, block):
-    monkeypatch.setattr(files, "BLOCK", block)
+    monkeypatch.setattr(replacing, "BLOCK", block)
     file.write_bytes(with_line(number, line))
     for _ in range(2):
         assert refused(file) == [f"line {number}: {why}"]
@@ -121,24 +130,24 @@ class TestKeys:
     def test_lines_with_something_else_among_them(self, file, monkeypatch, seed):
         """Lines of one length are taken at once. Each line gets its own result."""
         source = random.Random(seed)
-        monkeypatch.setattr(files, "BLOCK", source.choice([82, 200, 1000, 1 << 18]))
-        wrap = source.choice([pyca.aes_key_wrap, pyca.aes_key_wrap_with_padding])
-        length = source.choice([16, 24, 32])
-        found = [wrap(KEK, source.randbytes(length)).hex().encode() + b"\n" for _ in range(source.randrange(1, 12))]
-        for at in source.sample(range(len(found)), min(len(found), source.choice([0, 1, 1, 2, 4]))):
-            line = found[at]
+        monkeypatch.setattr(replacing, "BLOCK", source.choice([82, 200, 1000, 1 << 18]))
+        monkeypatch.setattr(keys, "PART", source.choice([2, 64]))
+        wrap, length = source.choice([pyca.aes_key_wrap, pyca.aes_key_wrap_with_padding]), source.choice([16, 24, 32])
+        each = [wrap(KEK, source.randbytes(length)).hex().encode() + b"\n" for _ in range(source.randrange(1, 12))]
+        for at in source.sample(range(len(each)), min(len(each), source.choice([0, 1, 1, 2, 4]))):
+            line = each[at]
             digit = source.randrange(len(line) - 1)
-            found[at] = source.choice([
+            each[at] = source.choice([
                 wrap(NEW_KEK, source.randbytes(length)).hex().encode() + b"\n", line.upper(), b" " + line, b"\n", b" \n",
                 wrap(NEW_KEK, bytes(length)).hex().upper().encode() + b"\n", line[:-1] + b" \n", line[2:], line[1:],
                 wrap(bytes(16), bytes(length)).hex().encode(), line[:-1] + b"\r\n", line + line[:2] + b"\n", line[:-1],
                 *(line[:digit] + other + line[digit + 1 :] for other in (
                     b"\n", b" ", b"g", b"\xff", b"%x" % (int(line[digit : digit + 1], 16) ^ 1)))])
-        if len(found) > 2 and source.randrange(3) == 0:  # As long together as they were, with LF in other places.
-            at = source.randrange(1, len(found) - 1)
-            one, other = found[at : at + 2]
-            found[at : at + 2] = source.choice([(other[:2] + one, other[2:]), (one[:-1] + b" " + other,)])
-        content = b"".join(found)
+        if len(each) > 2 and source.randrange(3) == 0:  # As long together as they were, with LF in other places.
+            at = source.randrange(1, len(each) - 1)
+            one, other = each[at : at + 2]
+            each[at : at + 2] = source.choice([(other[:2] + one, other[2:]), (one[:-1] + b" " + other,)])
+        content = b"".join(each)
         file.write_bytes(content)
         expected = [rotated_line(line) for line in io.BytesIO(content)]
         answer = rotated(file)
@@ -146,6 +155,11 @@ class TestKeys:
         refused = {f"line {at}" for at, (_, is_refused, _) in enumerate(expected, 1) if is_refused}
         assert ({place for place, _ in answer.named}, answer.refused) == (refused, len(refused))
         assert (answer.keys, answer.new) == (len(expected), sum(is_new for _, _, is_new in expected))
+        texts, also = [line.strip(BLANKS) for line in io.BytesIO(content)], found.Found()
+        assert renewed(rotate.challenges().rings(), HEX, texts, also, str) == {
+            at: line[:-1] for at, (line, is_refused, is_new) in enumerate(expected) if not (is_refused or is_new)}
+        assert (also.counts(), len(also.named)) == (answer.counts(), len(refused))
+        assert renewed(rotate.challenges().rings(), HEX, [lines_under(KEK, EQUAL[:2]).strip()], also, str) == {}
 
     @pytest.mark.parametrize("format", [Lines(HEX), OneKey(HEX), OneKey(RAW), Csv("key"), Json("key")])
     def test_a_long_line_is_refused_before_it_is_read_whole(self, file, format):
@@ -168,7 +182,6 @@ class TestKeys:
         monkeypatch.setattr(_many, "check_slots", check_slots)
         assert refusal(file) == "a rewrapped key is not under the new KEK"
 
-    # Notations, and files of one key.
     @pytest.mark.parametrize("notation, write, read", [
         ("base64", base64.b64encode, base64.b64encode), ("base64", base64.b64encode, base64.urlsafe_b64encode),
         ("base64", base64.b64encode, lambda key: base64.b64encode(key).rstrip(b"=")),
@@ -216,7 +229,8 @@ def json_lines(kek):
 
 class TestRecords:
     @pytest.mark.parametrize("format, content", [
-        (Csv("key"), csv_of), (Csv("key"), lambda kek: csv_of(kek, "\n")), (Json("key"), json_lines)])
+        (Csv("key"), csv_of), (Csv("key"), lambda kek: csv_of(kek, "\n")), (Json("key"), json_lines),
+        (Csv("key"), lambda kek: b"\xef\xbb\xbfkey\n" + lines_under(kek, KEYS))])
     def test_rotates_one_field_of_each_record(self, file, format, content):
         file.write_bytes(content(KEK))
         for _ in range(2):
@@ -250,9 +264,9 @@ class TestRecords:
         good = wrapped_under(KEK, KEYS[0]).hex()
         wrong = ['{"key": 1}', '{"key": 1.5}', "[]", "{", f'{{"key": "{good}", "key": "{good}"}}', '{"key": "00"}']
         file.write_text("\n".join([*wrong, f'{{"key": "{good}"}}', "[" * 100000]))
-        no_string, no_json = "not a string in an object", "not JSON, or a member comes twice"
+        no_string, no_json = "not a string", "not a JSON object, or a member comes twice"
         assert sorted(refused(file, Json("key"))) == [
-            f"line 1: {no_string}", f"line 2: {no_string}", f"line 3: {no_string}", f"line 4: {no_json}",
+            f"line 1: {no_string}", f"line 2: {no_string}", f"line 3: {no_json}", f"line 4: {no_json}",
             f"line 5: {no_json}", "line 6: bad length", f"line 8: {no_json}"]
         assert json.loads(file.read_text().splitlines()[6])["key"] == wrapped_under(NEW_KEK, KEYS[0]).hex()
 
@@ -277,12 +291,10 @@ class TestAccess:
 
     def test_the_longest_name(self, tmp_path):
         """A longer one is refused by a dry run, too; to verify it is no problem."""
-        for length in (186, 187):
+        for length, refused in ((186, 0), (187, 1)):
             path = tmp_path / ("n" * length)
             path.write_bytes(OLD)
-            if length == 186:
-                assert rotated(path).refused == 0
-                assert path.read_bytes() == NEW
+            assert (rotated(path).refused, path.read_bytes()) == (refused, OLD if refused else NEW)
         assert "its name is longer than 186 bytes" in refusal(path)
         assert "its name is longer" in rotated(path, may_write=False).named[0][1]
         path.write_bytes(NEW)
@@ -369,7 +381,7 @@ class TestChanges:
     @pytest.mark.parametrize("block", [100, 1 << 16])
     def test_two_writes_within_a_tick_of_the_clock(self, file, meanwhile, monkeypatch, change, keys, block):
         """Then the time of the file is the same, and only its content differs."""
-        monkeypatch.setattr(files, "BLOCK", block)
+        monkeypatch.setattr(replacing, "BLOCK", block)
         monkeypatch.setattr(replacing, "identity", lambda status: str(status.st_ino))
         meanwhile(lambda: change(file))
         assert rotated(file).digest
@@ -377,7 +389,7 @@ class TestChanges:
 
     def test_what_is_copied_is_what_was_read(self, file, meanwhile, monkeypatch):
         """New keys at the start of a file are copied later. Here somebody changes them in place, and back again."""
-        monkeypatch.setattr(files, "BLOCK", 100)
+        monkeypatch.setattr(replacing, "BLOCK", 100)
         file.write_bytes(content := lines_under(NEW_KEK, KEYS[:3]) + lines_under(KEK, KEYS[3:]))
         before = file.stat()
         contents = iter([b"0" + content[1:]] * 2)  # while the first block is rewrapped

@@ -16,7 +16,8 @@ import pytest
 from rotation_help import (KEK, NEW_KEK, ROTATE, evidence, make_keys, pyca, rotate, secrets_in, set_keks, wrapped_under,
                            write_lines)
 
-from keywrap.rotate import Keks, WrongKeks, challenges, rewrap_all
+from keywrap.rotate import WrongKeks, challenges, rewrap_all
+from keywrap.rotation.options import keks_of, parse
 
 KEYS = make_keys(12)
 OTHERS = [bytes([number]) * length for number, length in ((1, 32), (2, 16), (3, 24))]
@@ -133,13 +134,11 @@ def test_a_key_under_any_of_several_keks(keks):
 
 
 @pytest.mark.parametrize("kek", [0, 1, 2])
-def test_lines_of_one_length_under_one_of_several_keks(keks, kek, monkeypatch):
-    """All lines at once: they are counted under the KEK that fits. Here variables name the KEKs."""
-    monkeypatch.setenv("KEYWRAP_KEK_2", str(keks / "0.hex"))
-    monkeypatch.setenv("KEYWRAP_KEK_3", str(keks / "1.hex"))
+def test_lines_of_one_length_under_one_of_several_keks(keks, kek):
+    """All lines at once: they are counted under the KEK that fits."""
     plain = [bytes([at]) * 32 for at in range(50)]
     write_lines("store", hexes([KEK, *OTHERS][kek], plain))
-    done = rotated("store")
+    done = rotated(*SEVERAL, "store")
     assert (done.status, read("store")) == (0, hexes(NEW_KEK, plain))
     assert done.said[0] == f"keywrap.rotate: 50 keys were under {keks}/{('kek', '0', '1')[kek]}.hex"
 
@@ -204,7 +203,7 @@ class TestNames:
         done = rotated(*words, "keys.db")
         assert (done.status, [line.split("keys.db: ")[1] for line in done.said[:2]]) == (
             5, ["row 2: no KEK for the name 'stranger'", "row 3: it has no name of a KEK"])
-        assert rotated(*words[:-1], "ownr", "keys.db").has("the table 'keys' has no column 'ownr'")
+        assert rotated(*words[:-1], "ownr", "keys.db").has("no such column (table keys, column key, ownr)")
 
     def test_a_name_does_not_try_other_keks(self):
         """A key that is under the KEK of another name is refused."""
@@ -218,13 +217,12 @@ class TestNames:
 
     @pytest.mark.parametrize("table, lines, why", [
         ("table", ["a=table0.hex", "b c"], "line 2 is not NAME="), ("table", ["=table0.hex"], "line 1 is not NAME="),
-        ("table", ["a=table0.hex", "a=table1.hex"], "line 2 has a name that an earlier line has"),
-        ("table", [], "it has no line"),
+        ("table", ["a=table0.hex", "a=table1.hex"], "line 2 is not NAME=FILE, or has the name of an earlier line"),
+        ("table", [], "line 1 is not NAME="),
         ("table", ["a=none.hex", "b c=table1.hex", "ü=table2.hex"], "none.hex: No such file or directory"),
-        ("table", ["a=table", "b c=table1.hex", "ü=table2.hex"], "--keks: a: {}/keks/table: not hex"),
+        ("table", ["a=table", "b c=table1.hex", "ü=table2.hex"], "the KEK of 'a': {}/keks/table: not hex"),
         ("table", ["a=table0.hex", "b c=new-table1.hex", "ü=table2.hex"], "the KEK and the new KEK are the same key"),
-        ("new-table", ["a=new-table0.hex"], "only one of them has 'b c'"),
-    ])
+        ("new-table", ["a=new-table0.hex"], "only one of them has 'b c'")])
     def test_a_wrong_table_is_refused_before_anything_is_written(self, keks, table, lines, why):
         words = tables()
         write_lines("store", in_csv(OF_TABLE))
@@ -234,12 +232,12 @@ class TestNames:
         assert read("store") == in_csv(OF_TABLE)
 
     def test_a_table_that_changes_meanwhile(self):
-        tables()
-        pair = Keks(table="keks/table", new_table="keks/new-table").challenged()
+        """It is read once. KEKs that change are refused."""
+        options = parse([*tables(), "--csv", "key", "--kek-name", "owner", "store"])
+        pair = keks_of(options).challenged()
+        write_lines("keks/table", [])
         assert pair.rings().keys() == OF_TABLE.keys()
-        write_lines("keks/table", read("keks/table")[::-1])
-        assert pair.rings().keys() == OF_TABLE.keys()
-        write_lines("keks/table", [line.replace("table0", "table1") for line in read("keks/table")])
+        write_lines("keks/table1.hex", [OTHERS[0].hex()])
         with pytest.raises(WrongKeks):
             pair.rings()
 

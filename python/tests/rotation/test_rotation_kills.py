@@ -5,7 +5,6 @@ moment, and two rotations at once, also of halves of the store.
 With KEYWRAP_KILLS=N there are N times the 48 kills.
 """
 
-import collections
 import contextlib
 import fcntl
 import json
@@ -26,9 +25,9 @@ FILES = 8
 OTHER_KEK = bytes(range(200, 224))
 RANDOMLY = patched("""import random
 from keywrap import _many
-from keywrap.rotation import replacing, rows
+from keywrap.rotation import keys, replacing
 from rotation_help import before_each_key
-rows.ROWS = 10
+keys.ROWS = 10
 def wait(seconds):
     time.sleep(random.random() * seconds)
 def slow(*words, real=replacing.exchange):
@@ -44,7 +43,7 @@ class Files:
     words, places = ["store"], 120
 
     def __init__(self, keys, server):
-        self.keys = dict(keys)
+        self.keys, self.last = dict(keys), {}
         os.makedirs("store")
         for number in range(FILES):
             self.rename(number, {place: key for place, key in self.keys.items() if place % FILES == number})
@@ -54,8 +53,14 @@ class Files:
         os.rename("their", f"store/{name}")
 
     def write(self, place, wrapped):
-        """Reads the file, changes one key, and renames a new file into its place. Only the rotation writes it, too."""
-        self.rename(place % FILES, {**self.read(place % FILES), place: wrapped})
+        """Reads the file, changes one key, and renames a new file into its place. Only the rotation writes it, too. In
+        the middle of an exchange, the file lacks what was written right before: then this is tried again later."""
+        number = place % FILES
+        held = self.read(number)
+        if not held.items() >= self.last.get(number, {}).items():
+            raise LookupError
+        self.rename(number, {**held, place: wrapped})
+        self.last[number] = {place: wrapped}
 
     def read(self, number):
         found = map(bytes.fromhex, pathlib.Path(f"store/{number}").read_text().split())
@@ -177,24 +182,31 @@ def disturb(source, running):
 
 
 class Writer(threading.Thread):
-    """Writes keys under the new KEK into the first places, and remembers what it wrote last."""
+    """Writes keys under the new KEK, and remembers where it wrote which."""
 
     def __init__(self, store, source):
         super().__init__()
-        self.store, self.source, self.acknowledged, self.stopped = store, source, {}, threading.Event()
+        self.store, self.source, self.acknowledged, self.stopped = store, source, [], threading.Event()
 
     def run(self):
         while not self.stopped.is_set():
             place, key = self.source.randrange(self.store.places), self.source.randbytes(24)
-            self.store.write(place, wrapped_under(NEW_KEK, key))
-            self.acknowledged[place] = key
+            with contextlib.suppress(LookupError):
+                self.store.write(place, wrapped_under(NEW_KEK, key))
+                self.acknowledged.append((place, key))
             time.sleep(self.source.random() * 0.02)
+
+    def __enter__(self):
+        self.start()
+        return self.acknowledged
+
+    def __exit__(self, *error):
+        self.stopped.set()
+        self.join(timeout=60)
 
 
 KINDS = {"lines": Files, "files of one key": OneKey, "objects": Objects, "SQLite": Sqlite, "SQLite with a log": Log,
          "PostgreSQL": Postgresql}
-each_store = pytest.mark.parametrize("kind", KINDS)
-each_round = pytest.mark.parametrize("number", range(ROUNDS))
 
 
 @pytest.fixture
@@ -211,46 +223,29 @@ def filled(request, kind):
 
 
 def begun(store, source, *words):
-    """The name of a new report, and the run that writes it."""
+    """A new report, and the run that writes it."""
     report = f"report{source.random()}"
     return report, start("--jobs", "2", "--report", report, *words, *store.words, program=RANDOMLY)
 
 
-def last(store, source, *words):
-    """The status and the counts of a run that is begun again until it is done: others may need some."""
+def last(store, source):
+    """How a run ends that is begun again until it is done, and its counts: others may need some."""
     for _ in range(5):
-        report, running = begun(store, source, *words)
-        status = end(running).status
-        if status != 6:
+        report, running = begun(store, source)
+        done = end(running)
+        if done != 6:
             break
-    return status, [json.loads(line) for line in open(report)][-1]
+    return done, json.loads(open(report).readlines()[-1])
 
 
-@contextlib.contextmanager
-def writing(store, source):
-    writer = Writer(store, source)
-    writer.start()
-    try:
-        yield writer.acknowledged
-    finally:
-        writer.stopped.set()
-        writer.join(timeout=60)
-
-
-def held_by(store):
-    """The keys, and the number of keys under each KEK."""
-    found = {place: key_and_kek(wrapped) for place, wrapped in store.held().items()}
-    return {place: key for place, (key, _) in found.items()}, collections.Counter(kek for _, kek in found.values())
-
-
-@each_round
-@each_store
+@pytest.mark.parametrize("number", range(ROUNDS))
+@pytest.mark.parametrize("kind", KINDS)
 @pytest.mark.parametrize("count", [1, 2])
 def test_random_kills(filled, tmp_path, number, count):
     """Four kills of one run or two over the whole store, or of two over its halves."""
     store, keys, source = filled(f"{count} {number}")
     kills = 0
-    with writing(store, source) as acknowledged:
+    with Writer(store, source) as acknowledged:
         while kills < 4:
             halves = count == 2 and type(store) is not Postgresql and source.randrange(2) == 0
             runs = dict(begun(store, source, *(["--shard", f"{at}/2"] if halves else [])) for at in range(1, count + 1))
@@ -260,7 +255,15 @@ def test_random_kills(filled, tmp_path, number, count):
                 kills += disturb(source, running)
             for running in runs.values():
                 end(running)
-    status, counts = last(store, source)
-    assert held_by(store) == ({**keys, **acknowledged}, {NEW_KEK: len(keys)})
-    assert (status, counts["keys"], counts["new"], counts["refused"]) == (0, len(keys), len(keys), 0)
+    done, counts = last(store, source)
+    for path in (left := list(tmp_path.rglob(".rotating.*"))):  # Written twice around an exchange: a person decides.
+        assert done.has(f"{path}: a run left it, and others wrote the file since: compare it with the file")
+        found = {key_and_kek(bytes.fromhex(text))[0] for text in path.read_text().split()}
+        assert found <= {*keys.values(), *(key for _, key in acknowledged)}
+        path.unlink()
+    if left and done == 5:
+        done, counts = last(store, source)
+    held = {place: key_and_kek(wrapped) for place, wrapped in store.held().items()}
+    assert held == {place: (key, NEW_KEK) for place, key in {**keys, **dict(acknowledged)}.items()}
+    assert (done.status, counts["keys"], counts["new"], counts["refused"]) == (0, len(keys), len(keys), 0)
     assert left_over(tmp_path) == []

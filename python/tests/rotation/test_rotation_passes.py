@@ -4,14 +4,14 @@ with what the store has at the end."""
 import contextlib
 import itertools
 import random
+import types
 
 import pytest
 
-from keywrap.rotation.files import Listed
-from keywrap.rotation.found import Changed, Found, Gone, Refused, Unanswered
+from keywrap.rotation.found import (DONE, INTERRUPTED, REFUSED, UNFINISHED, Changed, Found, Gone, Refused, Unanswered)
 from keywrap.rotation.listing import Unit
-from keywrap.rotation.passes import DONE, INTERRUPTED, REFUSED, UNFINISHED, Passes
-from keywrap.rotation.report import Record, Report
+from keywrap.rotation.passes import Passes
+from keywrap.rotation.report import Report
 
 
 class Key:
@@ -26,7 +26,7 @@ class Key:
 class Memory:
     """Places with keys. A listing sees one place after the other. Before each step others do what `acts` says."""
 
-    noun, measure = "files", "keys"
+    noun = "files"
 
     def __init__(self, states, order, acts=()):
         self.places = {place: Key(state) for place, state in states.items()}
@@ -59,27 +59,27 @@ class Memory:
 
         def take(unit, found):
             if not found.moved:
-                read.add(found.identity or dict(last or first).get(unit.place))
+                read.add(found.identity or unit.identity)
 
         def rest():
             last[:] = self.seen()
-            left = [place for place, identity in last if identity not in read]
-            return [Unit(place, place, 1) for place in left], len(left)
+            left = [Unit(place, 1, identity) for place, identity in last if identity not in read]
+            return left, len(left)
 
-        units = (Unit(place, place, 1) for place, _ in first)
         began = len(self.moves)
-        is_quiet = lambda found: first == last and len(self.moves) == began  # noqa: E731
-        yield Listed(units, len(first), 1, Found(), is_quiet, take, rest)
+        yield types.SimpleNamespace(
+            units=[Unit(place, 1, identity) for place, identity in first], number=len(first), weight=1, found=Found(),
+            is_quiet=lambda found: first == last and len(self.moves) == began, take=take, rest=rest)
 
     def do(self, unit, rings, may_write):
         self.step()
-        found, key = Found(), self.places.get(unit.place)
+        found, key = Found(), self.places.get(unit.name)
         if key is None:
             raise Gone
-        if unit.place in self.trouble:
-            self.trouble[unit.place](self)
+        if unit.name in self.trouble:
+            self.trouble[unit.name](self)
         self.step()
-        if self.places.get(unit.place) is not key:
+        if self.places.get(unit.name) is not key:
             raise Changed
         found.keys, found.identity, found.digest = 1, key.identity, "digest"
         if key.state == "foreign":
@@ -91,8 +91,8 @@ class Memory:
             if may_write and key.state == "stuck":
                 found.unwritten = 1
             elif may_write:
-                self.places[unit.place] = Key("new")
-                found.identity = self.places[unit.place].identity
+                self.places[unit.name] = Key("new")
+                found.identity = self.places[unit.name].identity
         return found
 
 
@@ -123,7 +123,7 @@ def no_waiting(monkeypatch):
 
 
 def run(store, may_write=True, pool=None):
-    made = Passes(store, Keks(), pool or Now(), Report(None), may_write, Record())
+    made = Passes(store, Keks(), pool or Now(), Report(None), may_write)
     made.run()
     return made
 
@@ -253,7 +253,7 @@ class TestEnds:
         class Disk(Memory):
             def do(self, unit, rings, may_write):
                 found = super().do(unit, rings, may_write)
-                found.unsynced = int(self.passes == 1 and unit.place == "b")
+                found.unsynced = int(self.passes == 1 and unit.name == "b")
                 return found
 
         made = run(Disk(OLD, "abcd"))

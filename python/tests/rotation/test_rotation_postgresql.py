@@ -97,9 +97,9 @@ class TestTable:
             assert server.sql("SELECT {2} FROM {0}.{1} ORDER BY 1".format(*names)) == f"{NEW[10].hex()}\n\n"
 
     @pytest.mark.parametrize("table, words, said", [
-        ("none", [], '"none" does not exist'), ("keys", ["--column", "none"], "the table 'keys' has no column 'none'"),
-        ("keys", ["--column", "id"], "the column 'id' of the table 'keys' is neither text nor bytea: bigint"),
-        ("keys", ["--column", "ctid"], "the table 'keys' has no column 'ctid'")])
+        ("none", [], '"none" does not exist'), ("keys", ["--column", "none"], "column keys.none does not exist"),
+        ("keys", ["--column", "id"], "keys.id is neither text nor bytea: bigint"),
+        ("keys", ["--column", "ctid"], "keys.ctid is neither text nor bytea: tid")])
     def test_refuses_names(self, server, table, words, said):
         for mode in ([], ["--verify"]):
             done = rotated(*mode, *words, table=table)

@@ -1,6 +1,8 @@
 """A file is replaced by an exchange: writers in each moment of it, killed runs, and systems without an exchange."""
 
 import contextlib
+import ctypes
+import errno
 import fcntl
 import hashlib
 import os
@@ -9,13 +11,15 @@ import shutil
 import stat
 import subprocess
 import sys
+import types
 
 import pytest
 
+from keywrap.rotate import replace
 from keywrap.rotation import replacing
 from keywrap.rotation.found import Changed, Refused, Unanswered, Unsynced
-from keywrap.rotation.listing import Listing, Names
-from keywrap.rotation.replacing import base_of, replace
+from keywrap.rotation.listing import FileListing, Names
+from keywrap.rotation.replacing import base_of
 
 OLD, NEW, OTHER, THIRD = b"old\n", b"new\n", b"written by another program\n", b"and by a third\n"
 
@@ -102,7 +106,7 @@ class TestWriters:
     def test_two_writes_around_the_exchange_are_both_kept(self, file, at_exchange):
         """The later one was made from the new file and may lack the earlier one, which is named."""
         at_exchange(before=lambda: write_by_rename(file, OTHER), after=lambda: write_by_rename(file, THIRD))
-        refuses(file, why="the earlier file is b'.rotating.")
+        refuses(file, why="compare it with .rotating.")
         assert file.read_bytes() == THIRD
         assert contents(file.parent) == sorted([THIRD, OTHER])
 
@@ -155,8 +159,8 @@ def killed(file, left, current):
 
 def later(directory, may_write=True):
     """What a later run lists and names, and the files that are there afterwards."""
-    listing = Listing(Names([str(directory)]), may_write=may_write)
-    names = [os.path.basename(unit.name) for unit in listing.units()]
+    listing = FileListing(Names([str(directory)]), may_write=may_write)
+    names = [os.path.basename(unit.name) for unit in listing.units]
     assert not any(base_of(os.fsencode(name)) for name in names)
     return names, [f"{place}: {why}" for place, why in listing.found.named], contents(directory)
 
@@ -187,8 +191,8 @@ class TestKilledRuns:
     @pytest.mark.parametrize("may_write", [True, False])
     def test_what_has_a_temporary_name_and_is_no_file(self, file, make, may_write):
         make(file.with_name(NAME.format(digest(OLD), digest(NEW))))
-        listing = Listing(Names([str(file.parent)]), may_write=may_write)
-        assert (listing.found.refused, listing.count) == (1, 1)
+        listing = FileListing(Names([str(file.parent)]), may_write=may_write)
+        assert (listing.found.refused, listing.number) == (1, 1)
 
     @pytest.mark.parametrize("current", [OTHER, OLD, None])
     def test_a_later_run_names_what_it_cannot_decide(self, file, current):
@@ -196,27 +200,40 @@ class TestKilledRuns:
         for _ in range(2):
             names, (note,), after = later(file.parent)
             assert (names, after) == (["file"] * len(there), sorted([THIRD, *there]))
-            assert note.startswith(f"{path}: a killed run left it, and ")
+            assert note.startswith(f"{path}: a run left it, and ")
+
+    def test_a_write_while_a_later_run_decides(self, file, at_exchange):
+        """The newest content has the name, and the earlier one is named."""
+        path = killed(file, OTHER, NEW)
+        at_exchange(before=lambda: write_by_rename(file, THIRD))
+        names, (note,), after = later(file.parent)
+        assert (file.read_bytes(), path.read_bytes(), after) == (THIRD, OTHER, sorted([THIRD, OTHER]))
+        assert note.startswith(f"{path}: other programs wrote it twice meanwhile: compare it with ")
 
     def test_one_file_by_its_name_is_finished_too(self, file):
         killed(file, OTHER, NEW)
         pathlib.Path("list").write_text(f"{file}\n")
-        listing = Listing(Names([], (), "list"), may_write=True)
-        assert [unit.name for unit in listing.units()] == [str(file)]
+        listing = FileListing(Names([], (), "list"), may_write=True)
+        assert [unit.name for unit in listing.units] == [str(file)]
         assert contents(file.parent) == [OTHER]
 
     def test_a_run_that_lives_is_left_alone(self, file):
         path = killed(file, OTHER, NEW)
         with open(path, "rb") as held:
             fcntl.flock(held, fcntl.LOCK_EX)
-            note = f"{path}: another run is at work on it"
+            note = f"{path}: another program has locked it"
             assert later(file.parent) == (["file"], [note], sorted([OTHER, NEW]))
-            assert Listing(Names([str(file.parent)]), may_write=True).found.lost == 1
+            assert FileListing(Names([str(file.parent)]), may_write=True).found.lost == 1
 
     @pytest.mark.parametrize("name", [".rotating.mine", ".rotating.abcdefgh", ".rotating.0123abcd.00.00.file", "x."])
     def test_a_name_that_only_begins_like_a_temporary_one_is_a_file(self, file, name):
         file.rename(file.with_name(name))
         assert later(file.parent) == ([name], [], [OLD])
+
+
+def failing_call(*words):
+    ctypes.set_errno(errno.ENOSYS)
+    return -1
 
 
 class TestSystem:
@@ -236,10 +253,9 @@ class TestSystem:
         assert contents(file.parent) == sorted([OLD, NEW])
         assert later(file.parent) == (["file"], [], [NEW if number == 2 else OLD])
 
-    # Systems that lack something.
-    @pytest.mark.parametrize("number", [None, 100000])
-    def test_without_an_exchange(self, file, monkeypatch, number):
-        monkeypatch.setattr(replacing, "_CALLS", {} if number is None else dict.fromkeys(replacing._CALLS, number))
+    @pytest.mark.parametrize("libc", [types.SimpleNamespace(), types.SimpleNamespace(renameat2=failing_call)])
+    def test_without_an_exchange(self, file, monkeypatch, libc):
+        monkeypatch.setattr(replacing, "_libc", libc)
         refuses(file, why="cannot exchange two files: stop all writers, then use --quiesced")
         assert contents(file.parent) == [OLD]
         with replacing.opened(os.fsencode(file)) as (old, before), contextlib.closing(
@@ -250,7 +266,6 @@ class TestSystem:
             successor.replace(old, digest(OLD), quiesced=True)
         assert contents(file.parent) == [NEW]
 
-    # What reaches the disk, in which order.
     def test_syncs_before_and_after_it_replaces(self, file):
         if shutil.which("strace") is None:
             pytest.skip("no strace (apt-get install strace)")
@@ -269,17 +284,3 @@ class TestSystem:
         # The owner before the mode: otherwise others could read the new file meanwhile.
         assert kinds == ["fchown", "fchmod", "fsync", "rename", "renameat2", "unlink", "fsync directory"]
 
-
-
-
-RENAMES = """
-import os, random, sys, time
-source, number = random.Random(5), 0
-while True:
-    number += 1
-    with open("their", "wb") as their:
-        their.write(b"their %d\\n" % number)
-    os.rename("their", sys.argv[1])
-    print(number, flush=True)
-    time.sleep(source.random() * 0.002)
-"""

@@ -11,7 +11,7 @@ import pytest
 from rotation_help import KEK, NEW_KEK, make_keys, rotate, seen, wrapped_under
 
 from keywrap.rotate import challenges
-from keywrap.rotation import found, rows, sqlite
+from keywrap.rotation import found, sqlite
 from keywrap.rotation.keys import Notation
 from keywrap.rotation.listing import Names, Unit
 
@@ -32,7 +32,7 @@ def database(tmp_path):
 def rotated(path, table="keys", column="key", notation="hex"):
     """What is found in one database."""
     store, pair = sqlite.Sqlite(table, column, Notation(notation), Names([str(path)]), None), challenges()
-    return found.found_by(lambda: store.do(Unit(str(path), str(path), 1), pair.rings(), True))
+    return found.found_by(lambda: store.do(Unit(str(path), 1, ""), pair.rings(), True))
 
 
 def why(answer):
@@ -88,7 +88,7 @@ class TestTable:
     @each_size
     def test_tables_of_each_kind(self, tmp_path, monkeypatch, columns, values, size):
         """Each row is found, whatever its columns are called and however it is ordered."""
-        monkeypatch.setattr(rows, "ROWS", size)
+        monkeypatch.setattr("keywrap.rotation.keys.ROWS", size)
         path = tmp_path / "keys.db"
         run_sql(path, f"CREATE TABLE keys ({columns}")
         run_many(path, "INSERT INTO keys VALUES (?, ?, ?)",
@@ -107,7 +107,7 @@ class TestTable:
     ])
     @each_size
     def test_a_refused_row_is_named_and_stays(self, database, monkeypatch, statement, reason, size):
-        monkeypatch.setattr(rows, "ROWS", size)
+        monkeypatch.setattr("keywrap.rotation.keys.ROWS", size)
         run_sql(database, statement)
         with connected(database) as connection:
             connection.text_factory = bytes
@@ -118,10 +118,10 @@ class TestTable:
             assert connection.execute("SELECT id, key FROM keys").fetchall() == expected
 
     @pytest.mark.parametrize("statement, reason", [
-        ("ALTER TABLE keys RENAME TO others", "the database has no table 'keys'"),
-        ("ALTER TABLE keys RENAME COLUMN key TO wrapped", "the table 'keys' has no column 'key'"),
+        ("ALTER TABLE keys RENAME TO others", "no such table (table keys, column key)"),
+        ("ALTER TABLE keys RENAME COLUMN key TO wrapped", "no such column (table keys, column key)"),
         ("CREATE TRIGGER t BEFORE UPDATE ON keys BEGIN SELECT RAISE(ABORT, 'their words'); END",
-         "SQLite failed: IntegrityError")])
+         "SQLite failed: IntegrityError (table keys, column key)")])
     def test_refuses_a_table(self, database, statement, reason):
         run_sql(database, statement)
         before = list(sqlite3.connect(database).iterdump())
@@ -136,7 +136,7 @@ class TestTable:
 
     def test_refuses_what_is_no_database(self, tmp_path, database):
         (tmp_path / "file").write_bytes(b"no database" * 100)
-        assert why(rotated(tmp_path / "file")) == "not a database"
+        assert why(rotated(tmp_path / "file")).startswith("file is not a database")
         (tmp_path / "directory?%41").mkdir()
         assert rotated(tmp_path / "none").moved == 1 and not (tmp_path / "none").exists()
         os.link(database, tmp_path / "second name")
@@ -149,9 +149,9 @@ class TestTable:
         (database.parent / "app").mkdir()
         shutil.copy(database, database.parent / "app-journal")
         with connected(database) as connection:
-            connection.execute(f"PRAGMA journal_mode = {mode}")
-            connection.execute("UPDATE keys SET owner = 'someone'")
-            connection.commit()
+            connection.executescript(f"PRAGMA journal_mode = {mode}; UPDATE keys SET owner = 'other';"
+                                     "UPDATE keys SET owner = 'someone'")
+            assert rotate("--dry-run", "--table", "keys", database.parent).counts["refused"] == 0
             done = rotate("--table", "keys", database.parent)
         assert (done.status, done.counts["keys"]) == (0, 36), done
         assert run_sql(database, "SELECT * FROM keys") == rows_under(NEW_KEK)
@@ -175,7 +175,7 @@ class TestTable:
         path.write_bytes(content)
         for words in [], ["--verify"]:
             done = rotate(*words, "--table", "keys", path)
-            assert (done.status, done.has("the database is damaged")) == (5, True)
+            assert (done.status, done.has("database disk image is malformed")) == (5, True)
 
 
 class TestWriters:
@@ -190,7 +190,7 @@ class TestWriters:
     @pytest.mark.parametrize("size", [5, 1000])
     def test_a_table_that_changes_meanwhile(self, database, meanwhile, monkeypatch, statement, values, keys, at, size):
         """The pass knows that others wrote it, and the next one has the rest."""
-        monkeypatch.setattr(rows, "ROWS", size)
+        monkeypatch.setattr("keywrap.rotation.keys.ROWS", size)
         meanwhile(lambda: run_sql(database, statement, *values), at=at)
         assert rotated(database).moved == 1
         rotated(database)

@@ -13,8 +13,6 @@ async function read(path, as) {
 export const readModule = async () =>
     new Uint8Array(await read('/keywrap/keywrap.wasm', 'arrayBuffer'));
 
-export const readTable = (name) => read(`/tables/${name}`, 'text').catch(() => '');
-
 // The same bytes, as a Uint8Array of another realm.
 export function inOtherRealm(given) {
     const frame = document.body.appendChild(document.createElement('iframe'));

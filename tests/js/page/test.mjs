@@ -57,7 +57,8 @@ function fits(error, wanted) {
         return wanted.test(String(error));
     }
     if (typeof wanted !== 'function') {
-        return Object.keys(wanted).every((name) => isSame(error[name], wanted[name]));
+        return Object.entries(wanted).every(([name, value]) => (
+            value instanceof RegExp ? value.test(error[name]) : isSame(error[name], value)));
     }
     const isClass = wanted === Error || Error.isPrototypeOf(wanted);
     return isClass ? error instanceof wanted : wanted(error) === true;

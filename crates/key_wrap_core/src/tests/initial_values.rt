@@ -77,7 +77,7 @@ fn rewraps_from_value_to_value(rt: HostRuntime) -> Result<(), Fail> {
         );
         let answer = rewrap(&mut unwraps, &mut wraps, &forms, false, &mut buffer);
         assert!(rt;
-            answer == Err(RewrapFault::Integrity) && buffer.as_slice() == want,
+            answer == Err(Refusal::Integrity) && buffer.as_slice() == want,
             "{text:?}"
         );
         let answer = rewrap(&mut unwraps, &mut wraps, &forms, true, &mut buffer);

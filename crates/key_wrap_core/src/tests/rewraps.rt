@@ -30,17 +30,17 @@ const NEW_NINE: [u64; 3] = [
 const NEW_SEVEN: [u64; 2] = [0xA659_59A6_0000_0007, 0x466F_7250_6173_6900];
 
 // A result.
-type Answer = Result<Rewrapped, RewrapFault>;
+type Answer = Result<Rewrapped, Refusal>;
 
 const FRESH: Answer = Ok(Rewrapped::Fresh);
 
 const NEW: Answer = Ok(Rewrapped::AlreadyNew);
 
-const BAD_LENGTH: Answer = Err(RewrapFault::BadLength);
+const BAD_LENGTH: Answer = Err(Refusal::BadLength);
 
-const NONE: Answer = Err(RewrapFault::Integrity);
+const NONE: Answer = Err(Refusal::Integrity);
 
-const NOT_PLAIN: Answer = Err(RewrapFault::KeyNotPlain);
+const NOT_PLAIN: Answer = Err(Refusal::KeyNotPlain);
 
 // From one form to another.
 const PLAIN_TO_PLAIN: Option<(Form, Form)> = Some((Form::Plain, Form::Plain));

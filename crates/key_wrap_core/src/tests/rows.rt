@@ -61,7 +61,7 @@ pub const PADDED_KEYS: [(&[u8], &[u64]); 6] = [
     ),
 ];
 
-/// Words that are the padded wrapping of no key, their kind, and why.
+/// Words that are not a valid padded wrapping, their kind, and why.
 pub const NOT_PADDED: [(&[u64], Kind, &str); 8] = [
     (&PLAIN, Kind::Plain(16), "a plain wrapping"),
     (&[0, 0xA659_59A6_0000_0000], Kind::Neither, "length 0"),
@@ -97,7 +97,7 @@ pub const NOT_PADDED: [(&[u64], Kind, &str); 8] = [
     (&PADDING, Kind::Neither, "a padding byte 01"),
 ];
 
-/// Words that are the plain wrapping of no key, and their kind.
+/// Words that are not a valid plain wrapping, and their kind.
 pub const NOT_PLAIN: [([u64; 3], Kind); 3] = [
     (CHANGED, Kind::Neither),
     (NINE, Kind::Padded(9)),

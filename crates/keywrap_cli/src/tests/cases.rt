@@ -1,11 +1,11 @@
 //! Test cases: an operation, its files, its result and its output; and how a case is run.
 
-use crate::convert::{Direction, convert_into};
+use crate::convert::convert_into;
 use crate::files::Notation;
 use crate::kek_file::Keks;
 use crate::operation::Operation;
 use crate::outcome::{Done, JobFault};
-use crate::what::What;
+use crate::what::{Conversion, What};
 use block_pair::BlockPair;
 use key_wrap_core::{AgreedForm, Form, InitialValue, RewrapForms};
 use std::alloc::Global;
@@ -43,6 +43,11 @@ pub fn hex(what: What, files: [&'static [u8]; 3], output: &'static [u8]) -> Case
     Case(what, HEX, files, WRITTEN, output)
 }
 
+/// Returns a case whose files are raw, and whose output is written.
+pub fn raw(what: What, files: [&'static [u8]; 3], output: &'static [u8]) -> Case<'static> {
+    Case(what, RAW, files, WRITTEN, output)
+}
+
 /// Returns a case whose files are hex, and which is refused.
 pub fn refused(what: What, files: [&'static [u8]; 3], fault: JobFault) -> Case<'static> {
     Case(what, HEX, files, Err(fault), b"")
@@ -53,26 +58,24 @@ pub fn form(form: Form) -> AgreedForm {
     AgreedForm::by_default(form)
 }
 
+/// Returns a wrap in a form.
+pub fn wrap_in(form: AgreedForm) -> What {
+    What::Convert(Conversion::Wrap(form))
+}
+
+/// Returns an unwrap in a form.
+pub fn unwrap_in(form: AgreedForm) -> What {
+    What::Convert(Conversion::Unwrap(form))
+}
+
 /// Returns a check under the default initial value.
 pub fn check() -> What {
     What::Check(InitialValue::default())
 }
 
-/// The old and the new form of a rewrap, with the default initial value. `None` keeps the form.
-pub type Forms = Option<(Form, Form)>;
-
-pub const KEPT: Forms = None;
-
-pub const PLAIN: Forms = Some((Form::Plain, Form::Plain));
-
-pub const TO_PADDED: Forms = Some((Form::Plain, Form::Padded));
-
-pub const TO_PLAIN: Forms = Some((Form::Padded, Form::Plain));
-
-pub const PADDED: Forms = Some((Form::Padded, Form::Padded));
-
-/// Returns a rewrap, and whether it copies wrapped keys that are new already.
-pub fn rewrap(forms: Forms, pass_new: bool) -> What {
+/// Returns a rewrap from the first form to the second, with the default initial value. `None` keeps
+/// the form. With `pass_new` it copies wrapped keys that are new already.
+pub fn rewrap(forms: Option<(Form, Form)>, pass_new: bool) -> What {
     let forms = match forms {
         None => RewrapForms::Kept,
         Some((old, new)) => RewrapForms::by_default(old, new),
@@ -92,12 +95,12 @@ pub fn wrapping_form(algorithm: Algorithm) -> Option<Form> {
 /// Returns the wrapping of a key in a form.
 pub fn wrapped<B: BlockPair>(
     alloc: Global,
-    form: &AgreedForm,
+    form: AgreedForm,
     pair: &B,
     key: &[u8],
 ) -> Result<Vec<u8>, Fail> {
     let mut text = Vec::new(alloc);
-    convert_into(Direction::Wrap, form, pair, key, &mut text)?;
+    convert_into(&Conversion::Wrap(form), pair, key, &mut text)?;
     Ok(text)
 }
 
@@ -116,10 +119,9 @@ pub fn run<'a, W: Write>(
         new_kek: matches!(what, What::Rewrap { .. }).then_some(new_kek),
     };
     let mut operation = Operation { what, keks };
-    let done = match operation.run(alloc, notation, &mut input, out) {
-        Ok(outcome) => Ok(outcome.result),
-        Err(fault) => Err(fault),
-    };
+    let done = operation
+        .run(alloc, notation, &mut input, out)
+        .map(|outcome| outcome.result);
     let Keks { kek, new_kek, .. } = operation.keks;
     (done, [Some(kek), new_kek, Some(input)])
 }

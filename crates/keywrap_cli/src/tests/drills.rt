@@ -1,21 +1,17 @@
 //! Drills. Their results follow from one rule of the toy cipher: in step t, A(t) is the first
 //! register xored with t, and A(t-1) becomes the last register.
 
-use crate::convert::Direction::{self, Unwrap, Wrap};
 use crate::drilling::DrillFault::{self, BadLength, Integrity};
 use crate::drilling::drill;
+use crate::job::Direction::{self, Unwrap, Wrap};
 use key_wrap_core::Form::{self, Padded, Plain};
 use std::alloc::Global;
 use std::test::Fail;
 
-// Keys and their texts.
-static WRAPPINGS: [(Form, &str, &str); 8] = [
+/// Keys and their texts.
+pub static WRAPPINGS: [(Form, &str, &str); 8] = [
     // two words
-    (
-        Plain,
-        "00112233445566778899aabbccddeeff",
-        "a6a6a6a6a6a6a6a6001122334455667f8899aabbccddeefb",
-    ),
+    (Plain, "00112233445566778899aabbccddeeff", TEXT),
     // three zero words
     (
         Plain,
@@ -42,37 +38,55 @@ static WRAPPINGS: [(Form, &str, &str); 8] = [
         "0011223344556677",
         "0011223344556677a65959a600000008",
     ),
-    (
-        Padded,
-        "112233445566778899",
-        "a65959a60000000911223344556677809900000000000004",
-    ),
+    (Padded, "112233445566778899", PADDED_TEXT),
 ];
+
+const TEXT: &str = "a6a6a6a6a6a6a6a6001122334455667f8899aabbccddeefb";
+
+const PADDED_TEXT: &str = "a65959a60000000911223344556677809900000000000004";
 
 // Digits of both cases, with white space between them.
 const SPACED: &str = "00 11\t22 33 44 55 66 77\r\n88 99 AA bb CC dd EE ff\n";
 
 #[test]
-fn wraps_and_unwraps_keys(rt: HostRuntime) -> Result<(), Fail> {
+fn wraps_and_unwraps_keys(rt: HostRuntime) {
     for (form, key, text) in &WRAPPINGS {
-        assert!(rt; drills_to(rt.alloc(), *form, Wrap, key, text)?, "{key}");
-        assert!(rt; drills_to(rt.alloc(), *form, Unwrap, text, key)?, "{text}");
+        assert!(rt;
+            drills_to(rt.alloc(), *form, Wrap, key, text) == Ok(true),
+            "{key}"
+        );
+        assert!(rt;
+            drills_to(rt.alloc(), *form, Unwrap, text, key) == Ok(true),
+            "{text}"
+        );
     }
-    let (_, _, text) = WRAPPINGS[0];
-    assert!(rt; drills_to(rt.alloc(), Plain, Wrap, SPACED, text)?);
-    Ok(())
+    assert!(rt; drills_to(rt.alloc(), Plain, Wrap, SPACED, TEXT) == Ok(true));
 }
 
-// Returns whether the result of a drill is the bytes of these digits.
+// `rt try --test --fail-alloc N` refuses the Nth allocation; the gate refuses none.
+#[test]
+fn refuses_each_growth_of_a_drill(rt: HostRuntime) {
+    for (form, key, text) in &WRAPPINGS {
+        let there = drills_to(rt.alloc(), *form, Wrap, key, text);
+        let back = drills_to(rt.alloc(), *form, Unwrap, text, key);
+        for done in [there, back] {
+            assert!(rt; matches!(done, Ok(true) | Err(DrillFault::Memory)), "{key}");
+        }
+    }
+}
+
+// Returns whether the result of a drill is the bytes of these digits. Only the drill allocates.
 fn drills_to(
     alloc: Global,
     form: Form,
     direction: Direction,
     text: &str,
     digits: &str,
-) -> Result<bool, Fail> {
-    let found = hex::encode(alloc, &drill(alloc, form, direction, text)?)?;
-    Ok(found.as_str() == digits)
+) -> Result<bool, DrillFault> {
+    let found = drill(alloc, form, direction, text)?;
+    let mut bytes = [0; 64];
+    let wanted = &mut bytes[..found.len().min(64)];
+    Ok(hex::decode_to_slice(digits, wanted).is_ok() && found.as_slice() == wanted)
 }
 
 // Some words of the wrapping of 43 zero words, each with its offset in bytes.
@@ -87,8 +101,7 @@ static PAST_256: [(usize, &[u8]); 5] = [
 #[test]
 fn wraps_past_256_steps(rt: HostRuntime) -> Result<(), Fail> {
     let digits = [b'0'; 688];
-    let zeros = std::str::from_utf8(&digits)?;
-    let wrapped = drill(rt.alloc(), Plain, Wrap, zeros)?;
+    let wrapped = drill(rt.alloc(), Plain, Wrap, std::str::from_utf8(&digits)?)?;
     assert!(rt; wrapped.len() == 352);
     for (at, word) in &PAST_256 {
         let from_there = wrapped.get(*at..).unwrap_or(&[]);
@@ -114,8 +127,6 @@ static REFUSALS: [(Form, Direction, &str, DrillFault); 10] = [
 const CHANGED_VALUE: &str = "a7a6a6a6a6a6a6a6001122334455667f8899aabbccddeefb";
 
 const CHANGED_PADDING: &str = "a65959a60000000911223344556677809900000000000005";
-
-const PADDED_TEXT: &str = "a65959a60000000911223344556677809900000000000004";
 
 #[test]
 fn refuses_in_order(rt: HostRuntime) {

@@ -1,136 +1,84 @@
 //! The calls for one key: each does what its operation does.
 
-use super::cases::{Answer, HEX, RAW, RAW_KEKS, WRITTEN};
-use super::initial_values::OTHER;
-use super::jobs::{
-    AT_1, HEX_KEK, HEX_KEY, HEX_TEXT, OTHER_TEXT, PADDED_KEK, PLAIN_16, RAW_KEK, RAW_KEY, RAW_TEXT,
-    TEXT_OF_20,
-};
-use super::rewraps::{NEW_KEK, NEW_PADDED, NEW_TEXT};
-use crate::convert::Direction::{self, Unwrap, Wrap};
-use crate::files::Notation;
-use crate::job::{Job, Task, run_job, run_rewrap, run_with};
+use super::cases::{Answer, Case};
+use super::jobs::{jobs, rewraps};
+use crate::job::{Direction, Job, Task, run_job, run_rewrap, run_with};
 use crate::outcome::JobFault;
-use key_wrap_core::Form::{self, Padded, Plain};
-use key_wrap_core::InitialValue;
-use std::test::Fail;
-use test_doubles::{Narrow, Trickle};
-
-const KEK_DIGIT: Answer = Err(JobFault::KekFile(AT_1));
-
-const NEW_KEK_LENGTH: Answer = Err(JobFault::NewKekLength);
-
-const BAD_LENGTH: Answer = Err(JobFault::BadLength);
-
-const INTEGRITY: Answer = Err(JobFault::Integrity);
-
-const TO_PADDED: [Form; 2] = [Plain, Padded];
-
-const TO_PLAIN: [Form; 2] = [Padded, Plain];
-
-// The job, the form, the notations, the KEK and the input, the result and the output.
-static JOBS: [(Job, Form, [Notation; 2], [&[u8]; 2], Answer, &[u8]); 5] = [
-    (Job::Wrap, Plain, HEX, [HEX_KEK, HEX_KEY], WRITTEN, HEX_TEXT),
-    (
-        Job::Unwrap,
-        Plain,
-        RAW,
-        [RAW_KEK, RAW_TEXT],
-        WRITTEN,
-        RAW_KEY,
-    ),
-    (
-        Job::Unwrap,
-        Padded,
-        HEX,
-        [HEX_KEK, HEX_TEXT],
-        INTEGRITY,
-        b"",
-    ),
-    (
-        Job::Check,
-        Padded,
-        HEX,
-        [HEX_KEK, HEX_TEXT],
-        WRITTEN,
-        PLAIN_16,
-    ),
-    (Job::Check, Plain, HEX, [b"0g", HEX_TEXT], KEK_DIGIT, b""),
-];
+use crate::what::{Conversion, What};
+use key_wrap_core::{AgreedForm, Form, InitialValue, RewrapForms};
+use std::alloc::Global;
+use std::process::Abort;
+use test_doubles::Narrow;
 
 #[test]
-fn runs_a_job(rt: HostRuntime) {
-    for (job, form, notations, files, wanted, output) in &JOBS {
-        let task = Task {
-            job: *job,
-            form: *form,
-            input: notations[0],
-            kek: notations[1],
-        };
-        let mut kek = Trickle::in_pieces(files[0], 7);
-        let mut input = Trickle::in_pieces(files[1], 7);
-        let mut out = Narrow::in_pieces(rt.alloc(), 7);
-        let done = run_job(rt.alloc(), task, &mut kek, &mut input, &mut out);
-        assert!(rt; done == *wanted && out.out() == *output, "{wanted:?}");
+fn each_case_has_its_answer_by_the_fixed_calls(rt: HostRuntime) {
+    for case in &jobs() {
+        call(&rt, rt.alloc(), case);
+    }
+    for case in &rewraps() {
+        call(&rt, rt.alloc(), case);
     }
 }
 
-// The direction, the notations, the KEK and the input, the result and the output.
-static WITH: [(Direction, [Notation; 2], [&[u8]; 2], Answer, &[u8]); 3] = [
-    (Wrap, HEX, [HEX_KEK, HEX_KEY], WRITTEN, OTHER_TEXT),
-    (Unwrap, RAW_KEKS, [RAW_KEK, OTHER_TEXT], WRITTEN, HEX_KEY),
-    (Unwrap, HEX, [HEX_KEK, HEX_TEXT], INTEGRITY, b""),
-];
-
-#[test]
-fn runs_with_an_initial_value(rt: HostRuntime) -> Result<(), Fail> {
-    let iv = InitialValue::new(OTHER)?;
-    for (direction, notations, files, wanted, output) in &WITH {
-        let mut kek = Trickle::in_pieces(files[0], 7);
-        let mut input = Trickle::in_pieces(files[1], 7);
-        let mut out = Narrow::in_pieces(rt.alloc(), 7);
-        let done = run_with(
-            rt.alloc(),
-            &iv,
-            *direction,
-            notations[0],
-            notations[1],
-            &mut kek,
-            &mut input,
-            &mut out,
-        );
-        assert!(rt; done == *wanted && out.out() == *output, "{wanted:?}");
+fn call(rt: &impl Abort, alloc: Global, case: &Case<'_>) {
+    // One cause for both lengths, of the wrapped key and of its key.
+    let wanted = match case.3 {
+        Err(JobFault::KeyNotPlain) => Err(JobFault::BadLength),
+        wanted => wanted,
+    };
+    let mut out = Narrow::in_pieces(alloc, 7);
+    if let Some(done) = by_default(alloc, case, &mut out) {
+        assert!(rt; done == wanted && out.out() == case.4, "{wanted:?}");
     }
-    Ok(())
+    let mut out = Narrow::in_pieces(alloc, 7);
+    if let Some(done) = with_iv(alloc, case, &mut out) {
+        assert!(rt; done == wanted && out.out() == case.4, "{wanted:?}");
+    }
 }
 
-// The old and the new form, the KEKs and the input, the result and the output.
-static REWRAPS: [([Form; 2], [&[u8]; 3], Answer, &[u8]); 4] = [
-    ([Plain; 2], [HEX_KEK, NEW_KEK, HEX_TEXT], WRITTEN, NEW_TEXT),
-    (TO_PADDED, [HEX_KEK, NEW_KEK, HEX_TEXT], WRITTEN, NEW_PADDED),
-    // a key of 20 bytes has no plain wrapping
-    (TO_PLAIN, [PADDED_KEK, NEW_KEK, TEXT_OF_20], BAD_LENGTH, b""),
-    ([Plain; 2], [HEX_KEK, b"", HEX_TEXT], NEW_KEK_LENGTH, b""),
-];
+// Runs a plain case by the call that takes an initial value.
+fn with_iv(alloc: Global, case: &Case<'_>, out: &mut Narrow) -> Option<Answer> {
+    let Case(what, [input, kek], ..) = *case;
+    let (direction, iv) = match &what {
+        What::Convert(Conversion::Wrap(AgreedForm::Plain(iv))) => (Direction::Wrap, iv),
+        What::Convert(Conversion::Unwrap(AgreedForm::Plain(iv))) => (Direction::Unwrap, iv),
+        _ => return None,
+    };
+    let [mut key, _, mut text] = case.files(7);
+    Some(run_with(alloc, iv, direction, input, kek, &mut key, &mut text, out))
+}
 
-#[test]
-fn runs_a_rewrap(rt: HostRuntime) {
-    for (forms, files, wanted, output) in &REWRAPS {
-        let mut kek = Trickle::in_pieces(files[0], 7);
-        let mut new_kek = Trickle::in_pieces(files[1], 7);
-        let mut input = Trickle::in_pieces(files[2], 7);
-        let mut out = Narrow::in_pieces(rt.alloc(), 7);
-        let done = run_rewrap(
-            rt.alloc(),
-            forms[0],
-            forms[1],
-            Notation::Hex,
-            Notation::Hex,
-            &mut kek,
-            &mut new_kek,
-            &mut input,
-            &mut out,
-        );
-        assert!(rt; done == *wanted && out.out() == *output, "{wanted:?}");
+// Runs a case by the call that takes the default initial value.
+fn by_default(alloc: Global, case: &Case<'_>, out: &mut Narrow) -> Option<Answer> {
+    let Case(what, [input, kek], ..) = *case;
+    let [mut key, mut new_key, mut text] = case.files(7);
+    let (job, form) = match &what {
+        What::Convert(Conversion::Wrap(form)) => (Job::Wrap, own_form(form)?),
+        What::Convert(Conversion::Unwrap(form)) => (Job::Unwrap, own_form(form)?),
+        What::Check(_) => (Job::Check, Form::Plain),
+        What::Rewrap {
+            forms: RewrapForms::Changed { old, new },
+            pass_new: false,
+        } => {
+            let (old, new) = (own_form(old)?, own_form(new)?);
+            let (old_kek, new_kek, text) = (&mut key, &mut new_key, &mut text);
+            return Some(run_rewrap(alloc, old, new, input, kek, old_kek, new_kek, text, out));
+        }
+        _ => return None,
+    };
+    let task = Task {
+        job,
+        form,
+        input,
+        kek,
+    };
+    Some(run_job(alloc, task, &mut key, &mut text, out))
+}
+
+// Returns the form, if it has the default initial value.
+fn own_form(form: &AgreedForm) -> Option<Form> {
+    match form {
+        AgreedForm::Plain(iv) => (*iv == InitialValue::default()).then_some(Form::Plain),
+        AgreedForm::Padded => Some(Form::Padded),
     }
 }

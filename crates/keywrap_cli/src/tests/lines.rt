@@ -1,8 +1,7 @@
 //! Operations over lines.
 
-use super::cases::{PLAIN, form, rewrap};
-use super::jobs::{HEX_KEK, HEX_KEY};
-use super::rewraps::NEW_KEK;
+use super::cases::{form, rewrap, unwrap_in};
+use super::jobs::{HEX_KEK, HEX_KEY, NEW_KEK};
 use crate::files::Notation;
 use crate::kek_file::Keks;
 use crate::operation::Operation;
@@ -12,7 +11,7 @@ use key_files::FileFault;
 use key_lines::{
     LineFault, LineSource, RefusalLog, RefusedLine, RunFault, RunOptions, RunSummary, TextNotation,
 };
-use key_wrap_core::{Form, RewrapFault};
+use key_wrap_core::{Form, Refusal};
 use std::alloc::Global;
 use std::io::{BufReader, Write};
 use std::test::Fail;
@@ -22,11 +21,11 @@ use test_doubles::{Narrow, Trickle};
 #[derive(Drop)]
 struct NoLog;
 
-impl RefusalLog<RewrapFault> for NoLog {
-    fn receive(&mut self, _refused: &RefusedLine<RewrapFault>) {}
+impl RefusalLog<Refusal> for NoLog {
+    fn receive(&mut self, _refused: &RefusedLine<Refusal>) {}
 }
 
-type Run = Result<RunSummary<RewrapFault>, RunFault<RewrapFault>>;
+type Run = Result<RunSummary<Refusal>, RunFault<Refusal>>;
 
 fn run_lines<I: LineSource, W: Write>(
     alloc: Global,
@@ -45,10 +44,8 @@ fn run_lines<I: LineSource, W: Write>(
         keep_going,
     };
     let mut operation = Operation { what, keks };
-    match operation.run_lines(alloc, options, &mut NoLog, input, out) {
-        Ok(outcome) => Ok(outcome.result),
-        Err(fault) => Err(fault),
-    }
+    let run = operation.run_lines(alloc, options, &mut NoLog, input, out);
+    run.map(|outcome| outcome.result)
 }
 
 #[test]
@@ -59,10 +56,11 @@ fn counts_the_lines_that_pass(rt: HostRuntime) -> Result<(), Fail> {
         64e8c3f9ce0f5ba263e9777905818a2a93c8191e7d6e8ae7\n\n";
     let mut input = BufReader::with_capacity(rt.alloc(), 16, Trickle::in_pieces(lines, 7))?;
     let mut out = Narrow::in_pieces(rt.alloc(), 7);
-    let run = run_lines(rt.alloc(), rewrap(PLAIN, true), true, &mut input, &mut out);
+    let what = rewrap(Some((Form::Plain, Form::Plain)), true);
+    let run = run_lines(rt.alloc(), what, true, &mut input, &mut out);
     let first_refused = Some(RefusedLine {
         line: 3,
-        fault: LineFault::Refused(RewrapFault::BadLength),
+        fault: LineFault::Refused(Refusal::BadLength),
     });
     assert!(rt;
         run == Ok(Ok(RunSummary {
@@ -78,7 +76,7 @@ fn counts_the_lines_that_pass(rt: HostRuntime) -> Result<(), Fail> {
 
 // The line of a wrapped key, and a shorter line that is refused. It needs no more memory than the
 // first one, so it is refused for its own fault, and never for lack of memory.
-static SECOND_LINES: [(&[u8], LineFault<RewrapFault>); 3] = [
+static SECOND_LINES: [(&[u8], LineFault<Refusal>); 3] = [
     (
         b"1fa68b0a8112b447aef34bd8fb5a7b829d3e862371d2cfe5\n0g\n",
         LineFault::Input(FileFault::BadDigit { at: 1 }),
@@ -89,7 +87,7 @@ static SECOND_LINES: [(&[u8], LineFault<RewrapFault>); 3] = [
     ),
     (
         b"1fa68b0a8112b447aef34bd8fb5a7b829d3e862371d2cfe5\n00\n",
-        LineFault::Refused(RewrapFault::BadLength),
+        LineFault::Refused(Refusal::BadLength),
     ),
 ];
 
@@ -116,8 +114,8 @@ fn refused_line(
     alloc: Global,
     mut lines: &[u8],
     out: &mut &mut [u8],
-) -> Option<(u64, LineFault<RewrapFault>)> {
-    let unwrap = What::Unwrap(form(Form::Plain));
+) -> Option<(u64, LineFault<Refusal>)> {
+    let unwrap = unwrap_in(form(Form::Plain));
     match run_lines(alloc, unwrap, false, &mut lines, out) {
         Ok(Err(RunFault::AtLine(refused))) => Some((refused.line, refused.fault)),
         Err(JobFault::Memory) => Some((1, LineFault::Memory)),

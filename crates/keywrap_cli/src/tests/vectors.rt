@@ -3,19 +3,19 @@
 
 ghost use Rattle.std.specs.Prelude.{⊤};
 
-use crate::convert::Direction;
 use crate::fault::ProgramFault;
-use crate::fileless::{run_drill, run_vectors, write_help};
+use crate::job::Direction;
+use crate::toy_and_vectors::{run_drill, run_vectors, write_help};
 use crate::vector_check::{Library, VectorCalls};
-use crate::vector_report::{report_on, vectors};
+use crate::vector_report::{VectorsFault, report_on, vectors};
 use key_wrap_core::Form;
 use std::alloc::{AllocError, Global};
 use std::process::Abort;
 use std::test::Fail;
-use test_doubles::{Narrow, Unflushed};
+use test_doubles::{Narrow, STOPPINGS, Unflushed};
 use test_vectors::{Algorithm, Vector, published};
 
-pub const LINES: &str = "\
+const LINES: &str = "\
 rfc3394 4.1 ok
 rfc3394 4.2 ok
 rfc3394 4.3 ok
@@ -118,6 +118,40 @@ fn ends_with_the_status_of_the_lines(rt: HostRuntime) {
     let done = run_vectors::<Library, _>(rt.alloc(), &mut narrow);
     assert!(rt; matches!(done, Err(ProgramFault::Write { written: 15 })));
     assert!(rt; !narrow.is_flushed);
+}
+
+#[test]
+fn counts_the_bytes_at_each_write_that_stops(rt: HostRuntime) {
+    for room in 0..=LINES.len() {
+        for (stop, faults) in &STOPPINGS {
+            let mut out = Narrow::stopping(rt.alloc(), room, *stop, *faults);
+            let done = vectors::<Library, _>(rt.alloc(), &mut out);
+            let wanted = if room < LINES.len() {
+                Err(VectorsFault::Write { written: room })
+            } else {
+                Ok(true)
+            };
+            assert!(rt; done == wanted, "{stop:?} at byte {room}");
+            assert!(rt;
+                Some(out.out()) == LINES.as_bytes().get(..room),
+                "byte {room}"
+            );
+        }
+    }
+}
+
+// `rt try --test --fail-alloc N` refuses the Nth allocation; the gate refuses none.
+#[test]
+fn refuses_each_growth_of_the_vectors(rt: HostRuntime) {
+    let mut room = [0; 256];
+    let mut free = room.as_mut_slice();
+    let done = vectors::<Library, _>(rt.alloc(), &mut free);
+    let written = 256_usize.saturating_sub(free.len());
+    if done == Err(VectorsFault::Memory) {
+        assert!(rt; written == 0);
+    } else {
+        assert!(rt; done == Ok(true) && room.get(..written) == Some(LINES.as_bytes()));
+    }
 }
 
 #[test]

@@ -1,31 +1,16 @@
 """`python -m keywrap.rotate`: a run over the passes of a store, and what it says at its end."""
 
-from __future__ import annotations
-
 import argparse
-import multiprocessing
-import os
 import signal
 import sys
-from typing import Any, Optional, Sequence, Tuple, Type
+from typing import Any, Optional, Sequence
 
-from . import pool as pools
-from .found import EqualKeks, Refused, Unanswered, WrongKeks
+from .found import ARGUMENTS, DONE, INTERRUPTED, REFUSED, UNFINISHED, Failure
 from .keks import protect_process
 from .options import keks_of, parse, store_of
-from .passes import ARGUMENTS, DONE, INTERRUPTED, KEKS, PASSES, REFUSED, REPORT, UNFINISHED, Passes
-from .report import Record, Report, ReportFailed, Unusable, shown
-
-
-def _check_outputs(options: argparse.Namespace) -> None:
-    """Refuses an output file that is below the files, and a record that is there already."""
-    for option in ("report", "record"):
-        name = getattr(options, option)
-        place = None if name is None else os.path.realpath(name) + os.sep
-        if place is not None and any(place.startswith(os.path.realpath(file) + os.sep) for file in options.files):
-            raise Unusable(f"--{option}: {name}: it is one of the files, or below them")
-    if options.record is not None and os.path.lexists(options.record):
-        raise Unusable(f"--record: {options.record}: it is there already")
+from .passes import PASSES, Passes
+from .pool import Pool
+from .report import Record, Report, shown
 
 
 def _say_end(passes: Passes, status: int, options: argparse.Namespace) -> None:
@@ -37,7 +22,7 @@ def _say_end(passes: Passes, status: int, options: argparse.Namespace) -> None:
             "keys are locked, could not be written, or have no answer: run it again")  # fmt: skip
     if passes.unsynced:
         say(f"{passes.unsynced} units are new, but may be old again after a crash: run it again")
-    if len(passes.keks.old) > 1 or passes.keks.table is not None or dry:
+    if sum(len(old) for old, _ in passes.keks.files.values()) > 1 or dry:
         for label, count in sorted((last.old if dry else passes.old).items()):
             say(f"{count} keys {'are' if dry else 'were'} under {label}")
     if status == DONE and passes.may_write and not passes.rewrapped and last.keys:
@@ -45,22 +30,17 @@ def _say_end(passes: Passes, status: int, options: argparse.Namespace) -> None:
     say(f"{passes.store.noun}: {passes.units}; {passes.number} passes; {last.keys} keys: {last.new} new"
         + ("" if options.verify else f", {sum(last.old.values())} old") + f", {last.refused} refused"
         + (f"; {passes.rewrapped} rewrapped" if passes.may_write else ""))  # fmt: skip
-    if status == INTERRUPTED:
-        say("interrupted: run it again")
 
 
 def _run(options: argparse.Namespace) -> int:
-    _check_outputs(options)
     keks = keks_of(options)
     if options.make_challenges:
-        print("\n".join(keks.make_challenges()))
+        print(*keks.make_challenges(), sep="\n")
         return DONE
     keks, store = keks.challenged(options.new_challenge), store_of(options)
-    record = Record()
-    if options.verify_record is not None:
-        record.read(options.verify_record)
+    record = None if options.verify_record is None else Record(options.verify_record)
     report = Report(options.report)
-    pool = pools.Pool(options.jobs, options.dask, options.timeout, report.tick, options.rate)
+    pool = Pool(options.jobs, options.dask, options.timeout, report.tick, options.rate)
 
     def stop(number: int, frame: Any) -> None:
         if pool.stopped:
@@ -72,47 +52,29 @@ def _run(options: argparse.Namespace) -> int:
     passes = Passes(store, keks, pool, report, not (options.verify or options.dry_run), record)
     passes.run()
     status = passes.status()
-    if options.verify_record is not None:
-        for difference in record.differences():
-            report.say(difference)
-            status = status or REFUSED
+    for difference in record.differences() if record is not None else ():
+        report.say(difference)
+        status = status or REFUSED
     _say_end(passes, status, options)
     report.line(status=status, passes=passes.number, rewrapped=passes.rewrapped, **passes.last.counts())
-    report.sync()
-    if options.record is not None:
-        record.write(options.record, status)
+    if status == INTERRUPTED:
+        raise KeyboardInterrupt
     return status
-
-
-#: The statuses of errors. Dask and defects raise any other one.
-_STATUSES: Sequence[Tuple[Type[BaseException], int]] = (
-    (EqualKeks, ARGUMENTS), (Unusable, ARGUMENTS), (ValueError, ARGUMENTS), (ImportError, ARGUMENTS), (WrongKeks, KEKS),
-    (Refused, REFUSED), (ReportFailed, REPORT), (KeyboardInterrupt, INTERRUPTED), (Unanswered, UNFINISHED),
-    (OSError, UNFINISHED))  # fmt: skip
 
 
 def main(words: Optional[Sequence[str]] = None) -> int:
     """Does what the arguments say, and returns the exit status."""
     options = parse(words)
-    os.umask(0o077)
     protect_process()
     try:
-        status = _run(options)
-    except (Exception, KeyboardInterrupt) as error:
-        known = next((number for kind, number in _STATUSES if isinstance(error, kind)), None)
-        status, why = UNFINISHED if known is None else known, str(error)
-        if known is None or not why:
-            why = f"unexpected {type(error).__name__}"
-        if isinstance(error, OSError):
-            why = error.strerror or why
-        if isinstance(error, ImportError):
-            why = f"{error.name} is missing (apt-get install python3-{error.name})"
-        if status == INTERRUPTED:
-            why = "interrupted: run it again"
-        print(f"keywrap.rotate: {shown(why)}", file=sys.stderr)
-    if any(isinstance(child, pools.Process) for child in multiprocessing.active_children()):
-        # Python would wait for a process that a disk holds. It dies with us.
-        sys.stdout.flush()
-        sys.stderr.flush()
-        os._exit(status)
+        return _run(options)
+    except Failure as error:
+        status, why = error.status, str(error)
+    except KeyboardInterrupt:
+        status, why = INTERRUPTED, "interrupted: run it again"
+    except ImportError as error:
+        status, why = ARGUMENTS, f"{error.name} is missing (apt-get install python3-{error.name})"
+    except Exception as error:  # Of the system, of Dask, or a defect: its text may have anything in it.
+        status, why = UNFINISHED, getattr(error, "strerror", None) or f"unexpected {type(error).__name__}"
+    print(f"keywrap.rotate: {shown(why)}", file=sys.stderr)
     return status

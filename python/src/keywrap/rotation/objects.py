@@ -1,70 +1,54 @@
-"""Objects, by two commands of the user: one gets an object and its version, one puts it if it still has that version."""
-
-from __future__ import annotations
+"""Objects, by two commands: one gets an object and its version, one puts it if it still has this version."""
 
 import contextlib
-import hashlib
 import os
 import re
 import shlex
 import subprocess
 import tempfile
-from typing import Dict, Iterator, List, Tuple
+from typing import ContextManager, Dict
 
-from . import signs
-from .files import Format, Listed
-from .found import Changed, Found, Refused, Unanswered
+from .files import Files
+from .found import Changed, Failure, Found, Gone, Refused, Unanswered
 from .keks import Rings
-from .listing import Names, Unit
+from .listing import Listing, Unit
 
 
 class Objects:
-    """The objects whose names are the lines of a file."""
+    """The objects whose names are the lines of a file. `files` rotates their copies."""
 
-    noun = measure = "objects"
+    noun = "objects"
 
-    def __init__(self, format: Format, names: Names, get: str, put: str, timeout: float) -> None:
-        self.format, self.names, self.timeout = format, names, timeout
-        self.words = {"get": shlex.split(get), "put": shlex.split(put)}
+    def __init__(self, files: Files, get: str, put: str, timeout: float) -> None:
+        self.files, self.timeout = files, timeout
+        try:
+            self.words = {"get": shlex.split(get), "put": shlex.split(put)}
+        except ValueError as error:
+            raise Failure(f"--get, --put: {error}") from None
         for command, needed in (("get", ("{name}", "{file}")), ("put", ("{name}", "{file}", "{version}"))):
             if not all(any(part in word for word in self.words[command]) for part in needed):
-                raise ValueError(f"--{command}: it needs {', '.join(needed)}")
+                raise Failure(f"--{command}: it needs {', '.join(needed)}")
 
-    @contextlib.contextmanager
-    def listed(self, may_write: bool) -> Iterator[Listed]:
-        names, others = self._listed()
-        units = [Unit(name, name, 1) for name in names]
-        yield Listed(units, len(units), len(units), Found(), lambda found: names == self._listed()[0], others=others)
-
-    def _listed(self) -> Tuple[List[str], int]:
-        """The names of this shard, and the number of the others."""
-        names = set(self.names.listed())
-        mine = sorted(os.fsdecode(name) for name in names if self.names.has(name))
-        return mine, len(names) - len(mine)
+    def listed(self, may_write: bool) -> ContextManager[Listing]:
+        names = self.files.names.listed
+        return contextlib.nullcontext(Listing(lambda found: ((name, 1, name.hex(), 0) for name in names(found))))
 
     def do(self, unit: Unit, rings: Rings, may_write: bool) -> Found:
-        found, digest = Found(), hashlib.blake2b(digest_size=32)
         with tempfile.TemporaryDirectory(prefix="keywrap.rotate.") as room:
-            values = {"name": unit.place, "file": f"{room}/old", "version": ""}
+            values = {"name": unit.name, "file": os.path.join(room, "object"), "version": ""}
             values["version"] = self._run("get", values)
             if not values["version"]:
                 raise Refused("get printed no version")
-            is_new = False
-            descriptor = os.open(values["file"], os.O_RDONLY | os.O_NOFOLLOW | os.O_NONBLOCK | os.O_CLOEXEC)
-            with open(descriptor, "rb") as old, open(f"{room}/new", "wb") as new:
-                for content, fresh in self.format.renewed(old.fileno(), rings, found):
-                    digest.update(content)
-                    new.write(fresh)
-                    is_new = is_new or fresh is not content
-            if not found.keys:
-                raise Refused("no key")
-            if may_write and is_new:
+            try:
+                found = self.files.do(unit._replace(name=values["file"]), rings, may_write)
+            except (Changed, Gone):
+                raise Refused("get left no file") from None
+            if may_write and found.old:
                 try:
-                    self._run("put", {**values, "file": f"{room}/new"})
+                    self._run("put", values)
                 except Refused as refusal:
                     raise Changed(f"{refusal}: somebody else may have written it") from None
-        signs.beat(1)
-        found.digest = digest.hexdigest()
+        found.identity = unit.identity
         return found
 
     def _run(self, command: str, values: Dict[str, str]) -> str:

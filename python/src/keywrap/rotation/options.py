@@ -1,8 +1,7 @@
 """The arguments of `python -m keywrap.rotate`, and the KEKs and the store that they describe."""
 
-from __future__ import annotations
-
 import argparse
+import functools
 import itertools
 import os
 import sys
@@ -10,18 +9,18 @@ from typing import Any, Optional, Sequence, Tuple
 
 import keywrap
 
-from .files import Files, Lines, OneKey, Store
+from .files import Files, Store, lines, one_key
 from .found import WrongKeks
-from .keks import Keks
+from .keks import Keks, table_of
 from .keys import Notation
 from .listing import Names
 
 DESCRIPTION = """Rewraps the keys of a store from the KEK to the new KEK. By default a FILE has one key on each line, in
 hex; a directory means all files below it. The page docs/ROTATION.md has examples."""
-EPILOG = """Status: 0 a whole pass, which began after the last change, listed the store anew, found a key, and read every
-key under the new KEK (an empty shard is 0, too); 2 arguments; 3 a machine lacks the KEKs; 4 the report or record cannot
-be written; 5 keys or files were refused, or there is no key; 6 not finished: run it again; 130 interrupted. A file that
-is renamed at the right moment in both last passes can be missed: stop renames, then --verify."""
+EPILOG = """Status: 0 a whole pass, which began after the last change, listed the store anew, found a key, and read
+every key under the new KEK (an empty shard is 0, too); 2 arguments; 3 a machine lacks the KEKs; 4 the report cannot be
+written; 5 keys or files were refused, or there is no key; 6 not finished: run it again; 130 interrupted. A file that is
+renamed at the right moment in both last passes can be missed: stop renames, then --verify."""
 #: The options of 1.1 that are gone, and what to do instead.
 GONE = {
     "--id": "leave it out: rows are found without a column that orders them",
@@ -35,8 +34,7 @@ GONE = {
     "--new-kek-command": "--new-kek <(COMMAND)",
     "--objects": "--files-from MANIFEST with --get and --put",
     "--prefix-format": "--prefix with each text before old keys, as 'vault:v3:'",
-    "--new-version": "--new-prefix with the text before new keys, as 'vault:v4:'",
-}
+    "--new-version": "--new-prefix with the text before new keys, as 'vault:v4:'"}
 
 
 def _positive(text: str) -> int:
@@ -53,8 +51,8 @@ def _shard(text: str) -> Tuple[int, int]:
 
 
 def _parser() -> argparse.ArgumentParser:
-    parser = argparse.ArgumentParser("python -m keywrap.rotate", usage="%(prog)s [OPTION].. [FILE]..", allow_abbrev=False,
-                                     description=DESCRIPTION, epilog=EPILOG, add_help=False,
+    parser = argparse.ArgumentParser("python -m keywrap.rotate", usage="%(prog)s [OPTION].. [FILE]..",
+                                     description=DESCRIPTION, epilog=EPILOG, add_help=False, allow_abbrev=False,
                                      formatter_class=lambda prog: argparse.HelpFormatter(prog, max_help_position=23))
     add = parser.add_argument
     add("--kek", metavar="F", action="append", help="file of a KEK, in hex (default: $KEYWRAP_KEK)")
@@ -66,9 +64,9 @@ def _parser() -> argparse.ArgumentParser:
     add("--new-challenge", metavar="F", help="key under the new KEK: refuses swapped KEKs")
     add("--make-challenges", action="store_true", help="only write one beside each KEK file")
     notation = parser.add_mutually_exclusive_group()
-    for name, what in (("base64", "in base64"), ("base64url", "in base64url, unpadded"), ("raw", "raw: a file is one key")):
+    for name, what in ("base64", ""), ("base64url", ", unpadded"), ("raw", ": a file is one key"):
         notation.add_argument(f"--{name}", dest="notation", action="store_const", const=name, default="hex",
-                              help=f"keys are {what}")  # fmt: skip
+                              help=f"keys are {name}{what}")  # fmt: skip
     add("--prefix", metavar="P", action="append", default=[], help="text before old keys, as vault:v3:")
     add("--new-prefix", metavar="P", default="", help="text before new keys")
     store = parser.add_mutually_exclusive_group()
@@ -87,9 +85,8 @@ def _parser() -> argparse.ArgumentParser:
     mode = parser.add_mutually_exclusive_group()
     mode.add_argument("--dry-run", action="store_true", help="the same pass, and nothing is written")
     mode.add_argument("--verify", action="store_true", help="the same pass, without the KEK")
-    add("--record", metavar="F", help="with --verify: write a record of the store")
-    add("--verify-record", metavar="F", help="with --verify: name what differs from a record")
-    add("--report", metavar="F", help="new file with a line of JSON for each unit")
+    add("--report", "--record", metavar="F", help="new file with a line of JSON for each unit")
+    add("--verify-record", metavar="F", help="with --verify: name what differs from a report")
     add("--jobs", metavar="N", type=_positive, default=len(os.sched_getaffinity(0)), help="processes")
     add("--dask", metavar="ADDRESS", help="scheduler of the Dask workers that do the units")
     add("--rate", metavar="N", type=_positive, help="begin no unit while keys/s are more than N")
@@ -116,21 +113,16 @@ def _reason(options: argparse.Namespace) -> Optional[str]:
         "--quiesced goes with files only": options.quiesced and kind in kinds[2:],
         "--raw goes with neither --csv, --json nor a prefix": options.notation == "raw"
             and (kind in ("csv", "json") or options.prefix),
-        "--record and --verify-record go with --verify": (options.record or options.verify_record) and not options.verify,
-        "--rate goes with a rotation only": options.rate is not None and (options.verify or options.dry_run),
-        "--kek-name goes with --csv, --json, --table and --postgresql": options.kek_name is not None and kind in (None, "get"),
+        "--verify-record goes with --verify": options.verify_record and not options.verify,
+        "--kek-name goes with --csv, --json, --table and --postgresql": options.kek_name and kind in (None, "get"),
         "--kek-name and --keks, or --new-keks, go together": (options.kek_name is not None) != has_tables,
         "--keks goes without --kek, and --new-keks without --new-kek": options.keks is not None
             and options.kek is not None or options.new_keks is not None and options.new_kek is not None,
-        "--new-keks needs --keks": options.new_keks is not None and options.keks is None and not options.verify,
-        "--new-challenge and --make-challenges go without --keks and --new-keks": has_tables
-            and (options.new_challenge is not None or options.make_challenges),
         "--prefix and --new-prefix go together": bool(options.prefix) != bool(options.new_prefix),
         "a prefix has neither blanks at its ends nor control characters": any(
             not text.isprintable() or text != text.strip() for text in (*options.prefix, options.new_prefix)),
         "one prefix begins with another one": any(
-            one.startswith(other) for one in prefixes for other in prefixes if one is not other),
-    }  # fmt: skip
+            one.startswith(other) for one in prefixes for other in prefixes if one is not other)}  # fmt: skip
     return next((why for why, is_so in wrong.items() if is_so), None)
 
 
@@ -142,24 +134,27 @@ def parse(words: Optional[Sequence[str]]) -> argparse.Namespace:
         if name in GONE:
             parser.error(f"{name} is gone: {GONE[name]}")
     options = parser.parse_args(words)
-    wrong = _reason(options)
-    if wrong is not None:
+    if wrong := _reason(options):
         parser.error(wrong)
     return options
 
 
 def keks_of(options: argparse.Namespace) -> Keks:
-    def absolute(name: Optional[str]) -> Optional[str]:
-        return None if name is None else os.path.abspath(name)
-
-    variables = itertools.chain(["KEYWRAP_KEK"], (f"KEYWRAP_KEK_{number}" for number in itertools.count(2)))
-    old = options.kek or [os.environ[name] for name in itertools.takewhile(os.environ.__contains__, variables)]
-    new = None if options.new_keks is not None else options.new_kek or os.environ.get("KEYWRAP_NEW_KEK")
-    table = None if options.verify else options.keks
-    if not (new or options.new_keks) or not (old or table or options.verify):
+    """Finds the files of the KEKs. To verify, the old ones are not needed."""
+    old = options.kek or [os.environ[name] for name in ("KEYWRAP_KEK",) if name in os.environ]
+    new = options.new_kek or os.environ.get("KEYWRAP_NEW_KEK", "")
+    table = {} if options.keks is None else table_of(options.keks, "--keks")
+    new_table = {} if options.new_keks is None else table_of(options.new_keks, "--new-keks")
+    if options.verify:
+        old, table = [], {}
+    if not (new or new_table) or not (old or table or options.verify):
         raise WrongKeks("give --kek and --new-kek, or set KEYWRAP_KEK and KEYWRAP_NEW_KEK")
-    paths = () if table is not None or options.verify else tuple(os.path.abspath(path) for path in old)
-    return Keks(paths, absolute(new), absolute(table), absolute(options.new_keks), options.raw_kek)
+    if table and new_table and table.keys() != new_table.keys():
+        raise WrongKeks(f"--keks and --new-keks: only one of them has {min(table.keys() ^ new_table.keys())!r}")
+    names: Sequence[Any] = sorted(table or new_table) or [None]
+    files = ((name, [table[name]] if name in table else old, new_table.get(name, new)) for name in names)
+    path = os.path.abspath
+    return Keks({name: (tuple(map(path, olds)), path(its_new)) for name, olds, its_new in files}, options.raw_kek)
 
 
 def store_of(options: argparse.Namespace) -> Store:
@@ -179,11 +174,12 @@ def store_of(options: argparse.Namespace) -> Store:
 
         is_csv = options.csv is not None
         name = options.csv if is_csv else options.json
-        return Files(Fields(is_csv, name, notation, options.kek_name), names, options.quiesced)
+        return Files(Fields(is_csv, name, notation, options.kek_name).renewed, names, options.quiesced)
     if options.get is not None:
         from .objects import Objects
 
         # A command is given up before the process that waits for it would be.
-        return Objects(OneKey(notation), names, options.get, options.put, 0.75 * options.timeout)
-    format: Any = OneKey if options.one_key or options.notation == "raw" else Lines
-    return Files(format(notation), names, options.quiesced)
+        copies = Files(functools.partial(one_key, notation), names, quiesced=True)
+        return Objects(copies, options.get, options.put, 0.75 * options.timeout)
+    format = one_key if options.one_key or options.notation == "raw" else lines
+    return Files(functools.partial(format, notation), names, options.quiesced)

@@ -1,20 +1,17 @@
 """Passes over a store. Only the last one decides the status."""
 
-from __future__ import annotations
-
 import collections
 import functools
 import time
-from typing import Counter, Iterable, List
+from typing import Counter, Iterator, List, Optional
 
-from .files import Listed, Store
-from .found import Found, found_by
+from .files import Store
+from .found import DONE, INTERRUPTED, REFUSED, UNFINISHED, Found, found_by
 from .keks import Keks
-from .listing import Unit
+from .listing import Listing, Unit
 from .pool import Pool
 from .report import Record, Report
 
-DONE, ARGUMENTS, KEKS, REPORT, REFUSED, UNFINISHED, INTERRUPTED = 0, 2, 3, 4, 5, 6, 130
 #: How many passes there are at most; how many that write nothing, but do not settle; and how often one lists again.
 PASSES, IDLE, LISTINGS = 10, 3, 8
 
@@ -27,14 +24,15 @@ def do(store: Store, keks: Keks, may_write: bool, number: int, units: List[Unit]
 
 
 class Passes:
-    """Lists the store anew, and does every unit, until a pass had nothing to do: nothing that was written, lost or left,
-    and nothing that moved, or not in the pass before it either. A key that two passes both miss was moved in both."""
+    """Lists the store anew, and does every unit, until a pass had nothing to do: nothing that was written, lost or
+    left, and nothing that moved, or not in the pass before it either. A key that two passes miss was moved in both."""
 
-    def __init__(self, store: Store, keks: Keks, pool: Pool, report: Report, may_write: bool, record: Record) -> None:
+    def __init__(self, store: Store, keks: Keks, pool: Pool, report: Report, may_write: bool,
+                 record: Optional[Record] = None) -> None:  # fmt: skip
         self.store, self.keks, self.pool, self.report = store, keks, pool, report
         self.may_write, self.record = may_write, record
         self.number = self.rewrapped = self.units = self.unsynced = 0
-        self.last, self.is_settled, self.is_empty_shard = Found(), False, False
+        self.last, self.is_settled = Found(), False
         self.old: Counter[str] = collections.Counter()
 
     def run(self) -> None:
@@ -54,28 +52,28 @@ class Passes:
 
     def _pass(self) -> bool:
         """One pass. Returns whether nothing moved: every key that there was at some moment of it was read."""
-        self.record.begin()
+        if self.record is not None:
+            self.record.begin()
         self.last, self.units = Found(), 0
-        with self.store.listed(self.may_write) as listed, self.report.progress(listed.weight, self.store.measure):
+        with self.store.listed(self.may_write) as listed:
+            self.report.begin(listed.weight)
             self._take("", listed.found)
-            units: Iterable[Unit] = listed.units
-            number = listed.number
+            units, number = listed.units, listed.number
             for _ in range(LISTINGS):
                 self._units(listed, units, number)
-                units, number = ([], 0) if self.pool.stopped else listed.rest()
+                units, number = (iter(()), 0) if self.pool.stopped else listed.rest()
                 if not number:
                     break
-            self.is_empty_shard = not self.units and listed.others > 0
             return listed.is_quiet(self.last) and not self.last.moved
 
-    def _units(self, listed: Listed, units: Iterable[Unit], number: int) -> None:
+    def _units(self, listed: Listing, units: Iterator[Unit], number: int) -> None:
         work = functools.partial(do, self.store, self.keks, self.may_write, self.number)
         answered = 0
         for unit, found in self.pool(work, units, number):
             answered += 1
             self._take(unit.name, found)
             listed.take(unit, found)
-            if found.digest is not None:
+            if self.record is not None and found.digest is not None:
                 self.record.add(unit.name, found.keys, found.digest)
         self.units += number
         self.last.lost += max(0, number - answered)
@@ -85,13 +83,14 @@ class Passes:
         if found.refused or found.lost:
             self.report.name(name, found)
         if name:
-            self.report.line(number=self.number, unit=name, **found.counts(), named=found.named)
+            self.report.line(number=self.number, unit=name, **found.counts(), digest=found.digest, named=found.named)
 
     def status(self) -> int:
+        """A shard may be empty, but no store."""
         if self.pool.stopped:
             return INTERRUPTED
         if not self.is_settled or self.last.lost or self.unsynced:
             return UNFINISHED
-        if self.last.refused or not (self.last.keys or self.is_empty_shard):
+        if self.last.refused or not (self.last.keys or self.last.others and not self.units):
             return REFUSED
-        return UNFINISHED if sum(self.last.old.values()) else DONE
+        return DONE if self.last.new == self.last.keys else UNFINISHED

@@ -1,19 +1,18 @@
 """A column of a PostgreSQL table, found by libpq's variables. A pass reads it in one snapshot, by ranges of blocks."""
 
-from __future__ import annotations
-
 import contextlib
+import functools
 import importlib
+import os
 from typing import Any, Iterator, Optional
 
 from . import signs
-from .files import Listed
 from .found import Found, Refused, Unanswered
 from .keks import Rings
-from .keys import Notation
-from .listing import Unit
-from .rows import KEY, digest_of, key_of, number_of, renewed_rows, some
+from .keys import KEY, ROWS, Notation, quoted, renewed_rows
+from .listing import Listing, Row, Unit
 
+psycopg: Any = importlib.import_module("psycopg")
 #: How many blocks a unit has, and how long a statement waits for a lock.
 BLOCKS, LOCK = 64, "60s"
 _UPDATE = """WITH n AS (SELECT * FROM unnest(%s::text[]::tid[], %s::{type}[], %s::{type}[]) AS n (row, old, new)),
@@ -23,32 +22,25 @@ _UPDATE = """WITH n AS (SELECT * FROM unnest(%s::text[]::tid[], %s::{type}[], %s
 
 
 class Postgresql:
-    noun, measure = "ranges", "rows"
+    noun = "ranges"
 
     def __init__(self, table: str, column: str, notation: Notation, kek_name: Optional[str]) -> None:
         self.table, self.column, self.notation, self.kek_name = table, column, notation, kek_name
+        *schema, name = map(quoted, table.split("."))
+        self.names = {"table": ".".join((*schema, name)), "name": name, "column": quoted(column),
+                      "key": f"{name}.{quoted(column)}", "octets": "octet_length",
+                      "kek": "NULL" if kek_name is None else f"{name}.{quoted(kek_name)}::text"}  # fmt: skip
 
-    def composer(self, connection: Any, type: str = "") -> Any:
-        """Returns a call that runs a statement with the quoted names in it."""
-        sql: Any = importlib.import_module("psycopg.sql")
-
-        def run(statement: str, *words: Any) -> Any:
-            # Beside parameters two percent signs are one.
-            *schema, name, column, kek = (part.replace("%", "%%") if words else part
-                                          for part in (*self.table.split("."), self.column, self.kek_name or ""))  # fmt: skip
-            key, table = sql.Identifier(name, column), sql.Identifier(*schema, name)
-            kek_name = sql.SQL("{}::text").format(sql.Identifier(name, kek)) if kek else sql.SQL("NULL")
-            names = {"table": table, "name": sql.Identifier(name), "column": sql.Identifier(column), "kek": kek_name,
-                     "key": sql.SQL("{}::text").format(key) if type == "text" else key, "type": sql.SQL(type),
-                     "octets": sql.SQL("octet_length"), "text": sql.Literal(table.as_string(connection))}  # fmt: skip
-            return connection.execute(sql.SQL(statement).format(**names), words or None)
-
-        return run
+    def run(self, connection: Any, statement: str, *words: Any, type: str = "") -> Any:
+        """Runs a statement with the quoted names in it, and with the type of the column."""
+        names = {**self.names, "type": type, **({"key": self.names["key"] + "::text"} if type == "text" else {})}
+        if words:  # Beside parameters two percent signs are one.
+            names = {what: name.replace("%", "%%") for what, name in names.items()}
+        return connection.execute(statement.format(**names), words or None)
 
     @contextlib.contextmanager
     def _connected(self, *, has_read: bool = True, is_moment: bool = False, **more: Any) -> Iterator[Any]:
         """A connection. An error has the server's words only if nobody has read a key yet."""
-        psycopg = importlib.import_module("psycopg")
         try:
             with psycopg.connect("", **more) as connection:
                 # Without row security PostgreSQL refuses what it would hide.
@@ -65,63 +57,58 @@ class Postgresql:
             may_pass = isinstance(error, psycopg.OperationalError)
             raise (Unanswered if may_pass else Refused)(f"PostgreSQL: {self.table}: {why}") from None
 
-    def _type(self, run: Any) -> str:
-        """The type of the column, or `text` for any that is text in PostgreSQL."""
-        for column in filter(None, (self.kek_name, self.column)):
-            ((type,),) = run("""SELECT CASE (SELECT typcategory FROM pg_type WHERE oid = atttypid) WHEN 'S' THEN 'text'
-                ELSE format_type(atttypid, NULL) END FROM pg_attribute WHERE attrelid = {text}::regclass AND attname = %s
-                AND attnum > 0 AND NOT attisdropped""", column).fetchall() or [[None]]  # fmt: skip
-            if type is None:
-                raise Refused(f"the table {self.table!r} has no column {column!r}")
-        if type not in ("text", "bytea"):
-            raise Refused(f"the column {self.column!r} of the table {self.table!r} is neither text nor bytea: {type}")
-        return str(type)
-
     @contextlib.contextmanager
-    def listed(self, may_write: bool) -> Iterator[Listed]:
-        """The ranges, and the snapshot: it is there as long as its connection."""
+    def listed(self, may_write: bool) -> Iterator[Listing]:
+        """The snapshot is there as long as its connection."""
         with self._connected(has_read=False, is_moment=True) as connection:
-            run = self.composer(connection)
-            self._type(run)
-            ((snapshot,),) = run("SELECT pg_export_snapshot()")
-            ((count,),) = run("SELECT count(*) FROM {table}")
-            ((blocks,),) = run("""SELECT max(pg_relation_size(r)) / current_setting('block_size')::int FROM
-                (SELECT {text}::regclass AS r UNION ALL SELECT relid FROM pg_partition_tree({text}::regclass)) t""")
-
-            def is_quiet(found: Found) -> bool:
-                """A snapshot is a moment. The ranges must have all of its rows."""
-                if not (found.lost or found.refused) and found.keys + found.nulls != count:
-                    raise Refused(f"the ranges have {found.keys + found.nulls} rows, and the table {count}")
-                return True
-
-            begins = range(0, max(blocks, 1), BLOCKS)
-            units = (Unit(f"{self.table}: blocks from {at}", (snapshot, at, at + BLOCKS if at + BLOCKS < blocks else None),
-                          count // len(begins)) for at in begins)  # fmt: skip
-            yield Listed(units, len(begins), count, Found(), is_quiet)
+            yield _Listing(self, connection)
             connection.rollback()
 
     def do(self, unit: Unit, rings: Rings, may_write: bool) -> Found:
-        snapshot, first, last = unit.place
-        found, digest = Found(), 0
+        snapshot, type, first, last = unit.identity.split()
+        found, writer = Found(), None
         with self._connected(is_moment=True) as reader, contextlib.ExitStack() as stack:
             reader.execute(f"SET TRANSACTION SNAPSHOT '{snapshot}'")
-            type = self._type(self.composer(reader))
-            end = "" if last is None else f" AND {{name}}.ctid < '({last},0)'"
-            cursor, writer = stack.enter_context(reader.cursor("rows")), None
-            cursor.itersize = 250
-            self.composer(cursor, type)("SELECT {name}.ctid::text, " + KEY + " FROM {table}"
-                                        f" WHERE {{name}}.ctid >= '({first},0)'{end}")  # fmt: skip
-            each = iter(cursor)
-            while rows := some(each, key_of):
-                found.nulls += sum(is_null for _, _, is_null, _ in rows)
-                digest += number_of(rows)
+            cursor = stack.enter_context(reader.cursor("rows"))
+            some_blocks = f"{{name}}.ctid >= '({first},0)' AND {{name}}.ctid < '({last},0)'"
+            self.run(cursor, "SELECT {name}.ctid::text, " + KEY + " FROM {table} WHERE " + some_blocks, type=type)
+            # Few at once: each stays locked until the others are written, too.
+            while rows := cursor.fetchmany(ROWS // 8):
                 writes = renewed_rows(rings, self.notation, rows, found, lambda row: f"row {row}")
                 if writes and may_write:
-                    if writer is None:
-                        writer = self.composer(stack.enter_context(self._connected(autocommit=True)), type)
+                    writer = writer or stack.enter_context(self._connected(autocommit=True))
                     new, at, old = map(list, zip(*writes))
-                    found.unwritten += len(writes) - writer(_UPDATE, at, old, new).rowcount
+                    found.unwritten += len(writes) - self.run(writer, _UPDATE, at, old, new, type=type).rowcount
                 signs.beat(len(rows))
             reader.rollback()
-        found.digest = digest_of(digest)
         return found
+
+
+class _Listing(Listing):
+    """Ranges of blocks in a snapshot, which is a moment."""
+
+    def __init__(self, store: Postgresql, connection: Any) -> None:
+        self.store, run = store, functools.partial(store.run, connection)
+        oid = run("SELECT {key}, {kek} FROM {table} LIMIT 0").description[0].type_code
+        ((category, self.type),) = run("SELECT typcategory, format_type(oid, NULL) FROM pg_type WHERE oid = %s", oid)
+        if category == "S":  # As text it is any that is text in PostgreSQL.
+            self.type = "text"
+        if self.type not in ("text", "bytea"):
+            raise Refused(f"PostgreSQL: {store.table}.{store.column} is neither text nor bytea: {self.type}")
+        ((self.snapshot, self.count),) = run("SELECT pg_export_snapshot(), count(*) FROM {table}")
+        ((self.blocks,),) = run("""SELECT max(pg_relation_size(r)) / current_setting('block_size')::int FROM
+            (SELECT %s::regclass AS r UNION ALL SELECT relid FROM pg_partition_tree(%s::regclass)) t""",
+            *[store.names["table"]] * 2)  # fmt: skip
+        super().__init__(self.ranges)
+
+    def ranges(self, found: Found) -> Iterator[Row]:
+        begins = range(0, max(self.blocks, 1), BLOCKS)
+        for at in begins:
+            name = os.fsencode(f"{self.store.table}: blocks from {at}")
+            yield name, self.count // len(begins), f"{self.snapshot} {self.type} {at} {at + BLOCKS}", 0
+
+    def is_quiet(self, found: Found) -> bool:
+        """The ranges must have all rows of the snapshot."""
+        if not (found.lost or found.refused) and found.keys + found.nulls != self.count:
+            raise Refused(f"the ranges have {found.keys + found.nulls} rows, and the table {self.count}")
+        return True

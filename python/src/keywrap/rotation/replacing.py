@@ -4,8 +4,6 @@ The new file is written under a temporary name beside the old one. Before the ex
 the digests of what was read and of the new content, so that a later pass can finish what a killed one began.
 """
 
-from __future__ import annotations
-
 import contextlib
 import ctypes
 import errno
@@ -15,11 +13,12 @@ import os
 import re
 import secrets
 import stat
+import sys
 import time
 from typing import Any, Iterator, Optional, Tuple
 
 from . import signs
-from .found import Changed, Refused, Unanswered, Unsynced
+from .found import Changed, Found, Refused, Unanswered, Unsynced
 
 #: How many seconds a rotation waits for another process that has locked a file; how much is read at once.
 LOCK_SECONDS, BLOCK = 60.0, 1 << 17
@@ -27,18 +26,32 @@ _DIGITS = 24
 #: The longest name of a file, so that its temporary name is none too long.
 LONGEST_NAME = 255 - len(f".rotating.{8 * '0'}.{_DIGITS * '0'}.{_DIGITS * '0'}.")
 _NAME = re.compile(rb"\.rotating\.[0-9a-f]{8}\.([0-9a-f]{24})\.([0-9a-f]{24})\.(.+)", re.DOTALL)
-_EXCHANGE, _CALLS = 2, {"x86_64": 316, "aarch64": 276}
+_AT_FDCWD, _RENAME_EXCHANGE = -100, 2
 _libc = ctypes.CDLL(None, use_errno=True)
 
 
 def exchange(one: bytes, other: bytes) -> None:
     """Exchanges two names in one step."""
-    number = _CALLS.get(os.uname().machine)
-    if number and _libc.syscall(number, -100, ctypes.c_char_p(one), -100, ctypes.c_char_p(other), _EXCHANGE) == 0:
+    call = getattr(_libc, "renameat2", None)
+    if call is not None and call(_AT_FDCWD, one, _AT_FDCWD, other, _RENAME_EXCHANGE) == 0:
         return
-    if not number or ctypes.get_errno() in (errno.ENOSYS, errno.EINVAL, errno.EOPNOTSUPP):
+    if call is None or ctypes.get_errno() in (errno.ENOSYS, errno.EINVAL, errno.EOPNOTSUPP):
         raise Refused("this file system cannot exchange two files: stop all writers, then use --quiesced")
     raise OSError(ctypes.get_errno(), os.strerror(ctypes.get_errno()))
+
+
+def at_once(path: Any, flags: int) -> int:
+    """Opens a file to read it, or a pipe without waiting for its writer, but no link: an opener for `open`."""
+    return os.open(path, flags | os.O_NOFOLLOW | os.O_NONBLOCK)
+
+
+def blocks(descriptor: int, length: int = sys.maxsize) -> Iterator[bytes]:
+    """Reads a file from its start, or its first bytes."""
+    offset = 0
+    while offset < length and (block := os.pread(descriptor, min(BLOCK, length - offset), offset)):
+        yield block
+        offset += len(block)
+        signs.beat()
 
 
 def short(digest: Any) -> str:
@@ -46,28 +59,21 @@ def short(digest: Any) -> str:
 
 
 def _digest_of(descriptor: int) -> str:
-    digest, offset = hashlib.blake2b(), 0
-    while block := os.pread(descriptor, BLOCK, offset):
+    digest = hashlib.blake2b()
+    for block in blocks(descriptor):
         digest.update(block)
-        offset += len(block)
-        signs.beat()
     return short(digest)
 
 
-def refuse_long(path: bytes) -> None:
-    if len(os.path.basename(path)) > LONGEST_NAME:
-        raise Refused(f"its name is longer than {LONGEST_NAME} bytes, and so its temporary name would be too long")
-
-
 @contextlib.contextmanager
-def opened(path: bytes, *, is_shared: bool = False) -> Iterator[Tuple[int, os.stat_result]]:
-    """Opens and locks a regular file with one name. Raises `Changed` or `Refused`."""
+def opened(path: bytes, is_shared: bool = False, wait: bool = True) -> Iterator[Tuple[int, os.stat_result]]:
+    """Opens and locks a regular file with one name. Raises `Changed`, `Refused` or `Unanswered`."""
     before = os.lstat(path)
     if not stat.S_ISREG(before.st_mode):
         raise Refused("a symbolic link" if stat.S_ISLNK(before.st_mode) else "not a regular file")
     if before.st_nlink != 1:
         raise Refused(f"the file has {before.st_nlink} hard links")
-    descriptor = os.open(path, os.O_RDONLY | os.O_NOFOLLOW | os.O_NONBLOCK | os.O_CLOEXEC)
+    descriptor = at_once(path, os.O_RDONLY)
     try:
         until = time.monotonic() + LOCK_SECONDS
         while True:
@@ -75,7 +81,7 @@ def opened(path: bytes, *, is_shared: bool = False) -> Iterator[Tuple[int, os.st
                 fcntl.flock(descriptor, (fcntl.LOCK_SH if is_shared else fcntl.LOCK_EX) | fcntl.LOCK_NB)
                 break
             except BlockingIOError:
-                if time.monotonic() > until:
+                if not wait or time.monotonic() > until:
                     raise Unanswered("another program has locked it") from None
                 time.sleep(0.02)
         if identity(os.fstat(descriptor)) != identity(before) or not has_name(path, before):
@@ -93,26 +99,20 @@ def identity(status: os.stat_result) -> str:
 
 def has_name(path: bytes, status: os.stat_result) -> bool:
     """Whether this name belongs to this file, unwritten."""
-    try:
+    with contextlib.suppress(FileNotFoundError):
         return identity(os.lstat(path)) == identity(status)
-    except FileNotFoundError:
-        return False
+    return False
 
 
 def _is(path: bytes, descriptor: int) -> bool:
     return os.path.samestat(os.lstat(path), os.fstat(descriptor))
 
 
-def _access(status: os.stat_result) -> Tuple[int, int, int]:
-    return status.st_uid, status.st_gid, stat.S_IMODE(status.st_mode)
-
-
 def _sync_directory(directory: bytes) -> None:
     try:
-        descriptor = os.open(directory, os.O_RDONLY | os.O_DIRECTORY | os.O_CLOEXEC)
+        descriptor = os.open(directory, os.O_RDONLY | os.O_DIRECTORY)
         try:
-            with signs.waiting():
-                os.fsync(descriptor)
+            signs.sync(descriptor)
         finally:
             os.close(descriptor)
     except OSError as error:
@@ -125,10 +125,8 @@ class Successor:
     def __init__(self, path: bytes, before: os.stat_result) -> None:
         self.path, self.before, self.digest = path, before, hashlib.blake2b()
         self.directory, self.base = os.path.dirname(path) or b".", os.path.basename(path)
-        refuse_long(path)
         self.name: Optional[bytes] = self._temporary("0" * _DIGITS, "0" * _DIGITS)
-        flags = os.O_CREAT | os.O_EXCL | os.O_RDWR | os.O_NOFOLLOW | os.O_CLOEXEC
-        self.descriptor = os.open(self.name, flags, 0o600)
+        self.descriptor = os.open(self.name, os.O_CREAT | os.O_EXCL | os.O_RDWR, 0o600)
         fcntl.flock(self.descriptor, fcntl.LOCK_EX)
 
     def _temporary(self, old: str, new: str) -> bytes:
@@ -142,13 +140,9 @@ class Successor:
 
     def copy(self, descriptor: int, length: int, digest: str) -> None:
         """Copies the begin of the old file, which had this digest when it was read. Raises `Changed`."""
-        copied, offset = hashlib.blake2b(), 0
-        while offset < length and (block := os.pread(descriptor, min(BLOCK, length - offset), offset)):
-            copied.update(block)
+        for block in blocks(descriptor, length):
             self.write(block)
-            offset += len(block)
-            signs.beat()
-        if short(copied) != digest:
+        if short(self.digest) != digest:
             raise Changed
 
     def close(self) -> None:
@@ -164,113 +158,71 @@ class Successor:
             os.fchown(self.descriptor, self.before.st_uid, self.before.st_gid)
         with contextlib.suppress(OSError):
             os.fchmod(self.descriptor, stat.S_IMODE(self.before.st_mode))
-        if _access(os.fstat(self.descriptor)) != _access(self.before):
+        after = os.fstat(self.descriptor)
+        if any(getattr(after, part) != getattr(self.before, part) for part in ("st_uid", "st_gid", "st_mode")):
             raise Refused("its owner, group or mode cannot be kept")
-        with signs.waiting():
-            os.fsync(self.descriptor)
+        signs.sync(self.descriptor)
         assert self.name is not None
         name = self._temporary(digest, short(self.digest))
-        try:
-            os.rename(self.name, name)
-        except FileNotFoundError:
-            raise Changed from None
+        os.rename(self.name, name)
         self.name = name
         if not has_name(self.path, self.before) or quiesced and _digest_of(old) != digest:
             raise Changed
-        if quiesced:
-            os.rename(name, self.path)
-            self.name = None
-            _sync_directory(self.directory)
-            return os.fstat(self.descriptor)
         # Whatever happens in the exchange, nobody removes what may have come out of it uncompared.
         self.name = None
         try:
-            exchange(name, self.path)
-        except (OSError, Refused) as error:
+            if quiesced:
+                os.rename(name, self.path)
+            else:
+                exchange(name, self.path)
+        except (OSError, Refused):
             if _is(name, self.descriptor):
                 self.name = name
-            if isinstance(error, FileNotFoundError):
-                raise Changed from None
             raise
-        if not has_name(name, self.before) or _digest_of(old) != digest:
-            self._put_back(name)
-            raise Changed
-        os.unlink(name)
+        if not quiesced:
+            if not has_name(name, self.before) or _digest_of(old) != digest:
+                _put_back(name, self.path, self.descriptor)
+                raise Changed
+            os.unlink(name)
         _sync_directory(self.directory)
         return os.fstat(self.descriptor)
 
-    def _put_back(self, came_out: bytes) -> None:
-        """Gives its name back to a file that somebody else wrote."""
-        with contextlib.suppress(OSError):  # As if somebody removed the new file.
-            exchange(came_out, self.path)
-            if _is(came_out, self.descriptor):
-                return os.unlink(came_out)
-            # Somebody replaced the new file, too: theirs is the newest, and stays.
-            exchange(came_out, self.path)
-        raise Refused(f"other programs wrote it twice meanwhile; the earlier file is {os.path.basename(came_out)!r}")
 
-
-def replace(path: str, new_bytes: bytes, *, old_bytes: bytes) -> None:
-    """Replaces a file in one step: synced, with the old owner, group and mode.
-
-    `old_bytes` is what the new content was made from. If the file contains anything else by now, or is a link,
-    `Refused` is raised and the file is as it was.
-    """
-    if not new_bytes:
-        raise Refused("the new content is empty")
-    try:
-        with opened(os.fsencode(path)) as (old, before):
-            read = short(hashlib.blake2b(old_bytes))
-            if _digest_of(old) != read:
-                raise Changed
-            successor = Successor(os.fsencode(path), before)
-            try:
-                successor.write(new_bytes)
-                successor.replace(old, read)
-            finally:
-                successor.close()
-    except Changed:
-        raise Refused("somebody else wrote the file meanwhile: read it again") from None
-    except FileNotFoundError:
-        raise Refused("No such file or directory") from None
+def _put_back(came_out: bytes, path: bytes, new: int) -> None:
+    """Gives its name back to a file that somebody else wrote, and removes the new file, which took its place."""
+    with contextlib.suppress(OSError):  # As if somebody removed the new file.
+        exchange(came_out, path)
+        if _is(came_out, new):
+            return os.unlink(came_out)
+        # Somebody replaced the new file, too: theirs is the newest, and stays.
+        exchange(came_out, path)
+    raise Refused(f"other programs wrote it twice meanwhile: compare it with {os.fsdecode(os.path.basename(came_out))}")
 
 
 def base_of(name: bytes) -> Optional[bytes]:
     """The name of the file whose temporary name this is: a killed run may have left it. `None` for any other name."""
-    found = _NAME.fullmatch(name) if name.startswith(b".rotating.") else None
-    return None if found is None else bytes(found[3])
+    return bytes(found[3]) if (found := _NAME.fullmatch(name)) else None
 
 
-def recover(directory: bytes, name: bytes, *, may_write: bool) -> None:
-    """Finishes what a killed run began. Raises `Unanswered` if another run is at work on it, and `Refused` with the reason if
-    only a person can finish it."""
-    temporary, found = os.path.join(directory, name), _NAME.fullmatch(name)
-    assert found is not None
-    read, new, base = found[1].decode(), found[2].decode(), os.path.join(directory, found[3])
-    if not stat.S_ISREG(os.lstat(temporary).st_mode):
-        raise Refused("it has a name of a killed run, and is not a file")
-    descriptor = os.open(temporary, os.O_RDONLY | os.O_NOFOLLOW | os.O_NONBLOCK | os.O_CLOEXEC)
-    try:
-        try:
-            fcntl.flock(descriptor, fcntl.LOCK_EX | fcntl.LOCK_NB)
-        except BlockingIOError:
-            raise Unanswered("another run is at work on it") from None
+def recover(path: bytes, may_write: bool) -> Found:
+    """Finishes what a killed run began at this temporary name, or raises why it cannot: another run is at work on it,
+    or only a person can finish it."""
+    directory, name = os.path.split(path)
+    read, new, base = _NAME.fullmatch(name).groups()  # type: ignore[union-attr]
+    with contextlib.suppress(FileNotFoundError), opened(path, wait=False) as (left, status):
         if not may_write:
             raise Refused("a killed run left it: a rotation finishes it")
-        if not has_name(temporary, os.fstat(descriptor)):
-            raise Changed
         # The names were not exchanged, or what came out is what was read.
-        if new == "0" * _DIGITS or _digest_of(descriptor) in (read, new):
-            return os.unlink(temporary)
+        if new == b"0" * _DIGITS or _digest_of(left).encode() in (read, new):
+            os.unlink(path)
+            return Found()
+        file = os.path.join(directory, base)
         try:
-            with opened(base) as (current, status):
-                if _digest_of(current) != new or status.st_uid != os.fstat(descriptor).st_uid:
-                    raise Refused("a killed run left it, and it is not what that run wrote: compare it with the file")
-                exchange(temporary, base)
-                if not _is(temporary, current):
-                    raise Refused("two files were written in the place of one: compare it with the file")
-                os.unlink(temporary)
-        except (FileNotFoundError, Changed):
-            raise Refused("a killed run left it, and the file of that name is gone or in use") from None
-    finally:
-        os.close(descriptor)
+            # A wait could be for this process: another run may have given `left` its name back by now.
+            with opened(file, wait=False) as (current, its_status):
+                if _digest_of(current).encode() != new or its_status.st_uid != status.st_uid:
+                    raise Refused("a run left it, and others wrote the file since: compare it with the file")
+                _put_back(path, file, current)
+        except FileNotFoundError:
+            raise Refused("a run left it, and the file of that name is gone") from None
+    return Found()

@@ -1,29 +1,22 @@
-"""What a run tells: refusals and counts on standard error, a line for each unit in its report, and a record of what was
-verified."""
+"""What a run says on standard error, and its report of all units, with which a later run compares the store."""
 
-from __future__ import annotations
-
-import contextlib
 import datetime
-import hashlib
 import json
 import os
-import secrets
 import sqlite3
 import stat
 import sys
-from typing import Any, Iterator, Optional, Set, Tuple
+from typing import Any, Iterator, Optional, Set
 
 from . import signs
-from .found import NAMED, Found
+from .found import NAMED, REPORT, Failure, Found
+from .replacing import at_once
 
 
-class Unusable(Exception):
-    """The report or the record is no file of ours. Nothing was touched."""
+class ReportFailed(Failure):
+    """The report cannot be written."""
 
-
-class ReportFailed(Exception):
-    """The report or the record cannot be written."""
+    status = REPORT
 
 
 def shown(text: str) -> str:
@@ -32,54 +25,39 @@ def shown(text: str) -> str:
 
 
 class Report:
-    """Lines of JSON in a new file, which nobody reads for a status; on a terminal, a bar that tqdm draws."""
+    """Lines of JSON in a new file, which no run reads for its own status; and what people see."""
 
     def __init__(self, name: Optional[str]) -> None:
         self.file: Any = None
-        self.bar: Any = None
         self.said: Set[int] = set()
+        self.percent = 0
         if name is not None:
             try:
-                self.file = open(os.open(name, os.O_WRONLY | os.O_CREAT | os.O_EXCL | os.O_CLOEXEC, 0o600), "w", encoding="utf-8")
+                self.file = open(os.open(name, os.O_WRONLY | os.O_CREAT | os.O_EXCL, 0o600), "w", encoding="utf-8")
             except OSError as error:
-                raise Unusable(f"--report: {name}: {error.strerror}") from None
+                raise Failure(f"--report: {name}: {error.strerror}") from None
 
     def line(self, **content: Any) -> None:
         if self.file is not None:
             now = datetime.datetime.now(datetime.timezone.utc).isoformat(timespec="milliseconds")
             try:
                 print(json.dumps({"time": now, **content}), file=self.file, flush=True)
+                if "status" in content:
+                    os.fsync(self.file.fileno())
             except OSError as error:
-                raise ReportFailed(f"the report or record: {error.strerror}") from None
+                raise ReportFailed(f"the report: {error.strerror}") from None
 
-    def sync(self) -> None:
-        if self.file is not None:
-            os.fsync(self.file.fileno())
-
-    @contextlib.contextmanager
-    def progress(self, total: int, measure: str) -> Iterator[None]:
-        self.begin = signs.shared[0]
-        with contextlib.suppress(ImportError):
-            if sys.stderr.isatty():
-                from tqdm import tqdm  # type: ignore[import]
-
-                tqdm.monitor_interval = 0  # No thread of it is there when processes are forked.
-                self.bar = tqdm(total=total, leave=False, unit=measure, unit_scale=True)
-        try:
-            yield
-        finally:
-            if self.bar is not None:
-                self.bar.close()
-                self.bar = None
+    def begin(self, total: int) -> None:
+        self.total, self.began = total, signs.shared[0]
 
     def tick(self) -> None:
-        if self.bar is not None:
-            self.bar.n = min(signs.shared[0] - self.begin, self.bar.total)
-            self.bar.refresh()
+        """Shows on a terminal how much of the pass is read."""
+        percent = 100 * (signs.shared[0] - self.began) // max(self.total, 1)
+        if percent > self.percent and sys.stderr.isatty():
+            print(f"{min(percent, 100)} %", end="\r", file=sys.stderr, flush=True)
+        self.percent = percent
 
     def say(self, text: str) -> None:
-        if self.bar is not None:
-            self.bar.clear()
         print(f"keywrap.rotate: {shown(text)}", file=sys.stderr, flush=True)
 
     def name(self, name: str, found: Found) -> None:
@@ -94,70 +72,44 @@ class Report:
 
 
 class Record:
-    """The units of a pass with their numbers of keys and digests, in order; and those of an earlier record."""
+    """The units of the last pass of this run, and of that of an earlier run's report: their keys and digests."""
 
-    def __init__(self) -> None:
+    def __init__(self, name: str) -> None:
         self._database = sqlite3.connect("", isolation_level=None)
         for table in ("now", "before"):
             self._database.execute(f"CREATE TABLE {table} (unit PRIMARY KEY, keys, digest) WITHOUT ROWID")
-
-    def begin(self) -> None:
-        self._database.execute("DELETE FROM now")
-
-    def add(self, unit: str, keys: int, digest: Optional[str], table: str = "now") -> None:
-        """Adds a unit. The ranges of a table are one: their digests are numbers, which are added up."""
-        name, is_range, _ = unit.partition(": blocks from ")
-        unit = name.encode("utf-8", "surrogateescape").hex() if not name.isprintable() else name
-        old = self._database.execute(f"SELECT keys, digest FROM {table} WHERE unit = ?", (unit,)).fetchone()
-        if old and is_range:
-            keys, digest = keys + old[0], f"{(int(old[1] or '0', 16) + int(digest or '0', 16)) % (1 << 256):064x}"
-        self._database.execute(f"INSERT OR REPLACE INTO {table} VALUES (?, ?, ?)", (unit, keys, digest))
-
-    def _lines(self, table: str) -> Iterator[Tuple[str, int, str]]:
-        yield from self._database.execute(f"SELECT * FROM {table} ORDER BY unit")
-
-    def _chain(self, table: str, status: int) -> str:
-        """A hash over all lines and the status."""
-        chain = hashlib.blake2b(b"keywrap.rotate")
-        for line in self._lines(table):
-            chain.update(json.dumps(line).encode())
-        chain.update(str(status).encode())
-        return chain.hexdigest()
-
-    def write(self, name: str, status: int) -> None:
-        """Writes the record under a temporary name, and gives it its name, which no other file may have."""
-        temporary = f"{name}.{secrets.token_hex(8)}.new"
+        self._database.execute("BEGIN")
+        number, line = 0, None
         try:
-            report = Report(temporary)
-            try:
-                for unit, keys, digest in self._lines("now"):
-                    report.line(unit=unit, keys=keys, digest=digest)
-                report.line(status=status, chain=self._chain("now", status))
-                report.sync()
-                os.link(temporary, name)
-            finally:
-                os.unlink(temporary)
-        except (OSError, Unusable) as error:
-            raise ReportFailed(f"--record: {name}: {getattr(error, 'strerror', None) or error}") from None
-
-    def read(self, name: str) -> None:
-        last = None
-        try:
-            with open(os.open(name, os.O_RDONLY | os.O_NONBLOCK | os.O_CLOEXEC), encoding="utf-8") as file:
+            with open(name, encoding="utf-8", opener=at_once) as file:
                 if not stat.S_ISREG(os.fstat(file.fileno()).st_mode):
                     raise ValueError
                 for line in map(json.loads, file):
-                    if last is not None:
-                        self.add(last["unit"], last["keys"], last["digest"], "before")
-                    last = line
-            if not last or last["status"] != 0 or last["chain"] != self._chain("before", 0):
+                    if line.get("number", number) != number:
+                        number = line["number"]
+                        self.begin("before")
+                    if line.get("digest") is not None:
+                        self.add(line["unit"], line["keys"], line["digest"], "before")
+            if line is None or line["status"] != 0:
                 raise ValueError
         except OSError as error:
-            raise Unusable(f"--verify-record: {name}: {error.strerror}") from None
+            raise Failure(f"--verify-record: {name}: {error.strerror}") from None
         except (ValueError, KeyError, TypeError, AttributeError, RecursionError, sqlite3.Error):
-            raise Unusable(f"--verify-record: {name}: it is not a whole record of status 0") from None
+            raise Failure(f"--verify-record: {name}: it is not a whole report of status 0") from None
+
+    def begin(self, table: str = "now") -> None:
+        self._database.execute(f"DELETE FROM {table}")
+
+    def add(self, unit: str, keys: int, digest: str, table: str = "now") -> None:
+        """Adds a unit. The ranges of a table are one: their digests are numbers, which are added up."""
+        name, is_range, _ = unit.partition(": blocks from ")
+        name = json.dumps(name)
+        old = self._database.execute(f"SELECT keys, digest FROM {table} WHERE unit = ?", (name,)).fetchone()
+        if old and is_range:
+            keys, digest = keys + old[0], f"{(int(old[1], 16) + int(digest, 16)) % (1 << 256):064x}"
+        self._database.execute(f"INSERT OR REPLACE INTO {table} VALUES (?, ?, ?)", (name, keys, digest))
 
     def differences(self) -> Iterator[str]:
         for one, other, word in (("before", "now", "missing or changed"), ("now", "before", "added or changed")):
             for unit, keys, _ in self._database.execute(f"SELECT * FROM {one} EXCEPT SELECT * FROM {other}"):
-                yield f"{unit}: {word} since the record: {keys} keys"
+                yield f"{json.loads(unit)}: {word} since the record: {keys} keys"

@@ -1,18 +1,13 @@
 """Signs of life of the processes of this machine. Their parent sees them, and kills a process that gives none."""
 
-from __future__ import annotations
-
-import contextlib
-import functools
 import mmap
 import os
 import threading
 import time
-from typing import Iterator
 
 #: What the processes have read, and how often they gave a sign. They add to it without a lock.
 shared = memoryview(mmap.mmap(-1, 16)).cast("Q")
-_is_waiting = threading.Event()
+_is_syncing = False
 
 
 def beat(weight: int = 0) -> None:
@@ -20,22 +15,22 @@ def beat(weight: int = 0) -> None:
     shared[1] += 1
 
 
-@functools.lru_cache(None)
-def _start_thread(process: int) -> None:
+def start() -> None:
+    """Starts the thread that beats while this process waits for a disk, however slow that is."""
+
     def work() -> None:
-        while _is_waiting.wait():
-            beat()
+        while True:
             time.sleep(0.2)
+            if _is_syncing:
+                beat()
 
     threading.Thread(target=work, daemon=True).start()
 
 
-@contextlib.contextmanager
-def waiting() -> Iterator[None]:
-    """While this process waits for a disk, however slow that is, a thread beats."""
-    _start_thread(os.getpid())
-    _is_waiting.set()
+def sync(descriptor: int) -> None:
+    global _is_syncing
+    _is_syncing = True
     try:
-        yield
+        os.fsync(descriptor)
     finally:
-        _is_waiting.clear()
+        _is_syncing = False

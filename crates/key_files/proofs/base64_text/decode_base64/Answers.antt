@@ -1,6 +1,5 @@
 -- What the kit's engine of the text's encoding decodes of the text without blanks, if no character is misplaced.
-use Rattle.std.proofs.Common.{◌≡◌, subst, sym, ◌∙◌}
-use Rattle.key_files.specs.Base64Text.{kept}
+use Rattle.key_files.proofs.Common.{◌≡◌, subst, sym, ◌∙◌, kept}
 use Rattle.key_files.specs.declared.fault.FileFault.TheVariants.{Read}
 use Rattle.key_files.specs.declared.hex_text.Blanks.TheVariants.{Allowed}
 use Rattle.key_files.proofs.Denoting.{none_from}

@@ -1,6 +1,5 @@
 -- The encoding is the output, if it is as long.
-use Rattle.std.proofs.Common.{◌∙◌}
-use Rattle.key_files.specs.Base64Text.{output_encoding}
+use Rattle.key_files.proofs.Common.{◌∙◌, output_encoding}
 use Rattle.base64.specs.declared.encode.EncodeSliceError.TheVariants.{OutputSliceTooSmall}
 use Rattle.key_files.proofs.Base64.{encode_of-same, filled}
 use Rattle.key_files.proofs.base64_text.fills.Goals as goal

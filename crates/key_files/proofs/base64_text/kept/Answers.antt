@@ -1,7 +1,5 @@
 -- What stays of the copied text is all but the blanks.
-use Rattle.std.proofs.Common.{◌∙◌, ap, rules}
-use Rattle.std.proofs.lemmas.Fn.{filter_same}
-use Rattle.key_files.specs.Base64Text.{kept}
+use Rattle.key_files.proofs.Common.{◌∙◌, ap, rules, filter_same, kept}
 use Rattle.key_files.proofs.base64_text.kept.Goals as goal
 
 pub returns : goal.returns

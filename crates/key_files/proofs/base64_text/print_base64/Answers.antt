@@ -1,6 +1,5 @@
 -- The law of the definitions, at each return.
-use Rattle.std.proofs.Common.{◌≡◌, ℕ, List, [], ◌∷◌, ◌++◌, length, arith, ap, ◌∙◌}
-use Rattle.std.proofs.lemmas.List.{take_at}
+use Rattle.key_files.proofs.Common.{◌≡◌, ℕ, List, [], ◌∷◌, ◌++◌, length, arith, ap, ◌∙◌, take_at}
 use Rattle.key_files.proofs.Base64Back.{prints_base64}
 use Rattle.key_files.proofs.base64_text.print_base64.Goals as goal
 

@@ -1,7 +1,5 @@
 -- Both tests agree at each byte.
-use Rattle.std.proofs.Common.{◌<◌, ◌&&◌, ◌||◌, leb, bit_or, arith, refl}
-use Rattle.std.proofs.lemmas.Bool.{agree_below_at}
-use Rattle.key_files.specs.HexText.{is_hex_digit}
+use Rattle.key_files.proofs.Common.{◌<◌, ◌&&◌, ◌||◌, leb, bit_or, arith, refl, agree_below_at, is_hex_digit}
 use Rattle.key_files.proofs.digit.is_hex_digit.Goals as goal
 
 pub returns : goal.returns

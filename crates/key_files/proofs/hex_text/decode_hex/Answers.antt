@@ -1,6 +1,5 @@
 -- The bytes are those that the digits of the text spell.
-use Rattle.std.proofs.Common.{◌≡◌, ◌≢◌, ◌%◌, length, None, Ok, ap, rules, sym, ◌∙◌}
-use Rattle.key_files.specs.HexText.{digits_of, first_bad, paired}
+use Rattle.key_files.proofs.Common.{◌≡◌, ◌≢◌, ◌%◌, length, None, Ok, ap, rules, sym, ◌∙◌, digits_of, first_bad, paired}
 use Rattle.key_files.specs.declared.hex_text.Blanks.TheVariants.{Allowed}
 use Rattle.key_files.proofs.Denoting.{DecodesHex-ok, hex_meaning-even}
 use Rattle.key_files.proofs.Strict.{paired-meant}

@@ -1,7 +1,5 @@
 -- One byte after the other.
-use Rattle.std.proofs.Common.{◌≡◌, ◌*◌, ◌<◌, ◌≤◌, length, arith, rules, sym, ◌∙◌}
-use Rattle.std.proofs.lemmas.Bool.{and_parts}
-use Rattle.std.proofs.lemmas.List.{length-set}
+use Rattle.key_files.proofs.Common.{◌≡◌, ◌*◌, ◌<◌, ◌≤◌, length, arith, rules, sym, ◌∙◌, and_parts, length-set}
 use Rattle.key_files.proofs.Strict.{decoded_more, decoded_all}
 use Rattle.key_files.proofs.hex_text.decode_strict.Goals as goal
 

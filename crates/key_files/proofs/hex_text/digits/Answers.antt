@@ -1,7 +1,5 @@
 -- What stays of the copied text is its digits.
-use Rattle.std.proofs.Common.{◌∙◌, ap, rules}
-use Rattle.std.proofs.lemmas.Fn.{filter_same}
-use Rattle.key_files.specs.HexText.{digits_of}
+use Rattle.key_files.proofs.Common.{◌∙◌, ap, rules, filter_same, digits_of}
 use Rattle.key_files.proofs.hex_text.digits.Goals as goal
 
 pub returns : goal.returns

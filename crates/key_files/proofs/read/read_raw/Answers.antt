@@ -1,7 +1,6 @@
 -- What one more read took follows what was taken before it, and is none, past the limit, or refused room.
 use Rattle.std.proofs.Common.{◌+◌, ◌≤◌, ◌≡◌, ◌<◌, ℕ, List, length, take, ◌++◌, arith, length-append}
-use Rattle.std.proofs.KnownBytes.{Consumes-trans}
-use Rattle.std.proofs.lemmas.List.{length-take}
+use Rattle.key_files.proofs.Common.{Consumes-trans, length-take}
 use Rattle.key_files.proofs.Whole.{Consumes-none, ReadsAs-long, ReadsAs-memory, ReadsAs-raw}
 use Rattle.key_files.proofs.read.read_raw.Goals as goal
 

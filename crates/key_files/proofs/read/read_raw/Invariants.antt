@@ -1,6 +1,5 @@
 -- `bytes` has what was taken from the reader, within the limit.
-use Rattle.std.proofs.Common.{◌≡◌, ◌≤◌, ◌+◌, ◌-◌, length, vec_len}
-use Rattle.std.specs.Io.KnownBytes.{Consumes}
+use Rattle.key_files.proofs.Common.{◌≡◌, ◌≤◌, ◌+◌, ◌-◌, length, vec_len, Consumes}
 use Rattle.key_files.specs.declared.read.TheConstants.{CHUNK}
 use Rattle.key_files.proofs.read.read_raw.Given as goal
 

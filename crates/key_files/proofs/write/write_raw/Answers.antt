@@ -1,10 +1,6 @@
 -- What one more write took is appended to what had gone out.
-use Rattle.std.proofs.Common.{◌-◌, ◌≤◌, ◌≡◌, length, take, drop, arith, sym, subst}
-use Rattle.std.specs.Io.KnownBytes.{Appends}
-use Rattle.std.proofs.KnownBytes.{Appends-trans}
+use Rattle.key_files.proofs.Common.{◌-◌, ◌≤◌, ◌≡◌, length, take, drop, arith, sym, subst, Appends, Appends-trans, take_rest, length-drop}
 use Rattle.std.proofs.Math.Seq.{take-add}
-use Rattle.std.proofs.lemmas.List.{take_rest}
-use Rattle.std.proofs.lemmas.List.{length-drop}
 use Rattle.key_files.proofs.write.write_raw.Goals as goal
 
 pub loop-written-preserved : goal.loop-written-preserved

@@ -1,6 +1,5 @@
 -- The first `written` bytes have gone out.
-use Rattle.std.proofs.Common.{◌≤◌, ◌-◌, length, take}
-use Rattle.std.specs.Io.KnownBytes.{Appends}
+use Rattle.key_files.proofs.Common.{◌≤◌, ◌-◌, length, take, Appends}
 use Rattle.key_files.proofs.write.write_raw.Given as goal
 
 abbrev pub invariant-loop-written : goal.invariant-loop-written

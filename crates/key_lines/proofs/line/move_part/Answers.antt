@@ -1,8 +1,5 @@
 -- What the reader showed of the line, as far as there was room for it, was moved.
-use Rattle.std.proofs.Common.{◌≡◌, length, take, arith, refl, sym, ◌∙◌, append-nil}
-use Rattle.std.proofs.KnownBytes.{Consumes-nil, Consumes-kept}
-use Rattle.std.proofs.lemmas.Bool.Decides.{nat_tests}
-use Rattle.std.proofs.lemmas.List.{length-take-le}
+use Rattle.key_lines.proofs.Common.{◌≡◌, length, take, arith, refl, sym, ◌∙◌, append-nil, Consumes-nil, Consumes-kept, nat_tests, length-take-le}
 use Rattle.key_lines.proofs.Showing.{Consumes-line, Consumes-part, ended_fits, ends-empty, front_fits, MovesPart-memory, none_taken, nothing_shown, past_by_one, room_is, some_moved}
 use Rattle.key_lines.proofs.line.move_part.Goals as goal
 

@@ -1,7 +1,6 @@
 -- What one more part leaves, after those before it.
 use Rattle.key_lines.proofs.Takings.{ReadsLine-failed, ReadsLine-ended, ReadsLine-last, ReadsLine-none, TakesPart-more}
-use Rattle.std.proofs.Common.{◌≡◌, ◌≢◌, ◌+◌, length, arith, ap, ◌∙◌, length-append}
-use Rattle.std.proofs.lemmas.Bool.Decides.{nat_tests}
+use Rattle.key_lines.proofs.Common.{◌≡◌, ◌≢◌, ◌+◌, length, arith, ap, ◌∙◌, length-append, nat_tests}
 use Rattle.key_lines.proofs.line.read_line.Goals as goal
 
 pub returns-in_err-move_part-clause-line : goal.returns-in_err-move_part-clause-line

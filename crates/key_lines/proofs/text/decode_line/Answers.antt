@@ -1,8 +1,5 @@
 -- What the text of the line denotes, with the place of what is wrong in it counted in the line.
-use Rattle.std.proofs.Common.{◌≡◌, Err, sym, ap, ◌∙◌, subst}
-use Rattle.std.specs.List.{prefix_len}
-use Rattle.key_files.specs.Decoding.{DecodesText, fault_behind}
-use Rattle.key_lines.specs.LineMeaning.{blank_ended_meaning, is_blank, text_meaning}
+use Rattle.key_lines.proofs.Common.{◌≡◌, Err, sym, ap, ◌∙◌, subst, prefix_len, DecodesText, fault_behind, blank_ended_meaning, is_blank, text_meaning}
 use Rattle.key_lines.proofs.Denoting.{DecodesText-line, blank_ended_meaning-is}
 use Rattle.key_lines.proofs.text.decode_line.Goals as goal
 

@@ -1,4 +1,4 @@
--- The buffer has the length of the key, so what is written into it is returned.
+-- The buffer has the length of the key, so it is returned as it was written.
 use Rattle.std.proofs.Common.{◌≡◌, ℕ, ◌-◌, List, length, arith, ap, ◌∙◌}
 use Rattle.key_wrap_core.specs.InPlace.{ArePlainLengths}
 use Rattle.key_wrap_core.specs.declared.agreed_form.AgreedForm.TheVariants.{Plain as InPlain}

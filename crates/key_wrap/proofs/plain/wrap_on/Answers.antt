@@ -1,4 +1,4 @@
--- The buffer has the length of the wrapped key, so what is written into it is returned.
+-- The buffer has the length of the wrapped key, so it is returned as it was written.
 use Rattle.std.proofs.Common.{arith}
 use Rattle.key_wrap_core.proofs.Refusals.{ok_or_err}
 use Rattle.key_wrap.proofs.Promises.{written_back}

@@ -1,6 +1,6 @@
--- The buffer holds the text, so what the call in it promises of the text is what is promised here.
+-- The buffer holds the text, so the promise of the call in place carries over.
 use Rattle.std.proofs.Common.{rules, ◌≡◌, ℕ, List, length, Ok, Err, arith, refl, ◌∙◌}
-use Rattle.key_wrap_core.specs.declared.rewrapping.RewrapFault.TheVariants.{BadLength}
+use Rattle.key_wrap_core.specs.declared.faults.Refusal.TheVariants.{BadLength}
 use Rattle.key_wrap_core.specs.Rewrap.{IsOldLength}
 use Rattle.key_wrap_core.proofs.Refusals.{passed_on, true_or_false}
 use Rattle.key_wrap_core.proofs.Results.{results_of}

@@ -1,4 +1,4 @@
--- Where all parts of the difference are 0 the registers hold a key, and a held key makes each of them 0.
+-- The registers hold a key exactly if all parts of the difference are 0.
 use Rattle.std.proofs.Common.{rules, ◌≡◌, ℕ, ◌+◌, ◌-◌, ◌/◌, ◌%◌, ◌^◌, ◌<◌, ◌≤◌, List, length, drop, arith, bit_xor, refl, sym, ap, subst, ◌∙◌}
 use Rattle.key_wrap_core.specs.declared.lengths.TheConstants.{MAX_KEY}
 use Rattle.std.specs.Prelude.{bit_or}

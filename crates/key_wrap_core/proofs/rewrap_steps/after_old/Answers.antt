@@ -1,6 +1,6 @@
 -- A text whose length is not legal in the new form is not new.
 use Rattle.std.proofs.Common.{rules, ◌≡◌, refl}
-use Rattle.key_wrap_core.specs.declared.rewrapping.RewrapFault.TheVariants.{KeyNotPlain}
+use Rattle.key_wrap_core.specs.declared.faults.Refusal.TheVariants.{KeyNotPlain}
 use Rattle.key_wrap_core.proofs.Refusals.{true_or_false}
 use Rattle.key_wrap_core.proofs.RewrapTurns.{begun, not_new}
 use Rattle.key_wrap_core.proofs.rewrap_steps.after_old.Goals as goal

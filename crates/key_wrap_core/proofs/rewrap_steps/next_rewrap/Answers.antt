@@ -1,4 +1,4 @@
--- What was wrapped is put together, and what it leads to holds.
+-- The wrapped text is put together, and the state that follows holds.
 use Rattle.std.proofs.Common.{◌≡◌, ◌∙◌, ℕ, List, length}
 use Rattle.key_wrap_core.specs.BlockCalls.{block_calls}
 use Rattle.key_wrap_core.proofs.RewrapTurns.{led, calls_over}

@@ -1,4 +1,4 @@
--- What was unwrapped holds a key in one of the forms, or is wrapped again.
+-- The registers hold a key in one of the forms, or are wrapped again.
 use Rattle.std.proofs.Common.{refl}
 use Rattle.std.proofs.lemmas.Bool.{false≢true}
 use Rattle.key_wrap_core.proofs.PaddedForm.{padded_registers_forward}

@@ -1,6 +1,6 @@
--- What was refused is what it was, so the new pair unwraps the text.
+-- A refused text is unchanged, so the new pair unwraps it.
 use Rattle.std.proofs.Common.{rules, ◌≡◌, ◌∙◌, ℕ, List, refl}
-use Rattle.key_wrap_core.specs.declared.rewrapping.RewrapFault.TheVariants.{KeyNotPlain}
+use Rattle.key_wrap_core.specs.declared.faults.Refusal.TheVariants.{KeyNotPlain}
 use Rattle.key_wrap_core.specs.Rewrap.{to_itself}
 use Rattle.key_wrap_core.proofs.PaddedForm.{padded_registers_forward}
 use Rattle.key_wrap_core.proofs.Rewraps.{old_of, no_old}

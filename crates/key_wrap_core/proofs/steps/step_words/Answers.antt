@@ -22,4 +22,4 @@ returns c =
     (stepped c.read_u64.result c.args.block c.copy_from_slice.new.self _ u e
     (omega arith) (omega arith) sixteen (each_byte c.args.block (search rules)) (xor_lt 64 c.read_u64.result (t + 1) read few)
     c.read_u64.ensures c.copy_from_slice.ensures.after
-    i k (8 * i + 8 - 8 * i) (8 * k + 8 - 8 * k) refl (c.register_after-next.ensures ∙ after_turn n t some) (omega arith) (omega arith) refl)
+    i k (8 * i + 8 - 8 * i) (8 * k + 8 - 8 * k) refl (c.register_after-next.ensures.number (omega arith) ∙ after_turn n t some) (omega arith) (omega arith) refl)

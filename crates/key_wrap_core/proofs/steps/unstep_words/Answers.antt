@@ -20,4 +20,4 @@ returns c =
     (unstepped c.read_u64.result c.args.block c.copy_from_slice.new.self _ u e
     (omega arith) (omega arith) sixteen (each_byte c.args.block (search rules)) read
     c.read_u64.ensures c.copy_from_slice.ensures.after
-    i k (8 * i + 8 - 8 * i) (8 * k + 8 - 8 * k) refl (c.register_before-next.ensures ∙ before_turn n t some) (omega arith) (omega arith) refl)
+    i k (8 * i + 8 - 8 * i) (8 * k + 8 - 8 * k) refl (c.register_before-next.ensures.number (omega arith) ∙ before_turn n t some) (omega arith) (omega arith) refl)

@@ -5,8 +5,8 @@ pub returns : goal.returns
 returns g c =
     let w = c.end_any.ensures.ends in
     record {
-      unwraps = w.answer _ _ _ (g.met.B.BlockPair.lawful c.args.meter.now.pair) c.unwrap_slice-found.ensures.wrapped;
+      unwraps = w.answer _ _ _ (g.met.B.BlockPair.lawful c.args.meter.now.pair) c.machine_unwrap-found.ensures.wrapped;
       key = c.end_any.ensures.key;
       cleared = w.cleared;
-      calls = c.unwrap_slice-found.ensures.meter;
+      calls = c.machine_unwrap-found.ensures.meter;
     }

@@ -1,5 +1,5 @@
 -- The registers are the padded key once the bytes after it are zeros.
-use Rattle.std.proofs.Common.{◌≡◌, ℕ, ◌+◌, ◌-◌, List, length, arith, refl, subst}
+use Rattle.std.proofs.Common.{ℕ, ◌+◌, ◌-◌, List, length, arith, refl, subst}
 use borrow.Rule.Slice.PartMut.{put_mid}
 use Rattle.key_wrap_core.specs.InPlace.{IsPaddedRoom}
 use Rattle.key_wrap_core.specs.Padded.{aiv}
@@ -12,10 +12,7 @@ pub returns : goal.returns
 returns c =
     let old : List ℕ = c.args.registers.now in
     let legal = c.padded_length_ok.ensures.0 c.if-not-padded_length_ok.false in
-    let rounded = c.next_multiple_of.ensures in
-    let size : length old ≡ c.next_multiple_of.result = c.if-registers-next_multiple_of.false in
-    let room : IsPaddedRoom c.args.m (8 + length old) =
-    (legal, omega (arith, legal.1, size, rounded.lower_bound, rounded.upper_bound, rounded.multiple)) in
+    let room : IsPaddedRoom c.args.m (8 + length old) = (legal, omega (arith, (c.text_len.ensures legal).1)) in
     let now : List ℕ = put_mid c.args.m (length old - c.args.m) old c.fill.new.self in
     let pads = padded_after c.args.m old c.fill.new.self room (c.fill.ensures.after (λ y e. e)) in
     record {

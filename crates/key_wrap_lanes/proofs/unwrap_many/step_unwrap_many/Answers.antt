@@ -1,7 +1,8 @@
 -- The number counts down before the lanes are turned, and the turn of a lane is its step undone.
-use Rattle.std.proofs.Common.{rules, ◌≡◌, ℕ, ◌+◌, ◌/◌, ◌%◌, ◌-◌, ◌<◌, ◌≤◌, arith, refl, inl}
+use Rattle.std.proofs.Common.{rules, ◌≡◌, ℕ, ◌+◌, ◌/◌, ◌%◌, ◌-◌, ◌<◌, ◌≤◌, arith, refl}
 use Rattle.key_wrap_core.specs.BlockCalls.{block_calls}
 use Rattle.key_wrap_core.proofs.Spelling.{each_byte}
+use Rattle.key_wrap_core.proofs.Refusals.{ok_or_err}
 use Rattle.key_wrap_lanes.proofs.Turns.{lane_of, unwrap_turned}
 use Rattle.key_wrap_lanes.proofs.unwrap_many.step_unwrap_many.Goals as goal
 
@@ -13,15 +14,12 @@ returns c =
     let within : c.args.left.now ≤ block_calls c.args.text_len = search rules in
     let again : c.args.left.now - 1 + 1 ≡ c.args.left.now = omega arith in
     let own : (c.args.left.now - 1) % n < n = search rules in
-    let number = c.step_count.ensures.number in
+    let number = c.lane_steps.ensures.number in
     record {
-      statuses = inl refl;
-      bad_length = (λ s. absurd (let wrong = s in cc), λ bad. absurd (bad (lanes, some, within)));
-      texts_kept = λ other. absurd (other refl);
-      kept = λ other. absurd (other refl);
-      counts = λ _. omega arith;
-      firsts = λ _ i below. let turned = c.turn_lanes.ensures i below in turned.first;
-      steps = λ _ i below E origin before state decrypted.
-          let lane = lane_of c.args.texts.now c.args.blocks.now lanes (each_byte c.args.blocks.now (search rules)) below own c.register_before-next.ensures.within in
-          unwrap_turned lane (omega arith) refl c.register_before-next.ensures.number (c.turn_lanes.ensures i below) (rw again state) decrypted;
+      refused = record { bad_length = (λ e. ok_or_err e, λ bad. absurd (bad (lanes, some, within))); only_fault = tt; kept = λ e. ok_or_err e };
+      counts = omega arith;
+      firsts = λ i below. let turned = c.turn_lanes.ensures i below in turned.first;
+      steps = λ i below E origin before state decrypted.
+          let lane = lane_of c.args.texts.now c.args.blocks.now lanes (each_byte c.args.blocks.now (search rules)) below own (c.register_before-next.ensures.within own) in
+          unwrap_turned lane (omega arith) refl (c.register_before-next.ensures.number own) (c.turn_lanes.ensures i below) (rw again state) decrypted;
     }

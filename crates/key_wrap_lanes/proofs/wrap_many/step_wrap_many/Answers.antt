@@ -1,7 +1,8 @@
 -- The turn of a lane is its step.
-use Rattle.std.proofs.Common.{rules, ℕ, ◌/◌, ◌%◌, ◌-◌, ◌<◌, arith, refl, inl}
+use Rattle.std.proofs.Common.{rules, ℕ, ◌/◌, ◌%◌, ◌-◌, ◌<◌, arith, refl}
 use Rattle.key_wrap_core.specs.BlockCalls.{block_calls}
 use Rattle.key_wrap_core.proofs.Spelling.{each_byte}
+use Rattle.key_wrap_core.proofs.Refusals.{ok_or_err}
 use Rattle.key_wrap_lanes.proofs.Turns.{lane_of, wrap_turned}
 use Rattle.key_wrap_lanes.proofs.wrap_many.step_wrap_many.Goals as goal
 
@@ -11,15 +12,12 @@ returns c =
     let lanes = c.lanes_ok.ensures.0 c.if-not-lanes_ok.false in
     let left : c.args.done.now < block_calls c.args.text_len = search rules in
     let own : c.args.done.now % n < n = search rules in
-    let number = c.step_count.ensures.number in
+    let number = c.lane_steps.ensures.number in
     record {
-      statuses = inl refl;
-      bad_length = (λ s. absurd (let wrong = s in cc), λ bad. absurd (bad (lanes, left)));
-      texts_kept = λ other. absurd (other refl);
-      kept = λ other. absurd (other refl);
-      counts = λ _. refl;
-      firsts = λ _ i below. let turned = c.turn_lanes.ensures i below in turned.first;
-      steps = λ _ i below E iv key before state encrypted.
-          let lane = lane_of c.args.texts.now c.args.blocks.now lanes (each_byte c.args.blocks.now (search rules)) below own c.register_after-next.ensures.within in
-          wrap_turned lane (omega arith) refl c.register_after-next.ensures.number (c.turn_lanes.ensures i below) state encrypted;
+      refused = record { bad_length = (λ e. ok_or_err e, λ bad. absurd (bad (lanes, left))); only_fault = tt; kept = λ e. ok_or_err e };
+      counts = refl;
+      firsts = λ i below. let turned = c.turn_lanes.ensures i below in turned.first;
+      steps = λ i below E iv key before state encrypted.
+          let lane = lane_of c.args.texts.now c.args.blocks.now lanes (each_byte c.args.blocks.now (search rules)) below own (c.register_after-next.ensures.within own) in
+          wrap_turned lane (omega arith) refl (c.register_after-next.ensures.number own) (c.turn_lanes.ensures i below) state encrypted;
     }

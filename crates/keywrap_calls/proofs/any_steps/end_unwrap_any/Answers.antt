@@ -1,4 +1,4 @@
--- What the call of key_wrap_core ensures, under the default initial value.
+-- The promise of key_wrap_core under the default initial value, by status.
 use Rattle.std.proofs.Common.{arith}
 use Rattle.std.proofs.lemmas.Grind.{common_steps}
 use Rattle.keywrap_calls.proofs.any_steps.end_unwrap_any.Goals as goal

@@ -1,5 +1,5 @@
 -- The meter's pair is the given one (`same`). A scratch buffer that is not refused has its room (`room`).
-use Rattle.std.proofs.Common.{◌≡◌, length, ap, subst, refl, inr, pos}
+use Rattle.std.proofs.Common.{◌≡◌, length, ap, subst, inr, pos}
 use Rattle.key_wrap_core.specs.Lengths.{IsPaddedTextLength}
 use Rattle.keywrap_calls.specs.KindCalls.{FindsKind, HasScratch}
 use Rattle.keywrap_calls.proofs.Finding.{finds_plain, finds_padded, finds_neither}

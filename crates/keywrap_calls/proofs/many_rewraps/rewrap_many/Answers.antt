@@ -12,4 +12,4 @@ returns g c =
     let keks : AreKeks c.args.old_kek.now c.args.new_kek.now = (c.in-Ok.ensures.accepted.0 refl, c.in-Ok-new_in.ensures.accepted.0 refl) in
     let slots = c.in-Some.ensures.some in
     many_done _ _ _ _ _ keks slots.0
-    (λ i below. rw (sym slots.1, sym from, sym to) (c.rewrap_slots.ensures c.args.old_kek.now c.args.new_kek.now keks i below))
+    (λ i below. rw (sym slots.2, sym from, sym to) (c.rewrap_slots.ensures c.args.old_kek.now c.args.new_kek.now c.args.flags keks slots.1 i below))

@@ -21,10 +21,10 @@ loop-slot-preserved g c =
     let whole : len * i + len - len * i ≡ len = omega arith in
     let size : length text ≡ len = c.rewrap_slot.auto.text ∙ part_length len (len * i) (len * i + len - len * i) texts whole room in
     slot_next _ _ (len * i + len - len * i) text whole size room c.loop-slot.invariant
-    (λ j less a b before old_kek new_kek keks. let apart : j ≢ i = omega arith in rw get_or-set_other (before old_kek new_kek keks))
-    (λ old_kek new_kek keks. rw get_or-set_same (c.rewrap_slot.ensures old_kek new_kek keks))
+    (λ j less a b before old_kek new_kek flags keks asked. let apart : j ≢ i = omega arith in rw get_or-set_other (before old_kek new_kek flags keks asked))
+    (λ old_kek new_kek flags keks asked. rw get_or-set_same (c.rewrap_slot.ensures old_kek new_kek flags keks asked))
 
 pub returns : goal.returns
-returns g c = λ old_kek new_kek keks i below.
+returns g c = λ old_kek new_kek flags keks asked i below.
     let end : length c.args.statuses.now ≤ c.loop-slot.slot = search rules in
-    c.loop-slot.invariant.done i (omega (arith, below, end)) old_kek new_kek keks
+    c.loop-slot.invariant.done i (omega (arith, below, end)) old_kek new_kek flags keks asked

@@ -1,5 +1,5 @@
 -- The meter's pair is the given one (`same`).
-use Rattle.std.proofs.Common.{◌≡◌, ap, subst, sym, refl, rules}
+use Rattle.std.proofs.Common.{◌≡◌, ap, subst, sym, rules}
 use mir.Syntax.{w32}
 use mir.Val.{SFits}
 use Rattle.keywrap_calls.specs.Status.{outcome_status}

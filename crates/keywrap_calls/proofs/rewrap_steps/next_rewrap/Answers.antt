@@ -1,5 +1,5 @@
 -- The number means the phase, and the flags request the forms.
-use Rattle.std.proofs.Common.{rules, ◌≡◌, ◌∙◌, Ok, Err, sym, refl}
+use Rattle.std.proofs.Common.{rules, ◌≡◌, ◌∙◌, sym, refl}
 use mir.Syntax.{w32}
 use mir.Val.{SFits}
 use Rattle.keywrap_calls.proofs.CallPromises.{passed_on}

@@ -1,4 +1,4 @@
--- What is copied is the start of the status's text (`is`), as long as the buffer has room for.
+-- The copied bytes are the start of the text of the status (`is`), as many as fit.
 use Rattle.std.proofs.Common.{◌≡◌, ◌∙◌, ap, ap₂, length, take, min, rules}
 use Rattle.keywrap_calls.specs.StatusTexts.{status_text_of}
 use Rattle.keywrap_calls.proofs.Endings.{ended}

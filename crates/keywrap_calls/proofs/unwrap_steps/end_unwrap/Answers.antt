@@ -1,4 +1,4 @@
--- What the call of key_wrap_core ensures, said of the bytes of the initial value.
+-- The promise of key_wrap_core for the initial value of these bytes, by status.
 use Rattle.std.proofs.Common.{◌≡◌, ℕ, subst, arith}
 use Rattle.std.proofs.lemmas.Grind.{common_steps}
 use Rattle.key_wrap_core.specs.Plain.{Plain}

@@ -1,4 +1,4 @@
--- What the call of key_wrap_core ensures.
+-- The promise of key_wrap_core, by status.
 use Rattle.std.proofs.Common.{arith}
 use Rattle.std.proofs.lemmas.Grind.{common_steps}
 use Rattle.keywrap_calls.proofs.unwrap_steps.end_unwrap_padded.Goals as goal

@@ -1,12 +1,8 @@
--- The refusal of the conversion in the room.
-use Rattle.keywrap_cli.proofs.Common.{[], Err, ap, subst, MakesConversion}
-use Rattle.keywrap_cli.proofs.Conversions.{IsMade-refused}
+-- The result of the conversion in the room.
+use Rattle.std.proofs.Common.{ap}
 use Rattle.keywrap_cli.proofs.convert.convert_into.Goals as goal
 
-pub returns-in-Err-clause-answer : goal.returns-in-Err-clause-answer
-returns-in-Err-clause-answer g c =
+pub returns-in-Err : goal.returns-in-Err
+returns-in-Err g c =
     let own = ap (λ m. m.pair) c.new.ensures in
-    let E = g.B.BlockPair.encrypted c.args.pair.now in
-    let refused : MakesConversion c.args.direction c.args.form.now E c.args.input.now (Err c.in-Err.fault) =
-    subst (λ p. MakesConversion c.args.direction c.args.form.now (g.B.BlockPair.encrypted p) c.args.input.now (Err c.in-Err.fault)) own c.in-Err.ensures in
-    rw c.job_refusal.ensures (IsMade-refused (MakesConversion c.args.direction c.args.form.now E c.args.input.now) [] c.in-Err.fault refused)
+    rw c.job_refusal.ensures (rw own at c.in-Err.ensures)

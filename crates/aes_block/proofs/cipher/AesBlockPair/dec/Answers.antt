@@ -4,7 +4,7 @@ use Rattle.std.proofs.Common.{ℕ, List, ◌-◌, ap, ap₂, sym, arith, ◌∙�
 use Rattle.fips197.specs.Rounds.{add_round_key, inv_mix_columns, inv_shift_rows, inv_sub_bytes}
 use Rattle.fips197.specs.Cipher.{inv_rounds}
 use Rattle.fips197.specs.Words.{block_of}
-use Rattle.fips197.specs.StepsLaw.{inv_rounds-more, inv_rounds-none, inv_cipher-key}
+use Rattle.fips197.specs.StepsLaw.{inv_rounds-more, inv_rounds-none, inv_cipher_by-rounds}
 use Rattle.aes_block.proofs.cipher.AesBlockPair.dec.Goals as goal
 
 -- the steps with which a round of the definition ends
@@ -33,4 +33,4 @@ returns c =
     c.block_of.ensures
     ∙ c.inv_last_round.ensures
     ∙ ap₂ add_round_key c.round_key-2.ensures (sym (inv_rounds-none c.args.self.now (c.loop-k.k - 1) before (omega arith)) ∙ c.loop-k.invariant)
-    ∙ rw c.rounds-last.ensures.value (sym (inv_cipher-key c.args.self.now c.args.b c.rounds-last.ensures.legal c.rounds-last.ensures.bytes))
+    ∙ sym (inv_cipher_by-rounds c.args.self.now c.rounds-last.result c.args.b c.rounds-last.ensures.value)

@@ -3,7 +3,7 @@
 use Rattle.std.proofs.Common.{◌≡◌, ◌-◌, ◌+◌, ap₂, sym, arith, ◌∙◌}
 use Rattle.fips197.specs.Rounds.{add_round_key}
 use Rattle.fips197.specs.Cipher.{rounds, round, last_round}
-use Rattle.fips197.specs.StepsLaw.{rounds-more, cipher-key}
+use Rattle.fips197.specs.StepsLaw.{rounds-more, cipher_by-rounds}
 use Rattle.aes_block.proofs.cipher.AesBlockPair.enc.Goals as goal
 
 pub loop-k-init : goal.loop-k-init
@@ -22,4 +22,4 @@ returns c =
     c.block_of.ensures
     ∙ c.last_round.ensures
     ∙ ap₂ last_round c.round_key-2.ensures c.loop-k.invariant
-    ∙ rw (all, c.rounds-last.ensures.value) (sym (cipher-key c.args.self.now c.args.b c.rounds-last.ensures.legal c.rounds-last.ensures.bytes))
+    ∙ rw all (sym (cipher_by-rounds c.args.self.now c.rounds-last.result c.args.b c.rounds-last.ensures.value))

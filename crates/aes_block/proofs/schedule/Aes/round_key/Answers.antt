@@ -1,18 +1,16 @@
 -- The four words at 4k are round key k.
--- The invariant says that the schedule begins with the key expansion of the key that it keeps.
-use Rattle.std.proofs.Common.{◌≡◌, ℕ, ◌+◌, ◌*◌, ◌∙◌, List, length, take, ap, sym, subst}
-use Rattle.fips197.specs.KeyExpansion.{IsKekLength, rounds_of, key_expansion}
-use Rattle.fips197.specs.Words.{key_of}
-use Rattle.fips197.specs.ExpandingLaw.{words_key}
+use Rattle.std.proofs.Common.{◌≡◌, ℕ, ◌+◌, ◌*◌, ◌∙◌, List, length, take, ap, sym, arith}
+use Rattle.std.proofs.lemmas.List.{get_or-take}
+use Rattle.fips197.specs.KeyExpansion.{round_key}
+use Rattle.fips197.specs.ExpandingLaw.{round_key_same, words_key}
 use Rattle.aes_block.proofs.schedule.Aes.round_key.Goals as goal
 
 pub returns : goal.returns
 returns c =
-    let K = c.args.self.now in
+    let k = c.args.k in
     let s = c.self.inside.schedule in
-    let kept : key_of c.self.inside.rounds s ≡ K = c.self.view_is in
-    let rounds : c.self.inside.rounds ≡ rounds_of K = c.self.invariant.rounds_is ∙ ap rounds_of kept in
-    let words : take (4 * (rounds_of K + 1)) s ≡ key_expansion K =
-    ap (λ (r : ℕ). take (4 * (r + 1)) s) (sym rounds) ∙ c.self.invariant.words ∙ ap key_expansion kept in
-    let legal : IsKekLength (length K) = subst (λ (x : List ℕ). IsKekLength (length x)) kept c.self.invariant.legal in
-    words_key K s c.args.k legal words c.requires
+    let n : ℕ = 4 * (c.self.inside.rounds + 1) in
+    let long : length c.args.self.now ≡ n = ap length (sym c.self.view_is) ∙ c.self.invariant.words in
+    words_key s k
+    ∙ round_key_same s (take n s) k (λ i h. sym (get_or-take n s (4 * k + i) 0 (omega (arith, c.requires))))
+    ∙ ap (λ (w : List ℕ). round_key w k) c.self.view_is

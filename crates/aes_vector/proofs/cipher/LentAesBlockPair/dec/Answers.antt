@@ -6,7 +6,7 @@ use Rattle.fips197.specs.Rounds.{add_round_key, inv_mix_columns, inv_mix_matrix,
 use Rattle.fips197.specs.Cipher.{inv_rounds}
 use Rattle.aes_vector.specs.Tower.{affine_element}
 use Rattle.aes_vector.proofs.Adding.{multiplied_added}
-use Rattle.fips197.specs.StepsLaw.{inv_rounds-more, inv_rounds-none, inv_cipher-key}
+use Rattle.fips197.specs.StepsLaw.{inv_rounds-more, inv_rounds-none, inv_cipher_by-rounds}
 use Rattle.aes_vector.proofs.cipher.LentAesBlockPair.dec.Goals as goal
 
 -- the steps with which a round of the definition ends
@@ -40,4 +40,4 @@ returns c =
     c.bytes_of.ensures
     ∙ c.inv_last_round.ensures
     ∙ ap₂ add_round_key c.last_dec_key.ensures (sym (inv_rounds-none c.args.self.now (c.loop-k.k - 1) before (omega arith)) ∙ c.loop-k.invariant)
-    ∙ rw c.rounds-last.ensures.value (sym (inv_cipher-key c.args.self.now c.args.b c.rounds-last.ensures.legal c.rounds-last.ensures.bytes))
+    ∙ sym (inv_cipher_by-rounds c.args.self.now c.rounds-last.result c.args.b c.rounds-last.ensures.value)

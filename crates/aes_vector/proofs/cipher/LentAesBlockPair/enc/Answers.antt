@@ -1,8 +1,9 @@
 -- The cipher's body computes the cipher.
-use Rattle.std.proofs.Common.{◌≡◌, ◌-◌, ◌+◌, ap₂, sym, arith, ◌∙◌}
+use Rattle.std.proofs.Common.{◌≡◌, ◌-◌, ◌+◌, ap, ap₂, sym, arith, ◌∙◌}
+use Rattle.fips197.specs.KeyExpansion.{round_key}
 use Rattle.fips197.specs.Rounds.{add_round_key}
 use Rattle.fips197.specs.Cipher.{rounds, round, last_round}
-use Rattle.fips197.specs.StepsLaw.{rounds-more, cipher-key}
+use Rattle.fips197.specs.StepsLaw.{rounds-more, cipher_by-rounds}
 use Rattle.aes_vector.proofs.cipher.LentAesBlockPair.enc.Goals as goal
 
 pub loop-k-init : goal.loop-k-init
@@ -20,5 +21,5 @@ returns c =
     let all : c.loop-k.k ≡ c.rounds-last.result = omega arith in
     c.bytes_of.ensures
     ∙ c.last_round.ensures
-    ∙ ap₂ last_round c.last_enc_key.ensures c.loop-k.invariant
-    ∙ rw (all, c.rounds-last.ensures.value) (sym (cipher-key c.args.self.now c.args.b c.rounds-last.ensures.legal c.rounds-last.ensures.bytes))
+    ∙ ap₂ last_round (c.last_enc_key.ensures ∙ ap (round_key c.args.self.now) (sym c.rounds-last.ensures.value)) c.loop-k.invariant
+    ∙ rw all (sym (cipher_by-rounds c.args.self.now c.rounds-last.result c.args.b c.rounds-last.ensures.value))

@@ -9,7 +9,7 @@ use Rattle.fips197.specs.SBox.{number_with_bits, s_box}
 use Rattle.fips197.specs.KeyExpansion.{IsKekLength, first_words, key_expansion, next_word, rot_word, round_key, sub_word, temp}
 use Rattle.fips197.specs.Rounds.{add_round_key, multiplied, shift_rows, sub_bytes}
 use Rattle.fips197.specs.StateLaw.{all_bytes}
-use Rattle.fips197.specs.Cipher.{cipher, is_key, rounds}
+use Rattle.fips197.specs.Cipher.{cipher, cipher_by, rounds}
 use Rattle.key_wrap_core.specs.Words.{AreWords, at, joined, spelled, word_bytes}
 use Rattle.key_wrap_core.specs.Tape.{Tape, Wraps}
 use Rattle.key_wrap_core.specs.Lengths.{IsPaddedKeyLength, IsPlainKeyLength}
@@ -81,7 +81,7 @@ plain kek key text n x a legal key_words text_words wraps = record {
 
 -- opens AES
 opened : ℕ
-unfolding cipher is_key rounds sub_bytes shift_rows multiplied add_round_key s_box number_with_bits inverse product remainder polynomial_product round_key key_expansion first_words next_word temp sub_word rot_word word_bytes
+unfolding cipher_by rounds sub_bytes shift_rows multiplied add_round_key s_box number_with_bits inverse product remainder polynomial_product round_key key_expansion first_words next_word temp sub_word rot_word word_bytes
 opened = 0
 
 abbrev kek16 : List ℕ

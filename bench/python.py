@@ -1,0 +1,46 @@
+"""How long a call takes, beside Debian's pyca and the C call, as CSV: python3 bench/python.py WHEEL
+
+The C call is made through cffi; so is the one that is refused at once, which shows what that costs.
+Microseconds by the processor time of this thread, the best of many short rounds."""
+
+import sys
+import tempfile
+import time
+import timeit
+import zipfile
+
+LENGTHS = (16, 32, 4096)
+ROUNDS, CALLS, ROUND_US = 200, 100, 1000
+
+
+def calls(length):
+    """The calls with a key of this length, by their names."""
+    import keywrap
+    from keywrap import _ffi
+
+    kek, key, answer = bytes(range(32)), bytes(length), _ffi.ffi.new("uint8_t[]", length + 8)
+    wrapped = keywrap.wrap(kek, key)
+    yield "wrap", lambda: keywrap.wrap(kek, key)
+    yield "C call", lambda: _ffi.lib.keywrap_wrap(kek, 32, key, length, answer, length + 8)
+    yield "refused C call", lambda: _ffi.lib.keywrap_wrap(kek, 0, key, length, answer, length + 8)
+    yield "unwrap", lambda: keywrap.unwrap(kek, wrapped)
+    try:
+        from cryptography.hazmat.primitives import keywrap as theirs
+    except ImportError:
+        print("left out: pyca (apt-get install python3-cryptography)", file=sys.stderr)
+        return
+    assert theirs.aes_key_wrap(kek, key) == wrapped
+    yield "pyca's wrap", lambda: theirs.aes_key_wrap(kek, key)
+    yield "pyca's unwrap", lambda: theirs.aes_key_unwrap(kek, wrapped)
+
+
+if __name__ == "__main__":
+    with tempfile.TemporaryDirectory() as workdir:
+        zipfile.ZipFile(sys.argv[1]).extractall(workdir)
+        sys.path.insert(0, workdir)
+        print("key,call,us")
+        for length in LENGTHS:
+            for name, call in calls(length):
+                timer = timeit.Timer(call, timer=time.thread_time)
+                count = min(CALLS, int(ROUND_US / (timer.timeit(1) * 1e6)) + 1)
+                print(f"{length},{name},{min(timer.repeat(ROUNDS, count)) / count * 1e6:.2f}")

@@ -1,2 +1,0 @@
-pub mod ReversalLaw
-pub mod Storing

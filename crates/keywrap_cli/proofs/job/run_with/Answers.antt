@@ -1,0 +1,15 @@
+-- The KEK was read, and the run says the rest.
+use Rattle.key_wrap_core.specs.declared.agreed_form.AgreedForm.TheVariants.{Plain}
+use Rattle.keywrap_cli.specs.JobAnswers.{conversion}
+use Rattle.keywrap_cli.specs.JobReading.{one_kek}
+use Rattle.keywrap_cli.specs.declared.what.What.TheVariants.{Convert}
+use Rattle.keywrap_cli.proofs.Answered.{headline, whole_run}
+use Rattle.keywrap_cli.proofs.job.run_with.Goals as goal
+
+pub returns-clause-headline : goal.returns-clause-headline
+returns-clause-headline g c = λ ok.
+    let what = Convert (conversion c.args.direction (Plain c.args.iv.now)) in
+    let keks = one_kek c.args.kek_notation (g.K.Read.remaining c.args.kek.now) in
+    let keks' = one_kek c.args.kek_notation (g.K.Read.remaining c.read_kek.new.file) in
+    let run = rw c.conversion.ensures at c.run.ensures in
+    headline what _ keks keks' _ _ _ _ _ (whole_run what _ keks keks' c.in_ok-read_kek.field-0 _ _ _ _ _ c.in_ok-read_kek.ensures run) ok

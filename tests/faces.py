@@ -1,0 +1,252 @@
+"""What a face of the library is asked, and what it has to answer: for rows.txt, rows that are not kept (`more`), and
+published cases. A runner for each language reads lines
+
+    CALL KEK NEW IV FLAGS GIVEN ROOM KEY_LEN COUNT LENS_COUNT FORMS_COUNT
+
+of hex digits and numbers, or - for nothing, and prints NAME=VALUE.. for each, which is compared here. Calls of C and
+Rust have buffers: GIVEN is all slots side by side, and ROOM the length of a buffer to write, or - if GIVEN is that
+buffer. For others GIVEN has the items, with commas. What the last wrap has made (^) is given in a second run."""
+
+import functools
+import re
+
+import published
+import rows
+from builds import run
+from rows import BAD_IV, BAD_KEK, BAD_LENGTH, INTEGRITY, OK, PADDED, are_flags, rounded
+
+SIZES = {"room", "size", "key_len", "count", "lens_count", "forms_count"}
+ONE_KEY = "wrap", "unwrap", "wrap_padded", "unwrap_padded"
+FILL = b"\x5a"
+TABLES = {"rows": rows.kept, "more": published.more_rows, "foreign": published.foreign_rows,
+          "nist": published.nist_rows}
+
+
+@functools.cache
+def table(name):
+    """The rows of a table, or skips the test. "short" is "rows" without long keys, which take seconds."""
+    if name == "short":
+        return [row for row in table("rows") if row[2]["status"] or len(row[1]["given"]) < 1 << 16]
+    return list(TABLES[name]())
+
+
+def wrong_keks(row):
+    """The lengths of KEKs that no call takes."""
+    return [len(row[name]) for name in ("kek", "new") if name in row and len(row[name]) not in (16, 24, 32)]
+
+
+def reason(face, call, row):
+    """Why a face cannot express a row, or None."""
+    is_many, is_kek, iv = call.endswith("_many"), not wrong_keks(row), row.get("iv", rows.IV)
+    is_iv, is_text = len(iv) == 8 and iv[:4] != rows.RESERVED, rows.is_text(rows.PLAIN, len(row["given"]))
+    reasons = {
+        "the call of version 1.0 is only in C": call == "rewrap_in_place",
+        "flags are enums, or named": face not in ("go", "java") and not are_flags(call, row.get("flags", 0)),
+        "an initial value has eight bytes": face == "rust" and len(iv) != 8,
+        "no slice is so long": face == "rust" and row.get("count", 0) > 1 << 20,
+        "the package makes the buffers": face != "rust" and (SIZES & {*row} or call.endswith("in_place")),
+        "no keys are an empty list": face == "python" and is_many and not row["given"],
+        "JCA has no such call": face == "java" and (call in ("unwrap_any", "kind", "rewrap") or is_many),
+        "JCA has no empty key": face == "java" and row["kek"] == b"",
+        "the provider looks at the KEK before the initial value": face == "java" and "iv" in row and not is_kek,
+        "the length is refused before the initial value":
+            face == "python steps" and call == "unwrap_with" and not (is_iv or is_text),
+        "no such steps": face == "python steps" and not (is_kek and row["given"] and "kind" not in call
+                                                         and call != "rewrap_many"),
+    }
+    return next((why for why, holds in reasons.items() if holds), None) if face != "c" else None
+
+
+def ways(face, call, row):
+    """The calls that a runner makes for a row, each with the shape of its arguments."""
+    has_buffers = face in ("c", "rust")
+    yield call, buffers if has_buffers else values
+    if has_buffers and call in ONE_KEY and (call == "wrap_padded" or "room" not in row):
+        yield f"{call}_in_place", in_place
+
+
+def filled(content, length):
+    """So many bytes, of which the last are to be written."""
+    return content[:length] + FILL * (length - len(content))
+
+
+def digits(content, length, head=0):
+    """The hex digits of so many bytes: zeros, this content, and zeros. Of a text these are the ends."""
+    if isinstance(content, str):
+        return "00" * head + content + "00" * (length - head - int(content.partition("/")[2]))
+    return (bytes(head) + content + bytes(length - head - len(content))).hex()
+
+
+def buffers(face, call, row, due):
+    """What a call of C or Rust is given besides what the row names, and what its buffer has afterwards."""
+    given, out = row["given"], due.get("out")
+    if call.endswith("_many"):
+        heads = [FILL * 8 + item for item in given] if call == "wrap_many" else given
+        items = [filled(item, rounded(len(item))) for item in heads] if call == "wrap_many" else given
+        count = row.get("count", len(items))
+        given = filled(b"".join(items), row.get("size", sum(map(len, items))))
+        slot = len(given) // count if count else 0
+        fields = {"given": given, "count": count, "room": "-",
+                  "key_len": row.get("key_len", max(map(len, row["given"]), default=0))}
+        if call == "kind_many":
+            fields["room"] = room = row.get("room", max(slot - 8, 0))
+            return fields, (FILL * room if due["status"] else bytes(room)).hex()
+        return fields, given.hex() if out is None else "".join(
+            digits(item, slot, 8 * (call == "unwrap_many")) for item in out)
+    if call.startswith("rewrap") or call.endswith("in_place"):
+        return {"room": "-"}, given.hex() if out is None else digits(out, len(given))
+    room = row.get("room", rounded(len(given)) + 8 if call[0] == "w" else max(len(given) - 8, 0))
+    return {"room": room}, (FILL * room).hex() if out is None else digits(out, room)
+
+
+def in_place(face, call, row, due):
+    """The same for what a row says of another call. A wrap has the key behind eight bytes that may hold anything."""
+    given, out = row["given"], due.get("out")
+    buffer = filled(FILL * 8 + given, rounded(len(given)) + 8 if "padded" in call else len(given) + 8)
+    buffer = given if call[0] == "u" else filled(buffer, row.get("room", len(buffer)))
+    head = 8 * (call[0] == "u")
+    return ({"given": buffer, "key_len": len(given), "room": "-"},
+            buffer.hex() if out is None else digits(out, len(buffer), head))
+
+
+def values(face, call, row, due):
+    """What another call is given, and what it returns: nothing beside a refusal."""
+    given, out = row["given"], due.get("out")
+    if not call.endswith("_many"):
+        return {}, (given.hex() if out is None else digits(out, len(out))) if due["status"] == OK else None
+    given = ",".join(item.hex() for item in row["given"]) if row["given"] else "-"
+    return {"given": given}, ",".join("" if status > 1 else item.hex() for status, item in zip(
+        due["statuses"], out)) if out else None
+
+
+# The numbers that a call writes, in C and Rust also beside a refusal, and what one of other languages returns.
+WRITTEN = {"kind": "form len", "unwrap_any": "form len", "unwrap_padded": "len", "unwrap_padded_in_place": "len",
+           "rewrap": "already", "unwrap_many": "lens", "kind_many": "forms lens"}
+RETURNED = {"kind": "form len", "unwrap_any": "form", "kind_many": "forms lens"}
+
+
+def numbers(face, call, row, due):
+    """What is returned beside bytes. Python and JavaScript return no ALREADY_NEW."""
+    has_buffers, statuses = face in ("c", "rust"), due.get("statuses")
+    names = (WRITTEN if has_buffers else RETURNED).get(call, "").split()
+    has_numbers = due["status"] == OK or has_buffers and not call.endswith("_many")
+    found = {name: due.get(name, 0) for name in names if has_numbers and (name != "lens" or face != "python")}
+    if statuses:
+        refused = [status * (status > 1) for status in statuses]
+        found = {"statuses": statuses if has_buffers else refused, **found}
+    if face == "go":
+        # Its runner prints no 0 and false. Its forms have numbers from 1.
+        found = {name: value + 1 if name == "form" else value for name, value in found.items() if name != "statuses"}
+        if "forms" in found:
+            found["forms"] = [form + (not status) for form, status in zip(due["forms"], statuses)]
+        if call == "rewrap_many" and statuses:
+            found["already"] = ["true" if status == 1 else "false" for status in statuses]
+        found |= {"already": "true"} if "already" in due else {"statuses": refused} if statuses and any(refused) else {}
+    text = text_of(face, call, row, due)
+    return {**found, "text": text} if text else found
+
+
+# The texts of keywrap.h.
+TEXTS = {2: "initial value is not 8 bytes, or is reserved for the padded form",
+         3: "key length is not 16, 24 or 32 bytes", 4: "bad length", 5: "integrity check failed",
+         8: "no plain key has the length of the key"}
+
+
+def text_of(face, call, row, due):
+    """A pattern of what the refusal says, or the first one of many."""
+    statuses = due.get("statuses", [due["status"]])
+    refused = [status for status in statuses if status > 1]
+    is_kind = face in ("python", "python steps", "js") and "kind" in call and refused[:1] == [INTEGRITY]
+    if not refused or face in ("c", "java") or is_kind or face == "rust" and "statuses" in due:
+        return None
+    status, text, (kek, *_), iv = refused[0], TEXTS[refused[0]], [*wrong_keks(row), 0], row.get("iv", b"")
+    if face == "go":
+        at = f" at index {statuses.index(status)}; {len(refused)} of {len(statuses)} refused"
+        return f"keywrap: {text}{at * ('statuses' in due)}"
+    if face == "rust":
+        # It says what the output needs, if what is given has a legal length.
+        is_legal, form = rows.is_key if call[0] == "w" else rows.is_text, call.startswith(("wrap_p", "unwrap_p", "k"))
+        is_sure = "room" in row and not call.endswith("_many") and is_legal(int(form), len(row["given"]))
+        needs = r"(: the output needs \d+ bytes)" + "?" * (not is_sure)
+        return text + {BAD_KEK: f": {kek} bytes", BAD_LENGTH: needs}.get(status, "")
+    what, given = "the key" if call[0] == "w" else "the wrapped key", row["given"]
+    is_long = f"{what} is {len(given[0] if call.endswith('_many') and given else given)} bytes long"
+    if status == BAD_LENGTH:
+        return f"{text}: ({is_long}(; it must be .* bytes|, another one .*)|{what}s must have one length, and there .*)"
+    return {BAD_KEK: f"the KEK is {kek} bytes long; it must be 16, 24 or 32 bytes",
+            BAD_IV: "the initial value is reserved for the padded form: it begins with a6 59 59 a6" if len(iv) == 8 else
+                    f"the initial value is {len(iv)} bytes long; it must be 8 bytes",
+            INTEGRITY: f"{text}: no wrapped key under this KEK"}.get(
+                status, f"bad length: {text}; it must be a multiple of 8 from 16 to 1048576 bytes")
+
+
+@functools.cache
+def asked(face, *names):
+    """The lines for a runner, each with what it has to answer and its row."""
+    found = []
+    for call, row, due in (item for name in names for item in table(name) if not reason(face, *item[:2])):
+        is_one_length = len({*map(len, row["given"])}) == 1 if call.endswith("_many") else False
+        if face == "python" and call == "kind_many" and due["status"] == BAD_LENGTH and is_one_length:
+            # Nothing of such a length is a wrapped key.
+            refused = [INTEGRITY] * len(row["given"])
+            due = {"status": OK, "statuses": refused, "forms": [0] * len(refused)}
+        for way, shape in ways(face, call, row):
+            fields, out = shape(face, way, row, due)
+            fields = {"lens_count": fields.get("count", "-"), "forms_count": fields.get("count", "-"), **row, **fields}
+            words = [fields.get(name, "-") for name in (
+                "kek", "new", "iv", "flags", "given", "room", "key_len", "count", "lens_count", "forms_count")]
+            line = " ".join([way, *(word.hex() or "-" if isinstance(word, bytes) else str(word) for word in words)])
+            has_out = out is not None and not (shape is values and "kind" in call)
+            answer = {"status": due["status"], **({"out": out} if has_out else {}), **numbers(face, way, row, due)}
+            words = " ".join(f"{name}={rows.shown(value)}" for name, value in answer.items())
+            found.append((line, words, (call, row, due)))
+    return found
+
+
+def is_right(said, due):
+    """Whether the answer is the one that is due, in which `ends..ends/length` stands for so many bytes, and a text is a
+    pattern."""
+    (said, _, text), (due, _, pattern) = said.partition(" text="), due.partition(" text=")
+    if "/" in due:
+        due = re.sub(r"([0-9a-f]*)\.\.([0-9a-f]*)/(\d+)", lambda found: "%s[0-9a-f]{%d}%s" % (
+            found[1], 2 * int(found[3]) - len(found[1]) - len(found[2]), found[2]), due)
+        return not text and re.fullmatch(due, said) is not None
+    return said == due and re.fullmatch(pattern, text) is not None
+
+
+def group_of(line, due):
+    """The call, and whether it is done."""
+    return line.split()[0] + (", done" if due.startswith("status=0") else ", refused")
+
+
+def faults(face, runner, *names):
+    """The rows of these tables to which a runner gives another answer, each with its group. It is a command that reads
+    the lines, or a function of the lines."""
+    def answers(texts):
+        text = "".join(f"{text}\n" for text in texts)
+        found = re.findall("^status=.*", runner(text) if callable(runner) else run(*runner, input=text), re.M)
+        assert len(found) == len(texts), (len(found), len(texts), found[-1:])
+        return found
+
+    lines = asked(face, *names)
+    said, made, again = answers([line.replace("^", "-") for line, _, _ in lines]), "", {}
+    for at, (line, _, _) in enumerate(lines):
+        made = re.findall("out=([0-9a-f]*)", said[at])[0] if line.startswith("wrap") and "out=" in said[at] else made
+        again |= {at: line.replace("^", made)} if "^" in line else {}
+    for at, answer in zip(again, answers([*again.values()]) if again else ()):
+        said[at] = answer
+    return [(group_of(line, due), f"{rows.line_of(*row)[:300]}\n  {line[:40]}: {answer[:300]}, not {due[:300]}")
+            for (line, due, row), answer in zip(lines, said) if not is_right(answer, due)]
+
+
+def has_fault(face, runner, *names):
+    """Whether there is one. A runner that ends too early has one, too."""
+    try:
+        return bool(faults(face, runner, *names))
+    except AssertionError:
+        return True
+
+
+def check(face, runner, *names):
+    wrong = [fault for _, fault in faults(face, runner, *names)]
+    assert wrong == [], "\n".join([f"{len(wrong)} wrong answers", *wrong[:20]])

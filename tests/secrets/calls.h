@@ -1,0 +1,98 @@
+/* calls.h: the calls of the C library, as secrets.c and stack.c make them: with these buffers, lengths
+ * and flags. A program that includes it defines ROOM, and `PUBLIC(statuses)`, which comes before the
+ * statuses of slots are read. */
+
+#include <keywrap.h>
+#include <string.h>
+
+static uint8_t kek[32], new_kek[32], key[ROOM], text[2 * ROOM], out[2 * ROOM], iv[8];
+/* `whole` is the length of a wrapped key, and so is text_len, if that is not the length that is wrong. */
+static size_t kek_len, new_kek_len, key_len, whole, text_len, out_len;
+static uint32_t forms, padded, already;
+static int32_t status;
+
+/* The calls for many keys have one slot or two. Their status is that of the last slot. */
+static size_t slots, slot_lens[2];
+static uint8_t statuses[2], slot_forms[2];
+
+/* Sets the lengths for a key of this length. */
+static void set_lengths(size_t of_kek, size_t of_key) {
+    kek_len = new_kek_len = of_kek;
+    key_len = of_key;
+    whole = text_len = KEYWRAP_PADDED_TEXT_LEN(of_key);
+}
+
+/* Puts the key where the calls in place and in slots take it. */
+static void put_key(void) {
+    for (size_t i = 0; i < slots; i++) memcpy(out + 8 + i * whole, key, key_len);
+}
+
+static void wrap(void) {
+    status = keywrap_wrap(kek, kek_len, key, key_len, out, text_len);
+}
+static void wrap_with(void) {
+    status = keywrap_wrap_with(kek, kek_len, iv, 8, key, key_len, out, text_len);
+}
+static void wrap_in_place(void) {
+    status = keywrap_wrap_in_place(kek, kek_len, out, text_len);
+}
+static void wrap_padded(void) {
+    status = keywrap_wrap_padded(kek, kek_len, key, key_len, out, text_len);
+}
+static void wrap_padded_in_place(void) {
+    status = keywrap_wrap_padded_in_place(kek, kek_len, out, text_len, key_len);
+}
+static void unwrap(void) {
+    status = keywrap_unwrap(kek, kek_len, text, text_len, out, whole - 8);
+}
+static void unwrap_with(void) {
+    status = keywrap_unwrap_with(kek, kek_len, iv, 8, text, text_len, out, whole - 8);
+}
+static void unwrap_in_place(void) {
+    status = keywrap_unwrap_in_place(kek, kek_len, out, text_len);
+}
+static void unwrap_padded(void) {
+    status = keywrap_unwrap_padded(kek, kek_len, text, text_len, out, whole - 8, &out_len);
+}
+static void unwrap_padded_in_place(void) {
+    status = keywrap_unwrap_padded_in_place(kek, kek_len, out, text_len, &out_len);
+}
+/* The wrong length is the scratch buffer's, or the key's buffer's. */
+static void kind(void) {
+    status = keywrap_kind(kek, kek_len, text, whole, out, text_len - 8, &padded, &out_len);
+}
+static void unwrap_any(void) {
+    status = keywrap_unwrap_any(kek, kek_len, text, whole, out, text_len - 8, &padded, &out_len);
+}
+static void rewrap_in_place(void) {
+    status = keywrap_rewrap_in_place(kek, kek_len, new_kek, new_kek_len, out, text_len, forms);
+}
+static void rewrap(void) {
+    status = keywrap_rewrap(kek, kek_len, new_kek, new_kek_len, out, text_len, forms, &already);
+}
+/* A wrapped key that is already under the new KEK. */
+static void wrap_new(void) {
+    status = keywrap_wrap(new_kek, kek_len, key, key_len, out, text_len);
+}
+
+static int32_t of_slots(int32_t answer) {
+    if (answer != KEYWRAP_OK) return answer;
+    PUBLIC(statuses);
+    return statuses[slots - 1] == KEYWRAP_ALREADY_NEW ? KEYWRAP_OK : statuses[slots - 1];
+}
+static void wrap_many(void) {
+    status = of_slots(
+        keywrap_wrap_many(kek, kek_len, out, slots * text_len, key_len, forms, statuses, slots));
+}
+static void unwrap_many(void) {
+    status = of_slots(keywrap_unwrap_many(kek, kek_len, out, slots * text_len, forms, slot_lens,
+                                          slots, statuses, slots));
+}
+static void kind_many(void) {
+    status = of_slots(keywrap_kind_many(kek, kek_len, text, slots * whole, out, text_len - 8,
+                                        slot_forms, slots, slot_lens, slots, statuses, slots));
+}
+static void rewrap_many(void) {
+    status = of_slots(keywrap_rewrap_many(kek, kek_len, new_kek, new_kek_len, out,
+                                          slots * text_len, forms, statuses, slots));
+}
