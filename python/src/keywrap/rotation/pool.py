@@ -41,10 +41,12 @@ def _answer(work: Work, units: List[Unit]) -> Answer:
         return [Found(f"its process failed: {type(error).__name__}") for _ in units]
 
 
-def _serve(work: Work, batches: socket.socket) -> None:
+def _serve(work: Work, batches: socket.socket, parent: int) -> None:
     """Does batches until its parent ends. It leaves interrupts to the parent: the end of a unit is soon."""
     try:
         ctypes.CDLL(None).prctl(_PR_SET_PDEATHSIG, signal.SIGKILL, 0, 0, 0)
+        if os.getppid() != parent:
+            return  # It ended before this call.
         signal.signal(signal.SIGINT, signal.SIG_IGN)
         signal.signal(signal.SIGTERM, signal.SIG_DFL)
         signal.pthread_sigmask(signal.SIG_UNBLOCK, _SIGNALS)
@@ -63,12 +65,13 @@ class Process:
     def __init__(self, work: Work, timeout: float) -> None:
         self.socket, theirs = socket.socketpair()
         self.socket.settimeout(timeout)
+        parent = os.getpid()
         # Until it serves, it has the handlers of its parent.
         before = signal.pthread_sigmask(signal.SIG_BLOCK, _SIGNALS)
         try:
             self.pid = os.fork()
             if self.pid == 0:
-                _serve(work, theirs)
+                _serve(work, theirs, parent)
         finally:
             signal.pthread_sigmask(signal.SIG_SETMASK, before)
             theirs.close()
