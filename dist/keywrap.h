@@ -70,14 +70,14 @@
 #define KEYWRAP_ROOM(wrapped_len) ((wrapped_len) < 8 ? 0 : (wrapped_len) - 8)
 
 /* The status that a call returns. If several refusals apply, it is the first in this list.
- * KEYWRAP_BAD_KEK and KEYWRAP_BAD_LENGTH depend only on the lengths and flags. At these two, at
- * KEYWRAP_BAD_IV and at KEYWRAP_KEY_NOT_PLAIN the buffers are unchanged. There is one exception:
- * keywrap_rewrap_in_place, at the end of this file, has one more cause of KEYWRAP_BAD_LENGTH, and
- * after it the buffer is all zeros. */
+ * KEYWRAP_BAD_KEK and KEYWRAP_BAD_LENGTH depend only on lengths, flags, and how a kept KEK begins. At
+ * these two, at KEYWRAP_BAD_IV and at KEYWRAP_KEY_NOT_PLAIN the buffers are unchanged. There is one
+ * exception: keywrap_rewrap_in_place, at the end of this file, has one more cause of
+ * KEYWRAP_BAD_LENGTH, and after it the buffer is all zeros. */
 enum keywrap_status {
     KEYWRAP_OK = 0,
     KEYWRAP_BAD_IV = 2,     /* the initial value is refused; only a _with call returns it */
-    KEYWRAP_BAD_KEK = 3,    /* the KEK is not 16, 24 or 32 bytes long */
+    KEYWRAP_BAD_KEK = 3,    /* the KEK is not 16, 24 or 32 bytes long, and no kept KEK */
     KEYWRAP_BAD_LENGTH = 4, /* the call does not accept a length */
     KEYWRAP_INTEGRITY = 5,  /* the integrity check failed: another KEK, form or initial value, or
                                damage; no wrap returns it */
@@ -144,6 +144,26 @@ size_t keywrap_status_text(int32_t status, char *KEYWRAP_RESTRICT text, size_t c
  * version 1.1. */
 KEYWRAP_CALL
 int32_t keywrap_self_test(void);
+
+/* A KEK that is kept. A call expands the bytes of a KEK each time it is made; a kept KEK is expanded
+ * once. Since version 1.2.
+ *   kept_len  KEYWRAP_KEK_LEN(kek_len): 192, 224 or 256
+ *
+ * keywrap_kek_init keeps a KEK of 16, 24 or 32 bytes:
+ *   KEYWRAP_OK          kept is a kept KEK. In the place of the KEK and its length each call takes kept
+ *                       and kept_len, and does the same. It is as secret as the KEK
+ *   any other           kept is unchanged
+ *
+ * keywrap_kek_clear writes zeros to it. A kept KEK may be copied, and every library of this version
+ * takes it. Each call refuses bytes that do not begin like one, as cleared bytes (KEYWRAP_BAD_KEK).
+ * What comes behind the right beginning it takes for round keys, whatever it is. */
+#define KEYWRAP_KEK_LEN(kek_len) (4 * (kek_len) + 128)
+KEYWRAP_CALL KEYWRAP_READS(1, 2) KEYWRAP_WRITES(3, 4)
+int32_t keywrap_kek_init(const uint8_t *kek, size_t kek_len, uint8_t *KEYWRAP_RESTRICT kept,
+                         size_t kept_len);
+
+KEYWRAP_NONNULL KEYWRAP_WRITES(1, 2)
+void keywrap_kek_clear(uint8_t *kept, size_t kept_len);
 
 /* Plain, two buffers: key_len is a multiple of 8 from 16 to KEYWRAP_MAX_KEY, and wrapped_len is
  * KEYWRAP_TEXT_LEN(key_len).

@@ -61,7 +61,7 @@ def part(page, text):
 def calls(*headers):
     """The names of the calls that the headers declare, in their order."""
     return [call for header in headers
-            for call in re.findall(r"^(?:u?int\d+_t|size_t) (keywrap_\w+)\(", read(header), re.M)]
+            for call in re.findall(r"^(?:u?int\d+_t|size_t|void) (keywrap_\w+)\(", read(header), re.M)]
 
 
 def export_map():

@@ -115,7 +115,7 @@ NUMBERS = [
 
 def declarations(header: str, steps: str) -> str:
     """The calls, the statuses and the numbers of the headers, as cffi reads them. The steps are those for one key."""
-    calls = re.findall(r"^(?:u?int32_t|size_t) keywrap_\w+\([^;]*\);", header, re.M)
+    calls = re.findall(r"^(?:u?int32_t|size_t|void) keywrap_\w+\([^;]*\);", header, re.M)
     calls += re.findall(r"^u?int\d+_t keywrap_\w+(?<!_many)\([^;]*\);", steps, re.M)
     statuses = re.findall(r"^enum keywrap_status \{.*?\};", header, re.M | re.S)
     numbers = [f"#define {name} ..." for name in NUMBERS]

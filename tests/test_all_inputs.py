@@ -55,7 +55,7 @@ def exported():
     """The calls of keywrap.c."""
     headers = "".join((ROOT / "dist" / name).read_text() for name in ("keywrap.h", "keywrap_steps.h"))
     calls = headers.split("#ifndef KEYWRAP_PORTABLE\n/* The calls for many keys")[0]
-    return sorted(set(re.findall(r"^(?:u?int32_t|uint64_t|size_t) (keywrap_\w+)\(", calls, re.M)))
+    return sorted(set(re.findall(r"^(?:u?int32_t|uint64_t|size_t|void) (keywrap_\w+)\(", calls, re.M)))
 
 
 OBJECTS = ["keywrap.wasm", "keywrap.c by gcc", "keywrap.c by clang for wasm32", "libkeywrap", "libkeywrap_hw"]

@@ -21,8 +21,8 @@ int aes_works(void);
 /* aes_known_answers makes that test, for which the processor needs the instructions. */
 int aes_known_answers(void);
 
-/* aes_set_encrypt and aes_set_decrypt expand a KEK of 16, 24 or 32 bytes, whose length a proved call
- * has checked. */
+/* aes_set_encrypt and aes_set_decrypt take a KEK of 16, 24 or 32 bytes, or a kept KEK, which a proved
+ * call has checked. */
 void aes_set_encrypt(struct aes *aes, const uint8_t *kek, size_t kek_len);
 void aes_set_decrypt(struct aes *aes, const uint8_t *kek, size_t kek_len);
 

@@ -83,7 +83,7 @@ int32_t keywrap_wrap_with(const uint8_t *kek, size_t kek_len, const uint8_t *iv,
                           size_t wrapped_len) {
     OR_PROVED(wrap_with, kek, kek_len, iv, iv_len, key, key_len, wrapped, wrapped_len);
     struct run run;
-    int32_t status = keywrap_check_plain(kek_len, iv, iv_len, key_len, wrapped_len);
+    int32_t status = keywrap_check_plain(kek, kek_len, iv, iv_len, key_len, wrapped_len);
     if (status == KEYWRAP_OK)
         status = keywrap_begin_wrap(iv, iv_len, key, key_len, &run.steps, run.block);
     if (status != KEYWRAP_OK) return status;
@@ -96,7 +96,7 @@ int32_t keywrap_unwrap_with(const uint8_t *kek, size_t kek_len, const uint8_t *i
                             size_t key_len) {
     OR_PROVED(unwrap_with, kek, kek_len, iv, iv_len, wrapped, wrapped_len, key, key_len);
     struct run run;
-    int32_t status = keywrap_check_plain(kek_len, iv, iv_len, key_len, wrapped_len);
+    int32_t status = keywrap_check_plain(kek, kek_len, iv, iv_len, key_len, wrapped_len);
     if (status == KEYWRAP_OK) status = unwrap(kek, kek_len, &run, wrapped, key, key_len);
     return status == KEYWRAP_OK ? keywrap_end_unwrap(iv, iv_len, key, key_len, run.steps, run.block) : status;
 }
@@ -117,7 +117,7 @@ int32_t keywrap_wrap_in_place(const uint8_t *kek, size_t kek_len, uint8_t *buffe
                               size_t wrapped_len) {
     OR_PROVED(wrap_in_place, kek, kek_len, buffer, wrapped_len);
     const size_t len = wrapped_len - 8;
-    const int32_t status = keywrap_check_plain(kek_len, DEFAULT_IV, 8, len, wrapped_len);
+    const int32_t status = keywrap_check_plain(kek, kek_len, DEFAULT_IV, 8, len, wrapped_len);
     return status == KEYWRAP_OK ? wrap_slot(kek, kek_len, 0, buffer, wrapped_len, len) : status;
 }
 
@@ -125,14 +125,14 @@ int32_t keywrap_unwrap_in_place(const uint8_t *kek, size_t kek_len, uint8_t *buf
                                 size_t wrapped_len) {
     OR_PROVED(unwrap_in_place, kek, kek_len, buffer, wrapped_len);
     size_t len = wrapped_len - 8;
-    const int32_t status = keywrap_check_plain(kek_len, DEFAULT_IV, 8, len, wrapped_len);
+    const int32_t status = keywrap_check_plain(kek, kek_len, DEFAULT_IV, 8, len, wrapped_len);
     return status == KEYWRAP_OK ? unwrap_slot(kek, kek_len, 0, buffer, wrapped_len, &len) : status;
 }
 
 int32_t keywrap_wrap_padded_in_place(const uint8_t *kek, size_t kek_len, uint8_t *buffer,
                                      size_t wrapped_len, size_t key_len) {
     OR_PROVED(wrap_padded_in_place, kek, kek_len, buffer, wrapped_len, key_len);
-    const int32_t status = keywrap_check_padded(kek_len, key_len, wrapped_len);
+    const int32_t status = keywrap_check_padded(kek, kek_len, key_len, wrapped_len);
     return status == KEYWRAP_OK ? wrap_slot(kek, kek_len, KEYWRAP_NEW_PADDED, buffer, wrapped_len, key_len) : status;
 }
 
@@ -140,14 +140,14 @@ int32_t keywrap_unwrap_padded_in_place(const uint8_t *kek, size_t kek_len, uint8
                                        size_t wrapped_len, size_t *key_len) {
     OR_PROVED(unwrap_padded_in_place, kek, kek_len, buffer, wrapped_len, key_len);
     *key_len = 0;
-    const int32_t status = keywrap_check_room(kek_len, wrapped_len - 8, wrapped_len);
+    const int32_t status = keywrap_check_room(kek, kek_len, wrapped_len - 8, wrapped_len);
     return status == KEYWRAP_OK ? unwrap_slot(kek, kek_len, KEYWRAP_OLD_PADDED, buffer, wrapped_len, key_len) : status;
 }
 
 int32_t keywrap_wrap_padded(const uint8_t *kek, size_t kek_len, const uint8_t *key, size_t key_len,
                             uint8_t *wrapped, size_t wrapped_len) {
     OR_PROVED(wrap_padded, kek, kek_len, key, key_len, wrapped, wrapped_len);
-    const int32_t status = keywrap_check_padded(kek_len, key_len, wrapped_len);
+    const int32_t status = keywrap_check_padded(kek, kek_len, key_len, wrapped_len);
     if (status != KEYWRAP_OK) return status;
     memcpy(wrapped + 8, key, key_len);
     return wrap_slot(kek, kek_len, KEYWRAP_NEW_PADDED, wrapped, wrapped_len, key_len);
@@ -158,7 +158,7 @@ int32_t keywrap_unwrap_padded(const uint8_t *kek, size_t kek_len, const uint8_t 
     OR_PROVED(unwrap_padded, kek, kek_len, wrapped, wrapped_len, key, room, key_len);
     struct run run;
     *key_len = 0;
-    int32_t status = keywrap_check_room(kek_len, room, wrapped_len);
+    int32_t status = keywrap_check_room(kek, kek_len, room, wrapped_len);
     if (status == KEYWRAP_OK) status = unwrap(kek, kek_len, &run, wrapped, key, room);
     return status == KEYWRAP_OK ? keywrap_end_unwrap_padded(key, room, run.steps, run.block, key_len) : status;
 }
@@ -169,7 +169,7 @@ int32_t keywrap_unwrap_any(const uint8_t *kek, size_t kek_len, const uint8_t *wr
     OR_PROVED(unwrap_any, kek, kek_len, wrapped, wrapped_len, key, room, padded, key_len);
     struct run run;
     *key_len = *padded = 0;
-    int32_t status = keywrap_check_room(kek_len, room, wrapped_len);
+    int32_t status = keywrap_check_room(kek, kek_len, room, wrapped_len);
     if (status == KEYWRAP_OK) status = unwrap(kek, kek_len, &run, wrapped, key, room);
     if (status != KEYWRAP_OK) return status;
     return keywrap_end_unwrap_any(key, room, run.steps, run.block, padded, key_len);
@@ -180,7 +180,7 @@ int32_t keywrap_kind(const uint8_t *kek, size_t kek_len, const uint8_t *wrapped,
                      uint8_t *scratch, size_t room, uint32_t *padded, size_t *key_len) {
     OR_PROVED(kind, kek, kek_len, wrapped, wrapped_len, scratch, room, padded, key_len);
     *key_len = *padded = 0;
-    int32_t status = keywrap_check_kind(kek_len, room, wrapped_len);
+    int32_t status = keywrap_check_kind(kek, kek_len, room, wrapped_len);
     if (status != KEYWRAP_OK) return status;
     status = keywrap_unwrap_any(kek, kek_len, wrapped, wrapped_len, scratch, room, padded, key_len);
     wipe(scratch, room);
@@ -191,7 +191,7 @@ int32_t keywrap_rewrap(const uint8_t *old_kek, size_t old_kek_len, const uint8_t
                        size_t new_kek_len, uint8_t *buffer, size_t wrapped_len, uint32_t flags,
                        uint32_t *already) {
     OR_PROVED(rewrap, old_kek, old_kek_len, new_kek, new_kek_len, buffer, wrapped_len, flags, already);
-    int32_t status = keywrap_check_keks(old_kek_len, new_kek_len);
+    int32_t status = keywrap_check_keks(old_kek, old_kek_len, new_kek, new_kek_len);
     if (status == KEYWRAP_OK)
         status = rewrap_slot(old_kek, old_kek_len, new_kek, new_kek_len, buffer, wrapped_len, flags);
     return keywrap_end_rewrap((uint32_t)status, already);
@@ -201,7 +201,7 @@ int32_t keywrap_rewrap_in_place(const uint8_t *old_kek, size_t old_kek_len, cons
                                 size_t new_kek_len, uint8_t *buffer, size_t wrapped_len,
                                 uint32_t forms) {
     OR_PROVED(rewrap_in_place, old_kek, old_kek_len, new_kek, new_kek_len, buffer, wrapped_len, forms);
-    int32_t status = keywrap_check_rewrap_in_place(old_kek_len, new_kek_len, forms);
+    int32_t status = keywrap_check_rewrap_in_place(old_kek, old_kek_len, new_kek, new_kek_len, forms);
     if (status == KEYWRAP_OK)
         status = rewrap_slot(old_kek, old_kek_len, new_kek, new_kek_len, buffer, wrapped_len, forms);
     return keywrap_end_rewrap_in_place((uint32_t)status, buffer, wrapped_len);

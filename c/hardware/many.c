@@ -123,7 +123,7 @@ int32_t keywrap_rewrap_many(const uint8_t *old_kek, size_t old_kek_len, const ui
                             size_t new_kek_len, uint8_t *texts, size_t texts_len, uint32_t flags,
                             uint8_t *statuses, size_t count) {
     OR_PROVED(rewrap_many, old_kek, old_kek_len, new_kek, new_kek_len, texts, texts_len, flags, statuses, count);
-    const int32_t status = keywrap_check_rewrap_many(old_kek_len, new_kek_len, texts_len, flags, count);
+    const int32_t status = keywrap_check_rewrap_many(old_kek, old_kek_len, new_kek, new_kek_len, texts_len, flags, count);
     if (status != KEYWRAP_OK) return status;
     const size_t text_len = texts_len / count;
     if (text_len == 16 || text_len > COPIED) {
@@ -148,7 +148,7 @@ int32_t keywrap_rewrap_many(const uint8_t *old_kek, size_t old_kek_len, const ui
 int32_t keywrap_wrap_many(const uint8_t *kek, size_t kek_len, uint8_t *texts, size_t texts_len,
                           size_t key_len, uint32_t flags, uint8_t *statuses, size_t count) {
     OR_PROVED(wrap_many, kek, kek_len, texts, texts_len, key_len, flags, statuses, count);
-    int32_t status = keywrap_check_wrap_many(kek_len, texts_len, key_len, flags, count);
+    int32_t status = keywrap_check_wrap_many(kek, kek_len, texts_len, key_len, flags, count);
     if (status != KEYWRAP_OK) return status;
     const size_t text_len = texts_len / count;
     if (text_len == 16) {
@@ -179,7 +179,7 @@ int32_t keywrap_unwrap_many(const uint8_t *kek, size_t kek_len, uint8_t *texts, 
                             uint32_t flags, size_t *key_lens, size_t key_lens_count,
                             uint8_t *statuses, size_t count) {
     OR_PROVED(unwrap_many, kek, kek_len, texts, texts_len, flags, key_lens, key_lens_count, statuses, count);
-    int32_t status = keywrap_check_unwrap_many(kek_len, texts_len, flags, key_lens_count, count);
+    int32_t status = keywrap_check_unwrap_many(kek, kek_len, texts_len, flags, key_lens_count, count);
     if (status != KEYWRAP_OK) return status;
     const size_t text_len = texts_len / count;
     if (text_len == 16) {
@@ -212,7 +212,7 @@ int32_t keywrap_kind_many(const uint8_t *kek, size_t kek_len, const uint8_t *tex
                           uint8_t *statuses, size_t count) {
     OR_PROVED(kind_many, kek, kek_len, texts, texts_len, scratch, room, forms, forms_count, key_lens, key_lens_count,
               statuses, count);
-    const int32_t status = keywrap_check_kind_many(kek_len, texts_len, room, forms_count, key_lens_count, count);
+    const int32_t status = keywrap_check_kind_many(kek, kek_len, texts_len, room, forms_count, key_lens_count, count);
     if (status != KEYWRAP_OK) return status;
     const size_t text_len = texts_len / count;
     uint32_t padded;

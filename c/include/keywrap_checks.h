@@ -16,25 +16,33 @@
 #endif
 
 /* keywrap_wrap and keywrap_unwrap, also with an initial value or in place. */
-KEYWRAP_CHECK int32_t keywrap_check_plain(size_t kek_len, const uint8_t *iv, size_t iv_len,
-                                          size_t key_len, size_t text_len);
+KEYWRAP_CHECK int32_t keywrap_check_plain(const uint8_t *kek, size_t kek_len, const uint8_t *iv,
+                                          size_t iv_len, size_t key_len, size_t text_len);
 /* keywrap_wrap_padded, also in place. */
-KEYWRAP_CHECK int32_t keywrap_check_padded(size_t kek_len, size_t key_len, size_t text_len);
+KEYWRAP_CHECK int32_t keywrap_check_padded(const uint8_t *kek, size_t kek_len, size_t key_len,
+                                           size_t text_len);
 /* keywrap_unwrap_padded, also in place, and keywrap_unwrap_any. */
-KEYWRAP_CHECK int32_t keywrap_check_room(size_t kek_len, size_t room, size_t text_len);
-KEYWRAP_CHECK int32_t keywrap_check_kind(size_t kek_len, size_t room, size_t text_len);
+KEYWRAP_CHECK int32_t keywrap_check_room(const uint8_t *kek, size_t kek_len, size_t room,
+                                         size_t text_len);
+KEYWRAP_CHECK int32_t keywrap_check_kind(const uint8_t *kek, size_t kek_len, size_t room,
+                                         size_t text_len);
 /* The KEKs of keywrap_rewrap: keywrap_begin_rewrap checks the rest. */
-KEYWRAP_CHECK int32_t keywrap_check_keks(size_t old_kek_len, size_t new_kek_len);
-KEYWRAP_CHECK int32_t keywrap_check_rewrap_in_place(size_t old_kek_len, size_t new_kek_len,
+KEYWRAP_CHECK int32_t keywrap_check_keks(const uint8_t *old_kek, size_t old_kek_len,
+                                         const uint8_t *new_kek, size_t new_kek_len);
+KEYWRAP_CHECK int32_t keywrap_check_rewrap_in_place(const uint8_t *old_kek, size_t old_kek_len,
+                                                    const uint8_t *new_kek, size_t new_kek_len,
                                                     uint32_t forms);
-KEYWRAP_CHECK int32_t keywrap_check_wrap_many(size_t kek_len, size_t texts_len, size_t key_len,
-                                              uint32_t flags, size_t count);
-KEYWRAP_CHECK int32_t keywrap_check_unwrap_many(size_t kek_len, size_t texts_len, uint32_t flags,
-                                                size_t key_lens, size_t count);
-KEYWRAP_CHECK int32_t keywrap_check_rewrap_many(size_t old_kek_len, size_t new_kek_len,
+KEYWRAP_CHECK int32_t keywrap_check_wrap_many(const uint8_t *kek, size_t kek_len, size_t texts_len,
+                                              size_t key_len, uint32_t flags, size_t count);
+KEYWRAP_CHECK int32_t keywrap_check_unwrap_many(const uint8_t *kek, size_t kek_len,
+                                                size_t texts_len, uint32_t flags, size_t key_lens,
+                                                size_t count);
+KEYWRAP_CHECK int32_t keywrap_check_rewrap_many(const uint8_t *old_kek, size_t old_kek_len,
+                                                const uint8_t *new_kek, size_t new_kek_len,
                                                 size_t texts_len, uint32_t flags, size_t count);
-KEYWRAP_CHECK int32_t keywrap_check_kind_many(size_t kek_len, size_t texts_len, size_t room,
-                                              size_t forms, size_t key_lens, size_t count);
+KEYWRAP_CHECK int32_t keywrap_check_kind_many(const uint8_t *kek, size_t kek_len, size_t texts_len,
+                                              size_t room, size_t forms, size_t key_lens,
+                                              size_t count);
 
 /* Begins a wrapping, or ends an unwrapping, in the form that the flags of keywrap_wrap_many or
  * keywrap_unwrap_many request. */

@@ -1,44 +1,52 @@
-/* checks.c: the calls of keywrap_checks.h. A check of numbers uses no memory of the module. */
+/* checks.c: the calls of keywrap_checks.h. */
 
-static u64 run_check_plain(struct instance *module, const struct call *call) {
-    return w2c_keywrap_check_plain(module, call->numbers[0], BUFFER(0), call->numbers[1],
-                                   call->numbers[2]);
-}
+/* A check of a KEK, or of two, and of numbers: its name and parameters, the arguments of the module's
+ * function, the numbers, and the buffers. */
+#define NUM(n) call->numbers[n]
+#define THE(...) {__VA_ARGS__}
+#define CHECK(name, parameters, given, beside, ...)                                                \
+    CALL(HIDDEN, perform_steps, check_##name, parameters, given,                                   \
+         (BUFFERS, .numbers = (const u64[])THE beside), __VA_ARGS__)
 
-static int32_t keywrap_check_plain(size_t kek_len, const uint8_t *iv, size_t iv_len, size_t key_len,
-                                   size_t text_len) {
-    struct buffer buffers[] = {READS(iv, iv_len, 8)};
-    const u64 numbers[] = {kek_len, key_len, text_len};
-    struct call call = {.run = run_check_plain, BUFFERS, .numbers = numbers};
-    return (int32_t)perform_steps(&call);
-}
-
-#define CHECK(name, parameters, given)                                                             \
-    static int32_t keywrap_##name parameters {                                                     \
-        struct instance module = WITHOUT_MEMORY;                                                   \
-        return (int32_t)w2c_keywrap_##name given;                                                  \
-    }
-CHECK(check_padded, (size_t kek_len, size_t key_len, size_t text_len),
-      (&module, kek_len, key_len, text_len))
-CHECK(check_room, (size_t kek_len, size_t room, size_t text_len),
-      (&module, kek_len, room, text_len))
-CHECK(check_kind, (size_t kek_len, size_t room, size_t text_len),
-      (&module, kek_len, room, text_len))
-CHECK(check_keks, (size_t old_kek_len, size_t new_kek_len), (&module, old_kek_len, new_kek_len))
-CHECK(check_rewrap_in_place, (size_t old_kek_len, size_t new_kek_len, uint32_t forms),
-      (&module, old_kek_len, new_kek_len, forms))
-CHECK(check_wrap_many, (size_t kek_len, size_t texts_len, size_t key_len, uint32_t flags,
-                        size_t count),
-      (&module, kek_len, texts_len, key_len, flags, count))
-CHECK(check_unwrap_many, (size_t kek_len, size_t texts_len, uint32_t flags, size_t key_lens,
-                          size_t count),
-      (&module, kek_len, texts_len, flags, key_lens, count))
-CHECK(check_rewrap_many, (size_t old_kek_len, size_t new_kek_len, size_t texts_len, uint32_t flags,
-                          size_t count),
-      (&module, old_kek_len, new_kek_len, texts_len, flags, count))
-CHECK(check_kind_many, (size_t kek_len, size_t texts_len, size_t room, size_t forms,
-                        size_t key_lens, size_t count),
-      (&module, kek_len, texts_len, room, forms, key_lens, count))
+CHECK(plain,
+      (const uint8_t *kek, size_t kek_len, const uint8_t *iv, size_t iv_len, size_t key_len,
+       size_t text_len),
+      (module, BUFFER(0), BUFFER(1), NUM(0), NUM(1)), (key_len, text_len), KEK(kek, kek_len),
+      READS(iv, iv_len, 8))
+CHECK(padded, (const uint8_t *kek, size_t kek_len, size_t key_len, size_t text_len),
+      (module, BUFFER(0), NUM(0), NUM(1)), (key_len, text_len), KEK(kek, kek_len))
+CHECK(room, (const uint8_t *kek, size_t kek_len, size_t room, size_t text_len),
+      (module, BUFFER(0), NUM(0), NUM(1)), (room, text_len), KEK(kek, kek_len))
+CHECK(kind, (const uint8_t *kek, size_t kek_len, size_t room, size_t text_len),
+      (module, BUFFER(0), NUM(0), NUM(1)), (room, text_len), KEK(kek, kek_len))
+CHECK(keks,
+      (const uint8_t *old_kek, size_t old_kek_len, const uint8_t *new_kek, size_t new_kek_len),
+      (module, BUFFER(0), BUFFER(1)), (0), KEK(old_kek, old_kek_len), KEK(new_kek, new_kek_len))
+CHECK(rewrap_in_place,
+      (const uint8_t *old_kek, size_t old_kek_len, const uint8_t *new_kek, size_t new_kek_len,
+       uint32_t forms),
+      (module, BUFFER(0), BUFFER(1), (u32)NUM(0)), (forms), KEK(old_kek, old_kek_len),
+      KEK(new_kek, new_kek_len))
+CHECK(wrap_many,
+      (const uint8_t *kek, size_t kek_len, size_t texts_len, size_t key_len, uint32_t flags,
+       size_t count),
+      (module, BUFFER(0), NUM(0), NUM(1), (u32)NUM(2), NUM(3)), (texts_len, key_len, flags, count),
+      KEK(kek, kek_len))
+CHECK(unwrap_many,
+      (const uint8_t *kek, size_t kek_len, size_t texts_len, uint32_t flags, size_t key_lens,
+       size_t count),
+      (module, BUFFER(0), NUM(0), (u32)NUM(1), NUM(2), NUM(3)), (texts_len, flags, key_lens, count),
+      KEK(kek, kek_len))
+CHECK(rewrap_many,
+      (const uint8_t *old_kek, size_t old_kek_len, const uint8_t *new_kek, size_t new_kek_len,
+       size_t texts_len, uint32_t flags, size_t count),
+      (module, BUFFER(0), BUFFER(1), NUM(0), (u32)NUM(1), NUM(2)), (texts_len, flags, count),
+      KEK(old_kek, old_kek_len), KEK(new_kek, new_kek_len))
+CHECK(kind_many,
+      (const uint8_t *kek, size_t kek_len, size_t texts_len, size_t room, size_t forms,
+       size_t key_lens, size_t count),
+      (module, BUFFER(0), NUM(0), NUM(1), NUM(2), NUM(3), NUM(4)),
+      (texts_len, room, forms, key_lens, count), KEK(kek, kek_len))
 
 CALL(HIDDEN, perform_steps, begin_wrap_slot,
      (uint32_t flags, size_t key_len, uint8_t *registers, size_t len, uint64_t *done,

@@ -1,7 +1,6 @@
 -- What the unwrap in either form promises under a KEK that is not refused.
 use Rattle.std.proofs.Common.{◌≡◌, ◌↔◌, inl, inr, ◌<◌, ℕ, List, length, take, refl, sym, subst, All, Result, Ok, Err, pos, arith, rules}
 use Rattle.std.specs.Prelude.{IsOkUnless}
-use Rattle.fips197.specs.KeyExpansion.{IsKekLength}
 use Rattle.key_wrap_core.specs.declared.forms.Form.{Form}
 use Rattle.key_wrap_core.specs.declared.forms.FoundKey.{FoundKey}
 use Rattle.key_wrap_core.specs.declared.faults.InPlaceFault.{InPlaceFault}
@@ -11,6 +10,7 @@ use Rattle.key_wrap_core.specs.Padded.{padded}
 use Rattle.key_wrap_core.specs.Plain.{default_iv}
 use Rattle.key_wrap_core.specs.Forms.{IsWrappingWithIv, NoOtherForm, by_default, with_value}
 use Rattle.key_wrap_core.specs.EitherForm.{IsEither, IsOnlyWrapping, NoKeyIn}
+use Rattle.keywrap_calls.specs.Keks.{IsKek}
 use Rattle.keywrap_calls.specs.Status.{fault_status}
 use Rattle.keywrap_calls.specs.Any.{UnwrapsAny, form_of}
 
@@ -21,7 +21,7 @@ gave found = Ok found
 abbrev pub refusal : InPlaceFault → Result FoundKey InPlaceFault
 refusal fault = Err fault
 
-module _ (E : List ℕ → List ℕ) (kek text old new : List ℕ) (iv : ℕ) (default : iv ≡ default_iv) (legal_kek : IsKekLength (length kek)) where
+module _ (E : List ℕ → List ℕ) (kek text old new : List ℕ) (iv : ℕ) (default : iv ≡ default_iv) (legal_kek : IsKek kek) where
   pub found_any : (found : FoundKey) (flag : ℕ) → ((gave found ≡ Err BadLength) ↔ ¬ ArePaddedLengths (length old) (length text))
       → ((gave found ≡ Err Integrity) ↔ (ArePaddedLengths (length old) (length text) × NoKeyIn (IsEither iv) E text))
       → form_of flag ≡ found.form → flag < 2 → IsOnlyWrapping (IsEither iv) E (with_value found.form iv) (take found.len new) text

@@ -1,15 +1,15 @@
 -- What a call promises under a KEK that is not refused, from what key_wrap_core ensures of its outcome.
-use Rattle.std.proofs.Common.{◌≡◌, ◌↔◌, ℕ, List, length, refl, All, Result, Ok, Err, rules, subst, ◌∙◌}
+use Rattle.std.proofs.Common.{◌≡◌, ◌↔◌, ℕ, List, refl, All, Result, Ok, Err, rules, subst, ◌∙◌}
 use lib.IntN.{ℤ}
 use mir.Syntax.{w32}
 use mir.Val.{SFits, of_z, to_z}
 use Rattle.std.proofs.lemmas.Int.{to_z-of_z}
 use Rattle.std.specs.Prelude.{IfOk, OnOk, IsOkUnless}
-use Rattle.fips197.specs.KeyExpansion.{IsKekLength}
 use Rattle.key_wrap_core.specs.declared.faults.InPlaceFault.{InPlaceFault}
 use Rattle.key_wrap_core.specs.declared.faults.InPlaceFault.TheVariants.{BadLength, Integrity}
 use Rattle.key_wrap_core.specs.NoKey.{NoKey}
 use Rattle.key_wrap_core.specs.InPlace.{KeyAnswer}
+use Rattle.keywrap_calls.specs.Keks.{IsKek}
 use Rattle.keywrap_calls.specs.Status.{outcome_status}
 use Rattle.keywrap_calls.specs.Calls.{IsWrapCall, IsUnwrapCall, IsCallWith}
 use Rattle.keywrap_calls.specs.AgreedValue.{IsIv}
@@ -17,7 +17,7 @@ use Rattle.keywrap_calls.specs.CallAnswers.{IsUnwrapAnswer}
 
 -- a wrap; lengths that are not refused are legal
 pub wraps : (Legal : Type 0) (Relates : List ℕ → List ℕ → Type 0) (kek key old new : List ℕ) (outcome : Result (Unit {0}) InPlaceFault)
-    → IsKekLength (length kek) → (¬ (¬ Legal) → Legal) → ((outcome ≡ Err BadLength) ↔ ¬ Legal) → IsOkUnless outcome BadLength
+    → IsKek kek → (¬ (¬ Legal) → Legal) → ((outcome ≡ Err BadLength) ↔ ¬ Legal) → IsOkUnless outcome BadLength
     → (outcome ≡ Err BadLength → new ≡ old)
     → OnOk outcome (Relates key new) → OnOk outcome ((other : List ℕ) → Relates key other → other ≡ new)
     → IsWrapCall Legal Relates kek key old new (outcome_status outcome)
@@ -46,7 +46,7 @@ wraps Legal Relates kek key old new (Err Integrity) legal_kek legal refused only
 -- an unwrap
 pub unwraps : {A : Type 0} (Legal : Type 0) (Relates Other : List ℕ → List ℕ → Type 0) (kek text key old new : List ℕ)
     (outcome : Result A InPlaceFault) (found : A → List ℕ)
-    → IsKekLength (length kek) → KeyAnswer Legal Relates text found outcome
+    → IsKek kek → KeyAnswer Legal Relates text found outcome
     → IfOk outcome (λ m. (other : List ℕ) → Relates other text → other ≡ found m)
     → IfOk outcome (λ m. (other : List ℕ) → Relates (found m) other → other ≡ text) → OnOk outcome (NoKey Other text)
     → (outcome ≡ Err BadLength → new ≡ old) → (outcome ≡ Err Integrity → All (λ byte. byte ≡ 0) new)

@@ -1,14 +1,14 @@
 -- What the call that finds a kind promises for each kind, under a KEK that is not refused.
 use Rattle.std.proofs.Common.{◌≡◌, ℕ, List, length, refl, All, rules, pos}
-use Rattle.fips197.specs.KeyExpansion.{IsKekLength}
 use Rattle.key_wrap_core.specs.declared.forms.Kind.TheVariants as kinds
 use Rattle.key_wrap_core.specs.Lengths.{IsPaddedTextLength}
 use Rattle.key_wrap_core.specs.Plain.{Plain, default_iv}
 use Rattle.key_wrap_core.specs.Padded.{Padded}
 use Rattle.key_wrap_core.specs.Kind.{IsKindOf, NoOtherKey}
+use Rattle.keywrap_calls.specs.Keks.{IsKek}
 use Rattle.keywrap_calls.specs.KindCalls.{FindsKind, HasScratch}
 
-module _ (E : List ℕ → List ℕ) (kek text old new : List ℕ) (legal_kek : IsKekLength (length kek))
+module _ (E : List ℕ → List ℕ) (kek text old new : List ℕ) (legal_kek : IsKek kek)
     (room : HasScratch (length text) (length old)) (kept : ¬ IsPaddedTextLength (length text) → new ≡ old)
     (cleared : IsPaddedTextLength (length text) → All (λ byte. byte ≡ 0) new) where
   pub finds_plain : (m : ℕ) → IsKindOf E text (kinds.Plain m) → NoOtherKey E text (kinds.Plain m)

@@ -1,6 +1,6 @@
 -- What a vector shows when its steps are done, one by one: a vector is right if its KEK has a legal length and the form
 -- relates its key to its wrapped key.
-use Rattle.std.proofs.Common.{◌≡◌, ◌∙◌, ◌↔◌, ℕ, ◌+◌, List, length, rules, arith, Bool, true, false, not, ◌&&◌, nat_eq, IsTrue, ap, refl, sym, subst}
+use Rattle.std.proofs.Common.{◌≡◌, ◌∙◌, ◌↔◌, ℕ, ◌+◌, List, rules, arith, Bool, true, false, not, ◌&&◌, nat_eq, IsTrue, ap, refl, sym, subst}
 use lib.IntN.{ℤ}
 use lib.Dec.{eqb}
 use mir.Syntax.{w32}
@@ -10,29 +10,29 @@ use Rattle.std.proofs.lemmas.Int.{to_z-of_z}
 use Rattle.std.proofs.lemmas.Slice.Eq.{slice_eq-Decides}
 use Rattle.std.specs.Cmp.Lexicographic.{pointwise}
 use Rattle.std.specs.Prelude.{Decides}
-use Rattle.fips197.specs.KeyExpansion.{IsKekLength}
 use Rattle.key_wrap_core.specs.InPlace.{IsPaddedRoom, ArePaddedLengths, ArePlainLengths}
+use Rattle.keywrap_calls.specs.Keks.{IsKek}
 use Rattle.keywrap_calls.specs.Status.{IsDone, IsIntegrity}
 use Rattle.keywrap_calls.specs.Calls.{IsWrapCall, IsUnwrapCall}
 
 -- another wrapped key
 pub other_text : (Legal : Type 0) (Relates : List ℕ → List ℕ → Type 0) (kek key text old new : List ℕ) (status : ℤ)
     → IsWrapCall Legal Relates kek key old new status → IsDone status → ¬ (new ≡ text)
-    → IsTrue false ↔ (IsKekLength (length kek) × Relates key text)
+    → IsTrue false ↔ (IsKek kek × Relates key text)
 other_text Legal Relates kek key text old new status call done differ =
     (λ s. absurd (let wrong = s in cc), λ right. absurd (differ (sym ((call.answer done).only_text text right.1))))
 
 -- an unwrapping that is not done
 pub not_unwrapped : (Legal : Type 0) (Relates Other : List ℕ → List ℕ → Type 0) (kek text key found old new : List ℕ) (status : ℤ)
     → IsUnwrapCall Legal Relates Other kek text found old new status → Legal → ¬ IsDone status
-    → IsTrue false ↔ (IsKekLength (length kek) × Relates key text)
+    → IsTrue false ↔ (IsKek kek × Relates key text)
 not_unwrapped Legal Relates Other kek text key found old new status call legal refused =
     (λ s. absurd (let wrong = s in cc), λ right. absurd (refused (call.accepts key right.0 legal right.1)))
 
 -- the key that is found, or another one
 pub found_key : (Legal : Type 0) (Relates Other : List ℕ → List ℕ → Type 0) (kek text key found old new : List ℕ) (status : ℤ) (same : Bool)
     → IsUnwrapCall Legal Relates Other kek text found old new status → IsDone status → Decides same (found ≡ key)
-    → IsTrue same ↔ (IsKekLength (length kek) × Relates key text)
+    → IsTrue same ↔ (IsKek kek × Relates key text)
 found_key Legal Relates Other kek text key found old new status same call done decides = (
   λ s. ((call.done done).0, subst (λ (k : List ℕ). Relates k text) (decides.0 s) (call.answer done).wrapping),
   λ right. decides.1 (sym ((call.answer done).only_key key right.1)),

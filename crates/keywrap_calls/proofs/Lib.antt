@@ -1,5 +1,6 @@
 -- Lemmas that several calls share.
 pub mod CallPromises
+pub mod KekForms
 pub mod Finding
 pub mod AnyForm
 pub mod KnownAnswers

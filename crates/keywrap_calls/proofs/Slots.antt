@@ -5,9 +5,9 @@ use borrow.Rule.Slice.PartMut.{put_mid}
 use lib.IntN.{ℤ}
 use mir.Syntax.{w32}
 use mir.Val.{SFits, of_z, to_z}
-use Rattle.fips197.specs.KeyExpansion.{IsKekLength}
 use Rattle.key_wrap_core.specs.Lengths.{IsPaddedTextLength}
 use Rattle.key_wrap_core.proofs.Parts.{Writes, part_written, part_kept}
+use Rattle.keywrap_calls.specs.Keks.{IsKek}
 use Rattle.keywrap_calls.specs.KindCalls.{FindsKind}
 use Rattle.keywrap_calls.specs.Status.{IsUnwrapStatus}
 use Rattle.keywrap_calls.proofs.CallPromises.{passed_on}
@@ -79,12 +79,13 @@ module _ (Keks Legal Kept : Type 0) (IsSlot : ℕ → Type 0) (count : ℕ) wher
 abbrev pub some_kek : List ℕ
 some_kek = replicate 16 0
 
-pub some_kek_legal : IsKekLength (length some_kek)
-some_kek_legal = inl refl
+pub some_kek_legal : IsKek some_kek
+unfolding IsKek
+some_kek_legal = inl (inl refl)
 
 -- a kind that is found of a text of a legal length leaves its scratch buffer zero
 pub scratch_cleared : (E : List ℕ → List ℕ) (kek text old new : List ℕ) (is_padded key_len : ℕ) (status : ℤ)
-    → FindsKind E kek text old new is_padded key_len status → IsKekLength (length kek) → IsPaddedTextLength (length text)
+    → FindsKind E kek text old new is_padded key_len status → IsKek kek → IsPaddedTextLength (length text)
     → length text ≡ length old + 8 → All (λ byte. byte ≡ 0) new
 scratch_cleared E kek text old new is_padded key_len status call legal_kek legal room = elim call.statuses [
   | inl wrap ↦ elim wrap [

@@ -1,12 +1,12 @@
 -- The promise of each call about its status and its buffers: `old` is a buffer before the call, `new` after it. E is
 -- the block permutation of the KEK.
 use Rattle.std.specs.Prelude.{◌≡◌, ◌↔◌, ◌++◌, ℕ, ℤ, List, length, drop, take, All}
-use Rattle.fips197.specs.KeyExpansion.{IsKekLength}
 use Rattle.key_wrap_core.specs.Lengths.{IsPlainTextLength, IsPaddedTextLength}
 use Rattle.key_wrap_core.specs.Plain.{Plain, default_iv}
 use Rattle.key_wrap_core.specs.Padded.{Padded, padded}
 use Rattle.key_wrap_core.specs.NoKey.{NoKey, NoPlainKey}
 use Rattle.key_wrap_core.specs.InPlace.{IsPaddedRoom, ArePlainLengths, ArePaddedLengths, key_in}
+use Rattle.keywrap_calls.specs.Keks.{IsKek}
 use Rattle.keywrap_calls.specs.Status.{IsDone, IsBadIv, IsBadKek, IsBadLength, IsIntegrity, IsWrapStatus, IsUnwrapStatus}
 use Rattle.keywrap_calls.specs.CallAnswers.{IsWrapAnswer, IsUnwrapAnswer}
 use Rattle.keywrap_calls.specs.AgreedValue.{IsIv, iv_word}
@@ -14,9 +14,9 @@ use Rattle.keywrap_calls.specs.AgreedValue.{IsIv, iv_word}
 -- a call that wraps the key, in the form with this relation of keys and texts, if the lengths of its buffers are legal
 pub record IsWrapCall (Legal : Type 0) (Relates : List ℕ → List ℕ → Type 0) (kek key old new : List ℕ) (status : ℤ) : Type 0 where
   pub statuses : IsWrapStatus status
-  pub bad_kek : IsBadKek status ↔ ¬ IsKekLength (length kek)
-  pub bad_length : IsBadLength status ↔ (IsKekLength (length kek) × ¬ Legal)
-  pub done : IsDone status ↔ (IsKekLength (length kek) × Legal)
+  pub bad_kek : IsBadKek status ↔ ¬ IsKek kek
+  pub bad_length : IsBadLength status ↔ (IsKek kek × ¬ Legal)
+  pub done : IsDone status ↔ (IsKek kek × Legal)
   pub kept : ¬ IsDone status → new ≡ old
   pub answer : IsDone status → IsWrapAnswer Relates key new
 
@@ -25,15 +25,15 @@ pub record IsWrapCall (Legal : Type 0) (Relates : List ℕ → List ℕ → Type
 pub record IsUnwrapCall (Legal : Type 0) (Relates Other : List ℕ → List ℕ → Type 0) (kek text key old new : List ℕ) (status : ℤ)
     : Type 0 where
   pub statuses : IsUnwrapStatus status
-  pub bad_kek : IsBadKek status ↔ ¬ IsKekLength (length kek)
-  pub bad_length : IsBadLength status ↔ (IsKekLength (length kek) × ¬ Legal)
-  pub done : IsDone status → IsKekLength (length kek) × Legal
-  pub integrity : IsIntegrity status ↔ (IsKekLength (length kek) × Legal × NoKey Relates text)
+  pub bad_kek : IsBadKek status ↔ ¬ IsKek kek
+  pub bad_length : IsBadLength status ↔ (IsKek kek × ¬ Legal)
+  pub done : IsDone status → IsKek kek × Legal
+  pub integrity : IsIntegrity status ↔ (IsKek kek × Legal × NoKey Relates text)
   pub kept_at_bad_kek : IsBadKek status → new ≡ old
   pub kept_at_bad_length : IsBadLength status → new ≡ old
   pub cleared : IsIntegrity status → All (λ byte. byte ≡ 0) new
   pub answer : IsDone status → IsUnwrapAnswer Relates Other text key
-  pub accepts : (other : List ℕ) → IsKekLength (length kek) → Legal → Relates other text → IsDone status
+  pub accepts : (other : List ℕ) → IsKek kek → Legal → Relates other text → IsDone status
 
 -- a call under an initial value that both ends agreed on: a refused value is the first cause, and leaves the buffer
 -- unchanged

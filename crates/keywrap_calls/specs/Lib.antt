@@ -1,6 +1,7 @@
 -- What the contracts of the calls cite.
 pub mod Status
 pub mod CallAnswers
+pub mod Keks
 pub mod AgreedValue
 pub mod Calls
 pub mod Rewraps

@@ -1,13 +1,13 @@
 -- The promises of the calls for many keys. The wrapped keys have one length. Each is in a slot of one buffer, behind the
 -- slot before it, and has a status in one byte: slot and status are what the call for one key gives.
 use Rattle.std.specs.Prelude.{◌≡◌, ◌↔◌, ℕ, ℤ, pos, ◌+◌, ◌*◌, ◌/◌, ◌%◌, ◌<◌, List, length, take, drop, slice_index, replicate}
-use Rattle.fips197.specs.KeyExpansion.{IsKekLength}
 use Rattle.key_wrap_core.specs.declared.forms.Form.{Form}
 use Rattle.key_wrap_core.specs.declared.forms.Form.TheVariants.{Plain, Padded}
 use Rattle.key_wrap_core.specs.Lengths.{IsPaddedTextLength}
 use Rattle.key_wrap_core.specs.Forms.{IsTextLengthAs, by_default}
 use Rattle.key_wrap_core.specs.InPlace.{ArePlainLengths, IsPaddedRoom, key_in}
 use Rattle.key_wrap_core.specs.Rewrap.{IsOldLength}
+use Rattle.keywrap_calls.specs.Keks.{IsKek}
 use Rattle.keywrap_calls.specs.Status.{IsDone, IsBadKek, IsBadLength, IsWrapStatus}
 use Rattle.keywrap_calls.specs.Calls.{WrapsInPlace, WrapsPaddedInPlace, UnwrapsInPlace, UnwrapsPaddedInPlace, IsPaddedKey}
 use Rattle.keywrap_calls.specs.KindCalls.{FindsKind}
@@ -68,7 +68,7 @@ AreWrapSlots flags key_len len count = AreWrapFlags flags × AreSlots len count 
 
 abbrev pub WrapsMany : (E : List ℕ → List ℕ) (kek : List ℕ) (key_len flags : ℕ) (old new before after : List ℕ) (status : ℤ) → Type 0
 WrapsMany E kek key_len flags old new before after status =
-    IsManyCall (IsKekLength (length kek)) (AreWrapSlots flags key_len (length old) (length before)) ((new ≡ old) × (after ≡ before))
+    IsManyCall (IsKek kek) (AreWrapSlots flags key_len (length old) (length before)) ((new ≡ old) × (after ≡ before))
     (λ i. WrapsSlot (wrap_form flags) E kek key_len (slot_at (length old / length before) i old) (slot_at (length old / length before) i new)
     (pos (slice_index after i))) (length before) status
 
@@ -98,7 +98,7 @@ AreUnwrapSlots flags len count key_lens =
 -- `lens` and `key_lens` are the lengths before and after
 abbrev pub UnwrapsMany : (E : List ℕ → List ℕ) (kek : List ℕ) (flags : ℕ) (old new lens key_lens before after : List ℕ) (status : ℤ) → Type 0
 UnwrapsMany E kek flags old new lens key_lens before after status =
-    IsManyCall (IsKekLength (length kek)) (AreUnwrapSlots flags (length old) (length before) (length lens))
+    IsManyCall (IsKek kek) (AreUnwrapSlots flags (length old) (length before) (length lens))
     ((new ≡ old) × (key_lens ≡ lens) × (after ≡ before))
     (λ i. UnwrapsSlot (form_of_bit flags) E kek (slot_at (length old / length before) i old) (slot_at (length old / length before) i new)
     (slice_index key_lens i) (pos (slice_index after i))) (length before) status
@@ -116,7 +116,7 @@ AreKindSlots len room forms key_lens count =
 
 abbrev pub FindsMany : (E : List ℕ → List ℕ) (kek texts : List ℕ) (scratch scratch' forms forms' lens lens' before after : List ℕ) (status : ℤ) → Type 0
 FindsMany E kek texts scratch scratch' forms forms' lens lens' before after status =
-    IsManyCall (IsKekLength (length kek)) (AreKindSlots (length texts) (length scratch) (length forms) (length lens) (length before))
+    IsManyCall (IsKek kek) (AreKindSlots (length texts) (length scratch) (length forms) (length lens) (length before))
     ((scratch' ≡ scratch) × (forms' ≡ forms) × (lens' ≡ lens) × (after ≡ before))
     (λ i. FindsSlot E kek (slot_at (length texts / length before) i texts) (slice_index forms' i) (slice_index lens' i)
     (pos (slice_index after i))) (length before) status

@@ -1,6 +1,5 @@
 -- What the flags of a rewrap request, and the promises of the calls that rewrap.
-use Rattle.std.specs.Prelude.{◌≡◌, ◌↔◌, ℕ, zero, suc, ℤ, pos, Bool, false, List, length, All, Result, Ok, Err, ◌<◌, ◌/◌, ◌%◌, ◌==◌, if◌then◌else◌, nat_lt}
-use Rattle.fips197.specs.KeyExpansion.{IsKekLength}
+use Rattle.std.specs.Prelude.{◌≡◌, ◌↔◌, ℕ, zero, suc, ℤ, pos, Bool, false, List, All, Result, Ok, Err, ◌<◌, ◌/◌, ◌%◌, ◌==◌, if◌then◌else◌, nat_lt}
 use Rattle.key_wrap_core.specs.declared.forms.Form.{Form}
 use Rattle.key_wrap_core.specs.declared.forms.Form.TheVariants.{Plain, Padded}
 use Rattle.key_wrap_core.specs.declared.rewrapping.RewrapForms.{RewrapForms}
@@ -12,6 +11,7 @@ use Rattle.key_wrap_core.specs.declared.faults.Refusal.{Refusal}
 use Rattle.key_wrap_core.specs.declared.faults.Refusal.TheVariants.{BadLength, Integrity, KeyNotPlain}
 use Rattle.key_wrap_core.specs.Forms.{by_default}
 use Rattle.key_wrap_core.specs.Rewrap.{IsRewrapping}
+use Rattle.keywrap_calls.specs.Keks.{IsKek}
 use Rattle.keywrap_calls.specs.Status.{IsDone, IsBadKek, IsBadLength, IsIntegrity}
 
 -- only bits of the first two are set, or only the third one; and each also with the fourth bit
@@ -36,7 +36,7 @@ Requests flags request = AreFlags flags × (request.forms ≡ forms_of flags) ×
 
 -- both KEKs have legal lengths
 abbrev pub AreKeks : List ℕ → List ℕ → Type 0
-AreKeks old_kek new_kek = IsKekLength (length old_kek) × IsKekLength (length new_kek)
+AreKeks old_kek new_kek = IsKek old_kek × IsKek new_kek
 
 abbrev pub rewrap_status : Result Rewrapped Refusal → ℤ
 rewrap_status (Ok done) = pos 0

@@ -1,7 +1,7 @@
 -- What a self test has tried. Its calls are known by relations that mean nothing to it, so that only a call can show one.
 use Rattle.std.specs.Prelude.{◌≡◌, ⊤, ℕ, ℤ, List, take}
 use Rattle.std.specs.List.{AllByRecursion}
-use Rattle.fips197.specs.Cipher.{cipher}
+use Rattle.keywrap_calls.specs.Keks.{aes_of}
 use Rattle.keywrap_calls.specs.Calls.{WrapsPlain, UnwrapsPlain, WrapsPadded, UnwrapsPadded}
 use Rattle.keywrap_calls.specs.Status.{IsDone, IsIntegrity}
 use Rattle.test_vectors.specs.Published.{published_vectors, damaged, damaged_kek}
@@ -58,8 +58,8 @@ pub record AllTried (calls : LibraryCalls) : Type 0 where
 -- the exports, with the meaning of each call
 abbrev pub exports : LibraryCalls
 exports = record {
-  wrap = λ kek key old new status. WrapsPlain (cipher kek) kek key old new status;
-  unwrap = λ kek text old new status. UnwrapsPlain (cipher kek) kek text old new status;
-  wrap_padded = λ kek key old new status. WrapsPadded (cipher kek) kek key old new status;
-  unwrap_padded = λ kek text old new len status. UnwrapsPadded (cipher kek) kek text old new len status;
+  wrap = λ kek key old new status. WrapsPlain (aes_of kek) kek key old new status;
+  unwrap = λ kek text old new status. UnwrapsPlain (aes_of kek) kek text old new status;
+  wrap_padded = λ kek key old new status. WrapsPadded (aes_of kek) kek key old new status;
+  unwrap_padded = λ kek text old new len status. UnwrapsPadded (aes_of kek) kek text old new len status;
 }

@@ -1,9 +1,10 @@
 //! The unwrapping of a wrapped key in either form.
 
-ghost use Rattle.fips197.specs.Cipher.{cipher};
 ghost use Rattle.std.specs.Prelude.{◌≡◌, ◌<◌};
+ghost use Rattle.keywrap_calls.specs.Keks.{aes_of};
 ghost use Rattle.keywrap_calls.specs.Any.{UnwrapsAny, form_of};
 
+use crate::keks::aes_of;
 use crate::status::{BAD_KEK, DONE, fault_status};
 use block_pair::Meter;
 use fips197::KeyInit;
@@ -22,12 +23,12 @@ pub fn unwrap_any<A: KeyInit>(
     padded: &mut u32,
     key_len: &mut usize,
 ) -> i32
-    ensures { UnwrapsAny (cipher kek.now) kek.now text.now key.old key.new padded.new
+    ensures { UnwrapsAny (aes_of kek.now) kek.now text.now key.old key.new padded.new
         key_len.new result }
 {
     *padded = 0;
     *key_len = 0;
-    let Ok(aes) = A::new_in(kek, schedule) else {
+    let Some(aes) = aes_of::<A>(kek, schedule) else {
         return BAD_KEK;
     };
     match unwrap_any_into(&mut Meter::new(&aes), &InitialValue::default(), text, key) {

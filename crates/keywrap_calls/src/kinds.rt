@@ -1,10 +1,10 @@
 //! In which form a key was wrapped.
 
 ghost use Rattle.std.specs.Prelude.{◌<◌, ℕ, List, length};
-ghost use Rattle.fips197.specs.Cipher.{cipher};
-ghost use Rattle.fips197.specs.KeyExpansion.{IsKekLength};
+ghost use Rattle.keywrap_calls.specs.Keks.{IsKek, aes_of};
 ghost use Rattle.keywrap_calls.specs.KindCalls.{FindsKind};
 
+use crate::keks::aes_of;
 use crate::status::{BAD_KEK, BAD_LENGTH, DONE, INTEGRITY};
 use block_pair::{BlockPair, Meter};
 use fips197::KeyInit;
@@ -25,12 +25,12 @@ pub fn kind<A: KeyInit>(
     padded: &mut u32,
     key_len: &mut usize,
 ) -> i32
-    ensures { FindsKind (cipher kek.now) kek.now text.now scratch.old scratch.new
+    ensures { FindsKind (aes_of kek.now) kek.now text.now scratch.old scratch.new
         padded.new key_len.new result }
 {
     *padded = 0;
     *key_len = 0;
-    let Ok(aes) = A::new_in(kek, schedule) else {
+    let Some(aes) = aes_of::<A>(kek, schedule) else {
         return BAD_KEK;
     };
     kind_under(&aes, text, scratch, padded, key_len)
@@ -45,7 +45,7 @@ pub(crate) fn kind_under<B: BlockPair>(
     padded: &mut u32,
     key_len: &mut usize,
 ) -> i32
-    ensures finds { (kek : List ℕ) → IsKekLength (length kek) → FindsKind (B.encrypted pair.now)
+    ensures finds { (kek : List ℕ) → IsKek kek → FindsKind (B.encrypted pair.now)
         kek text.now scratch.old scratch.new padded.new key_len.new result }
     ensures bit { padded.new < 2 }
 {

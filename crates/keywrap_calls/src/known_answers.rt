@@ -2,9 +2,8 @@
 
 ghost use Rattle.std.specs.Prelude.{◌↔◌, ◌⊎◌, ◌≤◌, [], length, take, IsTrue};
 ghost use Rattle.std.specs.List.{AllByRecursion};
-ghost use Rattle.fips197.specs.Cipher.{cipher};
+ghost use Rattle.keywrap_calls.specs.Keks.{IsKek, aes_of};
 ghost use Rattle.keywrap_calls.specs.Tried.{AllTried, LibraryCalls, Gives, GivesBoth, GivesKey, Refuses};
-ghost use Rattle.fips197.specs.KeyExpansion.{IsKekLength};
 ghost use Rattle.key_wrap_core.specs.Plain.{Plain, default_iv};
 ghost use Rattle.key_wrap_core.specs.NoKey.{NoKey};
 ghost use Rattle.key_wrap_core.specs.Padded.{Padded};
@@ -30,23 +29,23 @@ pub trait TestedCalls {
 
     /// Wraps in the plain form.
     fn wrap(kek: &[u8], key: &[u8], text: &mut [u8]) -> i32
-        ensures wraps { WrapsPlain (cipher kek.now) kek.now key.now text.old text.new result }
+        ensures wraps { WrapsPlain (aes_of kek.now) kek.now key.now text.old text.new result }
         ensures made { calls.wrap kek.now key.now text.old text.new result };
 
     /// Unwraps in the plain form.
     fn unwrap(kek: &[u8], text: &[u8], key: &mut [u8]) -> i32
-        ensures unwraps { UnwrapsPlain (cipher kek.now) kek.now text.now key.old key.new result }
+        ensures unwraps { UnwrapsPlain (aes_of kek.now) kek.now text.now key.old key.new result }
         ensures made { calls.unwrap kek.now text.now key.old key.new result };
 
     /// Wraps in the padded form.
     fn wrap_padded(kek: &[u8], key: &[u8], text: &mut [u8]) -> i32
-        ensures wraps { WrapsPadded (cipher kek.now) kek.now key.now text.old text.new result }
+        ensures wraps { WrapsPadded (aes_of kek.now) kek.now key.now text.old text.new result }
         ensures made { calls.wrap_padded kek.now key.now text.old text.new result };
 
     /// Unwraps in the padded form.
     fn unwrap_padded(kek: &[u8], text: &[u8], key: &mut [u8], key_len: &mut usize) -> i32
-        ensures unwraps { UnwrapsPadded (cipher kek.now) kek.now text.now key.old key.new key_len.new result }
-        ensures key { IsPaddedKey (cipher kek.now)
+        ensures unwraps { UnwrapsPadded (aes_of kek.now) kek.now text.now key.old key.new key_len.new result }
+        ensures key { IsPaddedKey (aes_of kek.now)
             text.now (take key_len.new key.new) [] key.new key_len.new result }
         ensures made { calls.unwrap_padded
             kek.now text.now key.old key.new key_len.new result };
@@ -64,6 +63,7 @@ pub fn self_test<C: TestedCalls>() -> i32
     if right && refused { DONE } else { INTEGRITY }
 }
 
+#[tactic(auto, unfolding(crate::specs::Keks::IsKek, crate::specs::Keks::aes_of))]
 fn wrappings_are_right<C: TestedCalls>() -> bool
     ensures right { IsTrue result ↔ AllByRecursion IsRightWrapping published_vectors }
     ensures tried { IsTrue result → AllByRecursion
@@ -85,8 +85,8 @@ fn wrappings_are_right<C: TestedCalls>() -> bool
 #[inline(never)]
 fn is_plain<C: TestedCalls>(kek: &[u8], key: &[u8], text: &[u8]) -> bool
     requires { length key.now ≤ 32 }
-    ensures right { IsTrue result ↔ (IsKekLength (length kek.now)
-        × Plain (cipher kek.now) default_iv key.now text.now) }
+    ensures right { IsTrue result ↔ (IsKek kek.now
+        × Plain (aes_of kek.now) default_iv key.now text.now) }
     ensures tried { IsTrue result → Gives C.calls.wrap kek.now key.now text.now
         × Gives C.calls.unwrap kek.now text.now key.now }
 {
@@ -110,8 +110,8 @@ fn is_plain<C: TestedCalls>(kek: &[u8], key: &[u8], text: &[u8]) -> bool
 #[inline(never)]
 fn is_padded<C: TestedCalls>(kek: &[u8], key: &[u8], text: &[u8]) -> bool
     requires { length key.now ≤ 32 }
-    ensures right { IsTrue result ↔ (IsKekLength (length kek.now)
-        × Padded (cipher kek.now) key.now text.now) }
+    ensures right { IsTrue result ↔ (IsKek kek.now
+        × Padded (aes_of kek.now) key.now text.now) }
     ensures tried { IsTrue result → Gives C.calls.wrap_padded kek.now key.now text.now
         × GivesKey C.calls kek.now text.now key.now }
 {
@@ -135,7 +135,7 @@ fn is_padded<C: TestedCalls>(kek: &[u8], key: &[u8], text: &[u8]) -> bool
 
 // Whether the damaged wrapped key is refused.
 fn is_refused<C: TestedCalls>() -> bool
-    ensures right { IsTrue result ↔ NoKey (Plain (cipher damaged_kek) default_iv) damaged }
+    ensures right { IsTrue result ↔ NoKey (Plain (aes_of damaged_kek) default_iv) damaged }
     ensures tried { IsTrue result → Refuses C.calls damaged_kek damaged }
 {
     let mut key = [0; 16];

@@ -1,12 +1,12 @@
 //! In which forms many keys were wrapped.
 
 ghost use Rattle.std.specs.Prelude.{◌≡◌, ◌*◌, ◌+◌, ◌<◌, ℕ, List, length, pos, slice_index, All, IsTrue, ◌↔◌};
-ghost use Rattle.fips197.specs.Cipher.{cipher};
-ghost use Rattle.fips197.specs.KeyExpansion.{IsKekLength};
 ghost use Rattle.key_wrap_core.specs.Lengths.{IsPaddedTextLength};
+ghost use Rattle.keywrap_calls.specs.Keks.{IsKek, aes_of};
 ghost use Rattle.keywrap_calls.specs.Status.{IsDone};
 ghost use Rattle.keywrap_calls.specs.Many.{slot_at, AreKindSlots, FindsSlot, FindsMany};
 
+use crate::keks::aes_of;
 use crate::kinds::kind_under;
 use crate::many_slots::{slot_len, status_byte};
 use crate::status::{BAD_KEK, BAD_LENGTH, DONE};
@@ -28,11 +28,11 @@ pub fn kind_many<A: KeyInit>(
     key_lens: &mut [usize],
     statuses: &mut [u8],
 ) -> i32
-    ensures finds { FindsMany (cipher kek.now) kek.now texts.now scratch.old scratch.new
+    ensures finds { FindsMany (aes_of kek.now) kek.now texts.now scratch.old scratch.new
         forms.old forms.new key_lens.old key_lens.new statuses.old statuses.new result }
     ensures cleared { IsDone result → All (λ byte. byte ≡ 0) scratch.new }
 {
-    let Ok(aes) = A::new_in(kek, schedule) else {
+    let Some(aes) = aes_of::<A>(kek, schedule) else {
         return BAD_KEK;
     };
     if !are_kind_slots(
@@ -82,7 +82,7 @@ fn kind_slots<B: BlockPair>(
     requires slots { length texts.now ≡ (length scratch.old + 8) * length statuses.old }
     requires forms { length forms.old ≡ length statuses.old }
     requires lens { length key_lens.old ≡ length statuses.old }
-    ensures finds { (kek : List ℕ) → IsKekLength (length kek) → (i : ℕ) → i < length statuses.old
+    ensures finds { (kek : List ℕ) → IsKek kek → (i : ℕ) → i < length statuses.old
         → FindsSlot (B.encrypted pair.now) kek (slot_at (length scratch.old + 8) i texts.now)
         (slice_index forms.new i) (slice_index key_lens.new i) (pos (slice_index statuses.new i)) }
     ensures cleared { All (λ byte. byte ≡ 0) scratch.new }

@@ -1,10 +1,11 @@
 //! Rewrapping many wrapped keys of one length in one buffer.
 
 ghost use Rattle.std.specs.Prelude.{◌≡◌, ◌*◌, ◌/◌, ◌<◌, ℕ, List, length, slice_index, IfSome, IfNone};
-ghost use Rattle.fips197.specs.Cipher.{cipher};
+ghost use Rattle.keywrap_calls.specs.Keks.{aes_of};
 ghost use Rattle.keywrap_calls.specs.Rewraps.{AreKeks, Requests};
 ghost use Rattle.keywrap_calls.specs.Many.{AreRewrapSlots, RewrapsMany, RewrapsSlot, slot_at};
 
+use crate::keks::aes_of;
 use crate::many_slots::slot_len;
 use crate::rewrap_steps::outcome_byte;
 use crate::rewrapping::{request_of, rewrap_as};
@@ -26,13 +27,13 @@ pub fn rewrap_many<A: KeyInit>(
     flags: u32,
     statuses: &mut [u8],
 ) -> i32
-    ensures { RewrapsMany (cipher old_kek.now) (cipher new_kek.now)
+    ensures { RewrapsMany (aes_of old_kek.now) (aes_of new_kek.now)
         old_kek.now new_kek.now flags texts.old texts.new statuses.old statuses.new result }
 {
-    let Ok(old) = A::new_in(old_kek, schedules.0) else {
+    let Some(old) = aes_of::<A>(old_kek, schedules.0) else {
         return BAD_KEK;
     };
-    let Ok(new) = A::new_in(new_kek, schedules.1) else {
+    let Some(new) = aes_of::<A>(new_kek, schedules.1) else {
         return BAD_KEK;
     };
     let Some((request, len)) = rewrap_slots_of(flags, texts.len(), statuses.len()) else {

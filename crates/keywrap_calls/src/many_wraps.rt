@@ -1,12 +1,12 @@
 //! Wrapping and unwrapping many keys of one length in one buffer.
 
 ghost use Rattle.std.specs.Prelude.{◌≡◌, ◌↔◌, ◌*◌, ◌/◌, ◌<◌, ℕ, List, length, pos, slice_index, IfSome, IfNone, IsTrue};
-ghost use Rattle.fips197.specs.Cipher.{cipher};
-ghost use Rattle.fips197.specs.KeyExpansion.{IsKekLength};
+ghost use Rattle.keywrap_calls.specs.Keks.{IsKek, aes_of};
 ghost use Rattle.keywrap_calls.specs.Rewraps.{form_of_bit};
 ghost use Rattle.keywrap_calls.specs.Many.{slot_at, AreWrapFlags, wrap_form, IsKeySlot, AreWrapSlots, WrapsSlot, WrapsMany};
 ghost use Rattle.keywrap_calls.specs.Many.{AreUnwrapFlags, AreUnwrapSlots, UnwrapsPlainSlot, UnwrapsSlot, UnwrapsMany};
 
+use crate::keks::aes_of;
 use crate::many_slots::{slot_len, status_byte};
 use crate::padded_in_place::{unwrap_padded_under, wrap_padded_under};
 use crate::plain_in_place::{unwrap_under, wrap_under};
@@ -28,10 +28,10 @@ pub fn wrap_many<A: KeyInit>(
     flags: u32,
     statuses: &mut [u8],
 ) -> i32
-    ensures { WrapsMany (cipher kek.now)
+    ensures { WrapsMany (aes_of kek.now)
         kek.now key_len flags texts.old texts.new statuses.old statuses.new result }
 {
-    let Ok(aes) = A::new_in(kek, schedule) else {
+    let Some(aes) = aes_of::<A>(kek, schedule) else {
         return BAD_KEK;
     };
     let Some((form, len)) = wrap_slots_of(flags, key_len, texts.len(), statuses.len()) else {
@@ -94,7 +94,7 @@ fn wrap_slots<B: BlockPair>(
     statuses: &mut [u8],
 )
     requires { length texts.old ≡ len * length statuses.old }
-    ensures { (kek : List ℕ) → IsKekLength (length kek) → (i : ℕ) → i < length statuses.old
+    ensures { (kek : List ℕ) → IsKek kek → (i : ℕ) → i < length statuses.old
         → WrapsSlot form (B.encrypted pair.now) kek key_len
         (slot_at len i texts.old) (slot_at len i texts.new) (pos (slice_index statuses.new i)) }
 {
@@ -106,7 +106,7 @@ fn wrap_slots<B: BlockPair>(
 
 // Wraps the key in one slot, and returns the byte of its status.
 fn wrap_slot<B: BlockPair>(pair: &B, form: Form, key_len: usize, text: &mut [u8]) -> u8
-    ensures { (kek : List ℕ) → IsKekLength (length kek)
+    ensures { (kek : List ℕ) → IsKek kek
         → WrapsSlot form (B.encrypted pair.now) kek key_len text.old text.new (pos result) }
 {
     match form {
@@ -129,10 +129,10 @@ pub fn unwrap_many<A: KeyInit>(
     key_lens: &mut [usize],
     statuses: &mut [u8],
 ) -> i32
-    ensures { UnwrapsMany (cipher kek.now) kek.now flags texts.old texts.new
+    ensures { UnwrapsMany (aes_of kek.now) kek.now flags texts.old texts.new
         key_lens.old key_lens.new statuses.old statuses.new result }
 {
-    let Ok(aes) = A::new_in(kek, schedule) else {
+    let Some(aes) = aes_of::<A>(kek, schedule) else {
         return BAD_KEK;
     };
     let count = statuses.len();
@@ -187,7 +187,7 @@ fn unwrap_slots<B: BlockPair>(
 )
     requires slots { length texts.old ≡ len * length statuses.old }
     requires lens { length key_lens.old ≡ length statuses.old }
-    ensures { (kek : List ℕ) → IsKekLength (length kek) → (i : ℕ) → i < length statuses.old
+    ensures { (kek : List ℕ) → IsKek kek → (i : ℕ) → i < length statuses.old
         → UnwrapsSlot form (B.encrypted pair.now) kek (slot_at len i texts.old)
         (slot_at len i texts.new) (slice_index key_lens.new i) (pos (slice_index statuses.new i)) }
 {
@@ -201,7 +201,7 @@ fn unwrap_slots<B: BlockPair>(
 
 // Unwraps one slot, and returns the byte of its status, and the length of the key.
 fn unwrap_slot<B: BlockPair>(pair: &B, form: Form, text: &mut [u8]) -> (u8, usize)
-    ensures { (kek : List ℕ) → IsKekLength (length kek)
+    ensures { (kek : List ℕ) → IsKek kek
         → UnwrapsSlot form (B.encrypted pair.now) kek text.old text.new result.1 (pos result.0) }
 {
     match form {
@@ -216,7 +216,7 @@ fn unwrap_slot<B: BlockPair>(pair: &B, form: Form, text: &mut [u8]) -> (u8, usiz
 
 // The same in the plain form.
 fn unwrap_plain_slot<B: BlockPair>(pair: &B, text: &mut [u8]) -> (u8, usize)
-    ensures { (kek : List ℕ) → IsKekLength (length kek)
+    ensures { (kek : List ℕ) → IsKek kek
         → UnwrapsPlainSlot (B.encrypted pair.now) kek text.old text.new result.1 (pos result.0) }
 {
     let status = unwrap_under(pair, text);

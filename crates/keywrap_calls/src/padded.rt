@@ -1,9 +1,10 @@
 //! The padded form from one buffer into another.
 
 ghost use Rattle.std.specs.Prelude.{[], take};
-ghost use Rattle.fips197.specs.Cipher.{cipher};
+ghost use Rattle.keywrap_calls.specs.Keks.{aes_of};
 ghost use Rattle.keywrap_calls.specs.Calls.{WrapsPadded, UnwrapsPadded, IsPaddedKey};
 
+use crate::keks::aes_of;
 use crate::status::{BAD_KEK, DONE, fault_status, status_of};
 use block_pair::Meter;
 use fips197::KeyInit;
@@ -16,9 +17,9 @@ pub fn wrap_padded<A: KeyInit>(
     key: &[u8],
     text: &mut [u8],
 ) -> i32
-    ensures { WrapsPadded (cipher kek.now) kek.now key.now text.old text.new result }
+    ensures { WrapsPadded (aes_of kek.now) kek.now key.now text.old text.new result }
 {
-    let Ok(aes) = A::new_in(kek, schedule) else {
+    let Some(aes) = aes_of::<A>(kek, schedule) else {
         return BAD_KEK;
     };
     status_of(wrap_padded_into(&mut Meter::new(&aes), key, text))
@@ -34,12 +35,12 @@ pub fn unwrap_padded<A: KeyInit>(
     key: &mut [u8],
     key_len: &mut usize,
 ) -> i32
-    ensures unwraps { UnwrapsPadded (cipher kek.now) kek.now text.now key.old key.new key_len.new result }
-    ensures key { IsPaddedKey (cipher kek.now)
+    ensures unwraps { UnwrapsPadded (aes_of kek.now) kek.now text.now key.old key.new key_len.new result }
+    ensures key { IsPaddedKey (aes_of kek.now)
         text.now (take key_len.new key.new) [] key.new key_len.new result }
 {
     *key_len = 0;
-    let Ok(aes) = A::new_in(kek, schedule) else {
+    let Some(aes) = aes_of::<A>(kek, schedule) else {
         return BAD_KEK;
     };
     match unwrap_padded_into(&mut Meter::new(&aes), text, key) {

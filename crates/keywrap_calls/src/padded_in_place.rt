@@ -1,11 +1,11 @@
 //! The padded form in one buffer of the wrapped key's length: the key follows the first 8 bytes.
 
 ghost use Rattle.std.specs.Prelude.{ℕ, List, length, replicate};
-ghost use Rattle.fips197.specs.Cipher.{cipher};
-ghost use Rattle.fips197.specs.KeyExpansion.{IsKekLength};
 ghost use Rattle.key_wrap_core.specs.InPlace.{key_in};
+ghost use Rattle.keywrap_calls.specs.Keks.{IsKek, aes_of};
 ghost use Rattle.keywrap_calls.specs.Calls.{WrapsPaddedInPlace, UnwrapsPaddedInPlace, IsPaddedKey};
 
+use crate::keks::aes_of;
 use crate::status::{BAD_KEK, DONE, fault_status, status_of};
 use block_pair::{BlockPair, Meter};
 use fips197::KeyInit;
@@ -18,9 +18,9 @@ pub fn wrap_padded_in_place<A: KeyInit>(
     buffer: &mut [u8],
     key_len: usize,
 ) -> i32
-    ensures { WrapsPaddedInPlace (cipher kek.now) kek.now key_len buffer.old buffer.new result }
+    ensures { WrapsPaddedInPlace (aes_of kek.now) kek.now key_len buffer.old buffer.new result }
 {
-    let Ok(aes) = A::new_in(kek, schedule) else {
+    let Some(aes) = aes_of::<A>(kek, schedule) else {
         return BAD_KEK;
     };
     wrap_padded_under(&aes, buffer, key_len)
@@ -29,7 +29,7 @@ pub fn wrap_padded_in_place<A: KeyInit>(
 // The call under AES that is made.
 #[inline(always)]
 pub(crate) fn wrap_padded_under<B: BlockPair>(pair: &B, buffer: &mut [u8], key_len: usize) -> i32
-    ensures { (kek : List ℕ) → IsKekLength (length kek) → WrapsPaddedInPlace (B.encrypted pair.now)
+    ensures { (kek : List ℕ) → IsKek kek → WrapsPaddedInPlace (B.encrypted pair.now)
         kek key_len buffer.old buffer.new result }
 {
     status_of(key_wrap_core::wrap_padded_in_place(&mut Meter::new(pair), buffer, key_len))
@@ -44,13 +44,13 @@ pub fn unwrap_padded_in_place<A: KeyInit>(
     buffer: &mut [u8],
     key_len: &mut usize,
 ) -> i32
-    ensures unwraps { UnwrapsPaddedInPlace (cipher kek.now)
+    ensures unwraps { UnwrapsPaddedInPlace (aes_of kek.now)
         kek.now buffer.old buffer.new key_len.new result }
-    ensures key { IsPaddedKey (cipher kek.now)
+    ensures key { IsPaddedKey (aes_of kek.now)
         buffer.old (key_in key_len.new buffer.new) (replicate 8 0) buffer.new key_len.new result }
 {
     *key_len = 0;
-    let Ok(aes) = A::new_in(kek, schedule) else {
+    let Some(aes) = aes_of::<A>(kek, schedule) else {
         return BAD_KEK;
     };
     unwrap_padded_under(&aes, buffer, key_len)
@@ -63,7 +63,7 @@ pub(crate) fn unwrap_padded_under<B: BlockPair>(
     buffer: &mut [u8],
     key_len: &mut usize,
 ) -> i32
-    ensures unwraps { (kek : List ℕ) → IsKekLength (length kek)
+    ensures unwraps { (kek : List ℕ) → IsKek kek
         → UnwrapsPaddedInPlace (B.encrypted pair.now)
         kek buffer.old buffer.new key_len.new result }
     ensures key { IsPaddedKey (B.encrypted pair.now)

@@ -1,10 +1,11 @@
 //! The plain form from one buffer into another, under an initial value that both ends agreed on.
 
 ghost use Rattle.std.specs.Prelude.{◌≡◌, IfSome, IfNone};
-ghost use Rattle.fips197.specs.Cipher.{cipher};
+ghost use Rattle.keywrap_calls.specs.Keks.{aes_of};
 ghost use Rattle.keywrap_calls.specs.AgreedValue.{IsIv, iv_word};
 ghost use Rattle.keywrap_calls.specs.Calls.{WrapsWith, UnwrapsWith};
 
+use crate::keks::aes_of;
 use crate::status::{BAD_IV, BAD_KEK, status_of};
 use block_pair::Meter;
 use fips197::KeyInit;
@@ -19,12 +20,12 @@ pub fn wrap_with<A: KeyInit>(
     key: &[u8],
     text: &mut [u8],
 ) -> i32
-    ensures { WrapsWith (cipher kek.now) kek.now iv.now key.now text.old text.new result }
+    ensures { WrapsWith (aes_of kek.now) kek.now iv.now key.now text.old text.new result }
 {
     let Some(value) = iv_from_bytes(iv) else {
         return BAD_IV;
     };
-    let Ok(aes) = A::new_in(kek, schedule) else {
+    let Some(aes) = aes_of::<A>(kek, schedule) else {
         return BAD_KEK;
     };
     status_of(wrap_into_with(&mut Meter::new(&aes), &value, key, text))
@@ -39,12 +40,12 @@ pub fn unwrap_with<A: KeyInit>(
     text: &[u8],
     key: &mut [u8],
 ) -> i32
-    ensures { UnwrapsWith (cipher kek.now) kek.now iv.now text.now key.old key.new result }
+    ensures { UnwrapsWith (aes_of kek.now) kek.now iv.now text.now key.old key.new result }
 {
     let Some(value) = iv_from_bytes(iv) else {
         return BAD_IV;
     };
-    let Ok(aes) = A::new_in(kek, schedule) else {
+    let Some(aes) = aes_of::<A>(kek, schedule) else {
         return BAD_KEK;
     };
     status_of(unwrap_into_with(&mut Meter::new(&aes), &value, text, key))

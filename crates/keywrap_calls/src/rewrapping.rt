@@ -1,12 +1,13 @@
 //! Rewrapping in one buffer: from one KEK and form to another, the key never given out.
 
 ghost use Rattle.std.specs.Prelude.{◌≡◌, IfSome, IfNone, IsErr};
-ghost use Rattle.fips197.specs.Cipher.{cipher};
+ghost use Rattle.keywrap_calls.specs.Keks.{aes_of};
 ghost use Rattle.keywrap_calls.specs.Status.{IsBadKek};
 ghost use Rattle.keywrap_calls.specs.Rewraps.{AreFlags, IsInPlace, Requests, forms_of};
 ghost use Rattle.keywrap_calls.specs.Rewraps.{Rewraps, RewrapsInPlace, already_of, rewrap_status};
 ghost use Rattle.key_wrap_core.specs.Rewrap.{IsRewrapping};
 
+use crate::keks::aes_of;
 use crate::status::{BAD_KEK, BAD_LENGTH, DONE, INTEGRITY, KEY_NOT_PLAIN};
 use block_pair::{BlockPair, Meter};
 use fips197::KeyInit;
@@ -29,14 +30,14 @@ pub fn rewrap<A: KeyInit>(
     flags: u32,
     already: &mut u32,
 ) -> i32
-    ensures { Rewraps (cipher old_kek.now) (cipher new_kek.now)
+    ensures { Rewraps (aes_of old_kek.now) (aes_of new_kek.now)
         old_kek.now new_kek.now flags buffer.old buffer.new already.new result }
 {
     *already = 0;
-    let Ok(old) = A::new_in(old_kek, schedules.0) else {
+    let Some(old) = aes_of::<A>(old_kek, schedules.0) else {
         return BAD_KEK;
     };
-    let Ok(new) = A::new_in(new_kek, schedules.1) else {
+    let Some(new) = aes_of::<A>(new_kek, schedules.1) else {
         return BAD_KEK;
     };
     let Some(request) = request_of(flags) else {
@@ -62,13 +63,13 @@ pub fn rewrap_in_place<A: KeyInit>(
     buffer: &mut [u8],
     forms: u32,
 ) -> i32
-    ensures { RewrapsInPlace (cipher old_kek.now) (cipher new_kek.now)
+    ensures { RewrapsInPlace (aes_of old_kek.now) (aes_of new_kek.now)
         old_kek.now new_kek.now forms buffer.old buffer.new result }
 {
-    let Ok(old) = A::new_in(old_kek, schedules.0) else {
+    let Some(old) = aes_of::<A>(old_kek, schedules.0) else {
         return BAD_KEK;
     };
-    let Ok(new) = A::new_in(new_kek, schedules.1) else {
+    let Some(new) = aes_of::<A>(new_kek, schedules.1) else {
         return BAD_KEK;
     };
     if forms > 3 {

@@ -2,12 +2,12 @@
 //! step of one slot, in the form that the flags request.
 
 ghost use Rattle.std.specs.Prelude.{length};
-ghost use Rattle.fips197.specs.KeyExpansion.{IsKekLength};
+ghost use Rattle.keywrap_calls.specs.Keks.{IsKek};
 ghost use Rattle.keywrap_calls.specs.Checks.{ChecksCall};
 ghost use Rattle.keywrap_calls.specs.Many.{AreWrapSlots, AreUnwrapSlots, AreRewrapSlots, AreKindSlots};
 ghost use Rattle.keywrap_calls.specs.SlotSteps.{BeginsSlot, EndsSlot};
 
-use crate::argument_checks::is_kek_length;
+use crate::keks::is_kek;
 use crate::many_kinds::are_kind_slots;
 use crate::many_rewraps::rewrap_slots_of;
 use crate::many_wraps::{new_form, old_form, unwrap_slots_of, wrap_slots_of};
@@ -21,15 +21,15 @@ const DEFAULT_IV: [u8; 8] = [0xa6; 8];
 
 /// Checks the arguments of `wrap_many`.
 pub fn check_wrap_many(
-    kek_len: usize,
+    kek: &[u8],
     texts_len: usize,
     key_len: usize,
     flags: u32,
     count: usize,
 ) -> i32
-    ensures { ChecksCall (IsKekLength kek_len) (AreWrapSlots flags key_len texts_len count) result }
+    ensures { ChecksCall (IsKek kek.now) (AreWrapSlots flags key_len texts_len count) result }
 {
-    if !is_kek_length(kek_len) {
+    if !is_kek(kek) {
         return BAD_KEK;
     }
     match wrap_slots_of(flags, key_len, texts_len, count) {
@@ -40,15 +40,15 @@ pub fn check_wrap_many(
 
 /// Checks the arguments of `unwrap_many`.
 pub fn check_unwrap_many(
-    kek_len: usize,
+    kek: &[u8],
     texts_len: usize,
     flags: u32,
     key_lens: usize,
     count: usize,
 ) -> i32
-    ensures { ChecksCall (IsKekLength kek_len) (AreUnwrapSlots flags texts_len count key_lens) result }
+    ensures { ChecksCall (IsKek kek.now) (AreUnwrapSlots flags texts_len count key_lens) result }
 {
-    if !is_kek_length(kek_len) {
+    if !is_kek(kek) {
         return BAD_KEK;
     }
     match unwrap_slots_of(flags, texts_len, count, key_lens) {
@@ -59,16 +59,16 @@ pub fn check_unwrap_many(
 
 /// Checks the arguments of `rewrap_many`.
 pub fn check_rewrap_many(
-    old_kek_len: usize,
-    new_kek_len: usize,
+    old_kek: &[u8],
+    new_kek: &[u8],
     texts_len: usize,
     flags: u32,
     count: usize,
 ) -> i32
-    ensures { ChecksCall (IsKekLength old_kek_len × IsKekLength new_kek_len)
+    ensures { ChecksCall (IsKek old_kek.now × IsKek new_kek.now)
         (AreRewrapSlots flags texts_len count) result }
 {
-    if !is_kek_length(old_kek_len) || !is_kek_length(new_kek_len) {
+    if !is_kek(old_kek) || !is_kek(new_kek) {
         return BAD_KEK;
     }
     match rewrap_slots_of(flags, texts_len, count) {
@@ -79,17 +79,17 @@ pub fn check_rewrap_many(
 
 /// Checks the arguments of `kind_many`.
 pub fn check_kind_many(
-    kek_len: usize,
+    kek: &[u8],
     texts_len: usize,
     room: usize,
     forms: usize,
     key_lens: usize,
     count: usize,
 ) -> i32
-    ensures { ChecksCall (IsKekLength kek_len)
+    ensures { ChecksCall (IsKek kek.now)
         (AreKindSlots texts_len room forms key_lens count) result }
 {
-    if !is_kek_length(kek_len) {
+    if !is_kek(kek) {
         return BAD_KEK;
     }
     if !are_kind_slots(texts_len, room, forms, key_lens, count) {

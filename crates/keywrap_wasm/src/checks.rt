@@ -1,9 +1,9 @@
 //! The exports that only the calls by the processor's AES make. `keywrap_checks.h` describes each call.
 
 ghost use Rattle.std.specs.Prelude.{◌<◌};
-ghost use Rattle.fips197.specs.KeyExpansion.{IsKekLength};
 ghost use Rattle.key_wrap_core.specs.InPlace.{IsPaddedRoom, ArePlainLengths, ArePaddedLengths};
 ghost use Rattle.keywrap_calls.specs.Checks.{ChecksCall, ChecksWith, ChecksKeks, ChecksKind};
+ghost use Rattle.keywrap_calls.specs.Keks.{IsKek};
 ghost use Rattle.keywrap_calls.specs.Many.{AreWrapSlots, AreUnwrapSlots, AreRewrapSlots, AreKindSlots};
 ghost use Rattle.keywrap_calls.specs.RewrapSteps.{EndsRewrap, EndsInPlace};
 ghost use Rattle.keywrap_calls.specs.SlotSteps.{BeginsSlot, EndsSlot};
@@ -12,118 +12,109 @@ use keywrap_calls::{In, Out};
 
 /// Checks the arguments of a wrap or an unwrap in the plain form.
 #[unsafe(no_mangle)]
-pub extern "C" fn keywrap_check_plain(
-    kek_len: usize,
-    iv: In,
-    key_len: usize,
-    text_len: usize,
-) -> i32
-    ensures { ChecksWith iv.now (IsKekLength kek_len) (ArePlainLengths key_len text_len) result }
+pub extern "C" fn keywrap_check_plain(kek: In, iv: In, key_len: usize, text_len: usize) -> i32
+    ensures { ChecksWith iv.now (IsKek kek.now) (ArePlainLengths key_len text_len) result }
 {
-    keywrap_calls::check_plain(kek_len, iv, key_len, text_len)
+    keywrap_calls::check_plain(kek, iv, key_len, text_len)
 }
 
 /// Checks the arguments of a wrap in the padded form.
 #[unsafe(no_mangle)]
-pub extern "C" fn keywrap_check_padded(kek_len: usize, key_len: usize, text_len: usize) -> i32
-    ensures { ChecksCall (IsKekLength kek_len) (IsPaddedRoom key_len text_len) result }
+pub extern "C" fn keywrap_check_padded(kek: In, key_len: usize, text_len: usize) -> i32
+    ensures { ChecksCall (IsKek kek.now) (IsPaddedRoom key_len text_len) result }
 {
-    keywrap_calls::check_padded(kek_len, key_len, text_len)
+    keywrap_calls::check_padded(kek, key_len, text_len)
 }
 
 /// Checks the arguments of an unwrap in the padded form, or in either.
 #[unsafe(no_mangle)]
-pub extern "C" fn keywrap_check_room(kek_len: usize, room: usize, text_len: usize) -> i32
-    ensures { ChecksCall (IsKekLength kek_len) (ArePaddedLengths room text_len) result }
+pub extern "C" fn keywrap_check_room(kek: In, room: usize, text_len: usize) -> i32
+    ensures { ChecksCall (IsKek kek.now) (ArePaddedLengths room text_len) result }
 {
-    keywrap_calls::check_room(kek_len, room, text_len)
+    keywrap_calls::check_room(kek, room, text_len)
 }
 
 /// Checks the arguments of the call that finds the form.
 #[unsafe(no_mangle)]
-pub extern "C" fn keywrap_check_kind(kek_len: usize, room: usize, text_len: usize) -> i32
-    ensures { ChecksKind kek_len room text_len result }
+pub extern "C" fn keywrap_check_kind(kek: In, room: usize, text_len: usize) -> i32
+    ensures { ChecksKind kek.now room text_len result }
 {
-    keywrap_calls::check_kind(kek_len, room, text_len)
+    keywrap_calls::check_kind(kek, room, text_len)
 }
 
 /// Checks the KEKs of a rewrap.
 #[unsafe(no_mangle)]
-pub extern "C" fn keywrap_check_keks(old_kek_len: usize, new_kek_len: usize) -> i32
-    ensures { ChecksKeks old_kek_len new_kek_len result }
+pub extern "C" fn keywrap_check_keks(old_kek: In, new_kek: In) -> i32
+    ensures { ChecksKeks old_kek.now new_kek.now result }
 {
-    keywrap_calls::check_keks(old_kek_len, new_kek_len)
+    keywrap_calls::check_keks(old_kek, new_kek)
 }
 
 /// Checks the KEKs and the flags of the rewrap of version 1.0.
 #[unsafe(no_mangle)]
-pub extern "C" fn keywrap_check_rewrap_in_place(
-    old_kek_len: usize,
-    new_kek_len: usize,
-    forms: u32,
-) -> i32
-    ensures { ChecksCall (IsKekLength old_kek_len × IsKekLength new_kek_len) (forms < 4) result }
+pub extern "C" fn keywrap_check_rewrap_in_place(old_kek: In, new_kek: In, forms: u32) -> i32
+    ensures { ChecksCall (IsKek old_kek.now × IsKek new_kek.now) (forms < 4) result }
 {
-    keywrap_calls::check_rewrap_in_place(old_kek_len, new_kek_len, forms)
+    keywrap_calls::check_rewrap_in_place(old_kek, new_kek, forms)
 }
 
 /// Checks the arguments of a wrap of many keys.
 #[unsafe(no_mangle)]
 pub extern "C" fn keywrap_check_wrap_many(
-    kek_len: usize,
+    kek: In,
     texts_len: usize,
     key_len: usize,
     flags: u32,
     count: usize,
 ) -> i32
-    ensures { ChecksCall (IsKekLength kek_len) (AreWrapSlots flags key_len texts_len count) result }
+    ensures { ChecksCall (IsKek kek.now) (AreWrapSlots flags key_len texts_len count) result }
 {
-    keywrap_calls::check_wrap_many(kek_len, texts_len, key_len, flags, count)
+    keywrap_calls::check_wrap_many(kek, texts_len, key_len, flags, count)
 }
 
 /// Checks the arguments of an unwrap of many keys.
 #[unsafe(no_mangle)]
 pub extern "C" fn keywrap_check_unwrap_many(
-    kek_len: usize,
+    kek: In,
     texts_len: usize,
     flags: u32,
     key_lens: usize,
     count: usize,
 ) -> i32
-    ensures { ChecksCall (IsKekLength kek_len) (AreUnwrapSlots flags texts_len count key_lens) result }
+    ensures { ChecksCall (IsKek kek.now) (AreUnwrapSlots flags texts_len count key_lens) result }
 {
-    keywrap_calls::check_unwrap_many(kek_len, texts_len, flags, key_lens, count)
+    keywrap_calls::check_unwrap_many(kek, texts_len, flags, key_lens, count)
 }
 
 /// Checks the arguments of a rewrap of many keys.
 #[unsafe(no_mangle)]
 pub extern "C" fn keywrap_check_rewrap_many(
-    old_kek_len: usize,
-    new_kek_len: usize,
+    old_kek: In,
+    new_kek: In,
     texts_len: usize,
     flags: u32,
     count: usize,
 ) -> i32
-    ensures { ChecksCall (IsKekLength old_kek_len × IsKekLength new_kek_len)
+    ensures { ChecksCall (IsKek old_kek.now × IsKek new_kek.now)
         (AreRewrapSlots flags texts_len count) result }
 {
-    keywrap_calls::check_rewrap_many(old_kek_len, new_kek_len, texts_len, flags, count)
+    keywrap_calls::check_rewrap_many(old_kek, new_kek, texts_len, flags, count)
 }
 
 /// Checks the arguments of the call that finds the forms of many keys.
 #[unsafe(no_mangle)]
 pub extern "C" fn keywrap_check_kind_many(
-    kek_len: usize,
+    kek: In,
     texts_len: usize,
     room: usize,
     forms: usize,
     key_lens: usize,
     count: usize,
 ) -> i32
-    ensures { ChecksCall (IsKekLength kek_len)
+    ensures { ChecksCall (IsKek kek.now)
         (AreKindSlots texts_len room forms key_lens count) result }
 {
-    keywrap_calls::check_kind_many(kek_len, texts_len, room, forms, key_lens, count)
+    keywrap_calls::check_kind_many(kek, texts_len, room, forms, key_lens, count)
 }
 
 /// Begins the wrapping of one of many keys.

@@ -1,12 +1,13 @@
 //! The exports: the calls of `keywrap_calls` over AES by word tables. `keywrap.h` describes each call.
 
 ghost use Rattle.std.specs.Prelude.{◌≡◌, ◌↔◌, ◌⊎◌, ◌<◌, [], length, take, replicate, All};
-ghost use Rattle.aes_block.specs.Cipher.{cipher};
+ghost use Rattle.fips197.specs.KeyExpansion.{IsKekLength};
 ghost use Rattle.key_wrap_core.specs.InPlace.{key_in};
 ghost use Rattle.keywrap_calls.specs.Status.{IsDone, IsIntegrity};
 ghost use Rattle.keywrap_calls.specs.Calls.{WrapsPlain, UnwrapsPlain, WrapsWith, UnwrapsWith, WrapsInPlace, UnwrapsInPlace};
 ghost use Rattle.keywrap_calls.specs.Calls.{WrapsPadded, UnwrapsPadded, WrapsPaddedInPlace, UnwrapsPaddedInPlace, IsPaddedKey};
 ghost use Rattle.keywrap_calls.specs.Any.{UnwrapsAny};
+ghost use Rattle.keywrap_calls.specs.Keks.{IsKek, KeepsKek, aes_of};
 ghost use Rattle.keywrap_calls.specs.KindCalls.{FindsKind};
 ghost use Rattle.keywrap_calls.specs.Rewraps.{Rewraps, RewrapsInPlace};
 ghost use Rattle.keywrap_calls.specs.Many.{WrapsMany, UnwrapsMany, RewrapsMany, FindsMany};
@@ -21,7 +22,7 @@ use keywrap_calls::{In, Out, TestedCalls};
 /// Wraps in the plain form.
 #[unsafe(no_mangle)]
 pub extern "C" fn keywrap_wrap(kek: In, key: In, text: Out) -> i32
-    ensures { WrapsPlain (cipher kek.now) kek.now key.now text.old text.new result }
+    ensures { WrapsPlain (aes_of kek.now) kek.now key.now text.old text.new result }
 {
     keywrap_calls::wrap::<Aes>((), kek, key, text)
 }
@@ -29,7 +30,7 @@ pub extern "C" fn keywrap_wrap(kek: In, key: In, text: Out) -> i32
 /// Unwraps in the plain form.
 #[unsafe(no_mangle)]
 pub extern "C" fn keywrap_unwrap(kek: In, text: In, key: Out) -> i32
-    ensures { UnwrapsPlain (cipher kek.now) kek.now text.now key.old key.new result }
+    ensures { UnwrapsPlain (aes_of kek.now) kek.now text.now key.old key.new result }
 {
     keywrap_calls::unwrap::<Aes>((), kek, text, key)
 }
@@ -37,7 +38,7 @@ pub extern "C" fn keywrap_unwrap(kek: In, text: In, key: Out) -> i32
 /// Wraps in the plain form under an initial value.
 #[unsafe(no_mangle)]
 pub extern "C" fn keywrap_wrap_with(kek: In, iv: In, key: In, text: Out) -> i32
-    ensures { WrapsWith (cipher kek.now) kek.now iv.now key.now text.old text.new result }
+    ensures { WrapsWith (aes_of kek.now) kek.now iv.now key.now text.old text.new result }
 {
     keywrap_calls::wrap_with::<Aes>((), kek, iv, key, text)
 }
@@ -45,7 +46,7 @@ pub extern "C" fn keywrap_wrap_with(kek: In, iv: In, key: In, text: Out) -> i32
 /// Unwraps in the plain form under an initial value.
 #[unsafe(no_mangle)]
 pub extern "C" fn keywrap_unwrap_with(kek: In, iv: In, text: In, key: Out) -> i32
-    ensures { UnwrapsWith (cipher kek.now) kek.now iv.now text.now key.old key.new result }
+    ensures { UnwrapsWith (aes_of kek.now) kek.now iv.now text.now key.old key.new result }
 {
     keywrap_calls::unwrap_with::<Aes>((), kek, iv, text, key)
 }
@@ -53,7 +54,7 @@ pub extern "C" fn keywrap_unwrap_with(kek: In, iv: In, text: In, key: Out) -> i3
 /// Wraps in the plain form, in one buffer.
 #[unsafe(no_mangle)]
 pub extern "C" fn keywrap_wrap_in_place(kek: In, buffer: Out) -> i32
-    ensures { WrapsInPlace (cipher kek.now) kek.now buffer.old buffer.new result }
+    ensures { WrapsInPlace (aes_of kek.now) kek.now buffer.old buffer.new result }
 {
     keywrap_calls::wrap_in_place::<Aes>((), kek, buffer)
 }
@@ -61,7 +62,7 @@ pub extern "C" fn keywrap_wrap_in_place(kek: In, buffer: Out) -> i32
 /// Unwraps in the plain form, in one buffer.
 #[unsafe(no_mangle)]
 pub extern "C" fn keywrap_unwrap_in_place(kek: In, buffer: Out) -> i32
-    ensures unwraps { UnwrapsInPlace (cipher kek.now) kek.now buffer.old buffer.new result }
+    ensures unwraps { UnwrapsInPlace (aes_of kek.now) kek.now buffer.old buffer.new result }
     ensures first_word { IsDone result → take 8 buffer.new ≡ replicate 8 0 }
 {
     keywrap_calls::unwrap_in_place::<Aes>((), kek, buffer)
@@ -70,7 +71,7 @@ pub extern "C" fn keywrap_unwrap_in_place(kek: In, buffer: Out) -> i32
 /// Wraps in the padded form.
 #[unsafe(no_mangle)]
 pub extern "C" fn keywrap_wrap_padded(kek: In, key: In, text: Out) -> i32
-    ensures { WrapsPadded (cipher kek.now) kek.now key.now text.old text.new result }
+    ensures { WrapsPadded (aes_of kek.now) kek.now key.now text.old text.new result }
 {
     keywrap_calls::wrap_padded::<Aes>((), kek, key, text)
 }
@@ -78,8 +79,8 @@ pub extern "C" fn keywrap_wrap_padded(kek: In, key: In, text: Out) -> i32
 /// Unwraps in the padded form.
 #[unsafe(no_mangle)]
 pub extern "C" fn keywrap_unwrap_padded(kek: In, text: In, key: Out, key_len: &mut usize) -> i32
-    ensures unwraps { UnwrapsPadded (cipher kek.now) kek.now text.now key.old key.new key_len.new result }
-    ensures key { IsPaddedKey (cipher kek.now)
+    ensures unwraps { UnwrapsPadded (aes_of kek.now) kek.now text.now key.old key.new key_len.new result }
+    ensures key { IsPaddedKey (aes_of kek.now)
         text.now (take key_len.new key.new) [] key.new key_len.new result }
 {
     keywrap_calls::unwrap_padded::<Aes>((), kek, text, key, key_len)
@@ -88,7 +89,7 @@ pub extern "C" fn keywrap_unwrap_padded(kek: In, text: In, key: Out, key_len: &m
 /// Wraps in the padded form, in one buffer.
 #[unsafe(no_mangle)]
 pub extern "C" fn keywrap_wrap_padded_in_place(kek: In, buffer: Out, key_len: usize) -> i32
-    ensures { WrapsPaddedInPlace (cipher kek.now) kek.now key_len buffer.old buffer.new result }
+    ensures { WrapsPaddedInPlace (aes_of kek.now) kek.now key_len buffer.old buffer.new result }
 {
     keywrap_calls::wrap_padded_in_place::<Aes>((), kek, buffer, key_len)
 }
@@ -96,9 +97,9 @@ pub extern "C" fn keywrap_wrap_padded_in_place(kek: In, buffer: Out, key_len: us
 /// Unwraps in the padded form, in one buffer.
 #[unsafe(no_mangle)]
 pub extern "C" fn keywrap_unwrap_padded_in_place(kek: In, buffer: Out, key_len: &mut usize) -> i32
-    ensures unwraps { UnwrapsPaddedInPlace (cipher kek.now)
+    ensures unwraps { UnwrapsPaddedInPlace (aes_of kek.now)
         kek.now buffer.old buffer.new key_len.new result }
-    ensures key { IsPaddedKey (cipher kek.now)
+    ensures key { IsPaddedKey (aes_of kek.now)
         buffer.old (key_in key_len.new buffer.new) (replicate 8 0) buffer.new key_len.new result }
 {
     keywrap_calls::unwrap_padded_in_place::<Aes>((), kek, buffer, key_len)
@@ -113,7 +114,7 @@ pub extern "C" fn keywrap_unwrap_any(
     padded: &mut u32,
     key_len: &mut usize,
 ) -> i32
-    ensures { UnwrapsAny (cipher kek.now) kek.now text.now key.old key.new padded.new
+    ensures { UnwrapsAny (aes_of kek.now) kek.now text.now key.old key.new padded.new
         key_len.new result }
 {
     keywrap_calls::unwrap_any::<Aes>((), kek, text, key, padded, key_len)
@@ -128,7 +129,7 @@ pub extern "C" fn keywrap_kind(
     padded: &mut u32,
     key_len: &mut usize,
 ) -> i32
-    ensures { FindsKind (cipher kek.now) kek.now text.now scratch.old scratch.new
+    ensures { FindsKind (aes_of kek.now) kek.now text.now scratch.old scratch.new
         padded.new key_len.new result }
 {
     keywrap_calls::kind::<Aes>((), kek, text, scratch, padded, key_len)
@@ -143,7 +144,7 @@ pub extern "C" fn keywrap_rewrap(
     flags: u32,
     already: &mut u32,
 ) -> i32
-    ensures { Rewraps (cipher old_kek.now) (cipher new_kek.now)
+    ensures { Rewraps (aes_of old_kek.now) (aes_of new_kek.now)
         old_kek.now new_kek.now flags buffer.old buffer.new already.new result }
 {
     keywrap_calls::rewrap::<Aes>(((), ()), old_kek, new_kek, buffer, flags, already)
@@ -152,7 +153,7 @@ pub extern "C" fn keywrap_rewrap(
 /// Rewraps as version 1.0 did, which left zeros after a failed check.
 #[unsafe(no_mangle)]
 pub extern "C" fn keywrap_rewrap_in_place(old_kek: In, new_kek: In, buffer: Out, forms: u32) -> i32
-    ensures { RewrapsInPlace (cipher old_kek.now) (cipher new_kek.now)
+    ensures { RewrapsInPlace (aes_of old_kek.now) (aes_of new_kek.now)
         old_kek.now new_kek.now forms buffer.old buffer.new result }
 {
     keywrap_calls::rewrap_in_place::<Aes>(((), ()), old_kek, new_kek, buffer, forms)
@@ -167,7 +168,7 @@ pub extern "C" fn keywrap_wrap_many(
     flags: u32,
     statuses: Out,
 ) -> i32
-    ensures { WrapsMany (cipher kek.now)
+    ensures { WrapsMany (aes_of kek.now)
         kek.now key_len flags texts.old texts.new statuses.old statuses.new result }
 {
     keywrap_calls::wrap_many::<Aes>((), kek, texts, key_len, flags, statuses)
@@ -182,7 +183,7 @@ pub extern "C" fn keywrap_unwrap_many(
     key_lens: &mut [usize],
     statuses: Out,
 ) -> i32
-    ensures { UnwrapsMany (cipher kek.now) kek.now flags texts.old texts.new
+    ensures { UnwrapsMany (aes_of kek.now) kek.now flags texts.old texts.new
         key_lens.old key_lens.new statuses.old statuses.new result }
 {
     keywrap_calls::unwrap_many::<Aes>((), kek, texts, flags, key_lens, statuses)
@@ -197,7 +198,7 @@ pub extern "C" fn keywrap_rewrap_many(
     flags: u32,
     statuses: Out,
 ) -> i32
-    ensures { RewrapsMany (cipher old_kek.now) (cipher new_kek.now)
+    ensures { RewrapsMany (aes_of old_kek.now) (aes_of new_kek.now)
         old_kek.now new_kek.now flags texts.old texts.new statuses.old statuses.new result }
 {
     keywrap_calls::rewrap_many::<Aes>(((), ()), old_kek, new_kek, texts, flags, statuses)
@@ -213,11 +214,28 @@ pub extern "C" fn keywrap_kind_many(
     key_lens: &mut [usize],
     statuses: Out,
 ) -> i32
-    ensures finds { FindsMany (cipher kek.now) kek.now texts.now scratch.old scratch.new
+    ensures finds { FindsMany (aes_of kek.now) kek.now texts.now scratch.old scratch.new
         forms.old forms.new key_lens.old key_lens.new statuses.old statuses.new result }
     ensures cleared { IsDone result → All (λ byte. byte ≡ 0) scratch.new }
 {
     keywrap_calls::kind_many::<Aes>((), kek, texts, scratch, forms, key_lens, statuses)
+}
+
+/// Keeps a KEK for any number of calls.
+#[unsafe(no_mangle)]
+pub extern "C" fn keywrap_kek_init(kek: In, kept: Out) -> i32
+    ensures { KeepsKek kek.now kept.old kept.new result }
+{
+    keywrap_calls::kek_init::<Aes>((), kek, kept)
+}
+
+/// Clears a kept KEK.
+#[unsafe(no_mangle)]
+pub extern "C" fn keywrap_kek_clear(kept: Out)
+    ensures cleared { All (λ byte. byte ≡ 0) kept.new }
+    ensures refused { IsKek kept.new → IsKekLength (length kept.old) }
+{
+    keywrap_calls::kek_clear(kept)
 }
 
 /// Writes the text of a status.
