@@ -18,7 +18,7 @@ from rows import BAD_IV, BAD_KEK, BAD_LENGTH, INTEGRITY, OK, PADDED, are_flags, 
 SIZES = {"room", "size", "key_len", "count", "lens_count", "forms_count"}
 ONE_KEY = "wrap", "unwrap", "wrap_padded", "unwrap_padded"
 FILL = b"\x5a"
-TABLES = {"rows": rows.kept, "more": published.more_rows, "foreign": published.foreign_rows,
+TABLES = {"rows": rows.with_kept_keks, "more": published.more_rows, "foreign": published.foreign_rows,
           "nist": published.nist_rows}
 
 
@@ -32,7 +32,7 @@ def table(name):
 
 def wrong_keks(row):
     """The lengths of KEKs that no call takes."""
-    return [len(row[name]) for name in ("kek", "new") if name in row and len(row[name]) not in (16, 24, 32)]
+    return [len(row[name]) for name in ("kek", "new") if name in row and not rows.is_kek(row[name])]
 
 
 def reason(face, call, row):
@@ -41,6 +41,8 @@ def reason(face, call, row):
     is_iv, is_text = len(iv) == 8 and iv[:4] != rows.RESERVED, rows.is_text(rows.PLAIN, len(row["given"]))
     reasons = {
         "the call of version 1.0 is only in C": call == "rewrap_in_place",
+        "a kept KEK has a type of its own": call.startswith("kek_") or any(
+            len(row.get(name, b"")) > 100 for name in ("kek", "new")),
         "flags are enums, or named": face not in ("go", "java") and not are_flags(call, row.get("flags", 0)),
         "an initial value has eight bytes": face == "rust" and len(iv) != 8,
         "no slice is so long": face == "rust" and row.get("count", 0) > 1 << 20,
@@ -93,9 +95,10 @@ def buffers(face, call, row, due):
             return fields, (FILL * room if due["status"] else bytes(room)).hex()
         return fields, given.hex() if out is None else "".join(
             digits(item, slot, 8 * (call == "unwrap_many")) for item in out)
-    if call.startswith("rewrap") or call.endswith("in_place"):
+    if call.startswith("rewrap") or call.endswith("in_place") or call == "kek_clear":
         return {"room": "-"}, given.hex() if out is None else digits(out, len(given))
-    room = row.get("room", rounded(len(given)) + 8 if call[0] == "w" else max(len(given) - 8, 0))
+    is_init, size = call == "kek_init", rounded(len(given)) + 8 if call[0] == "w" else max(len(given) - 8, 0)
+    room = row.get("room", 4 * len(row["kek"]) + 128 if is_init else size)
     return {"room": room}, (FILL * room).hex() if out is None else digits(out, room)
 
 

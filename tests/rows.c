@@ -1,6 +1,6 @@
 /* rows.c: makes the calls of lines that faces.py writes, and prints what they return and write. A buffer that is read
- * is in memory of its own length. One that is written is between bytes that no call may write, at another alignment
- * each time; `changed` is printed if these or what is only read are not as before. */
+ * is in memory of its own length. One that is written is between bytes that no call may write. Each has another
+ * alignment each time. `changed` is printed if these bytes or what is only read are not as before. */
 
 #include <keywrap.h>
 #include <stdio.h>
@@ -11,12 +11,13 @@ enum { CALL, KEK, NEW, IV, FLAGS, GIVEN, ROOM, KEY_LEN, COUNT, LENS, FORMS, FIEL
 enum { SIDE = 64, SIDE_BYTE = 0xC5, FILL = 0x5A, LINE = 1 << 22, SLOTS = 1024 };
 
 struct bytes {
-    uint8_t *at;
+    uint8_t *at, *memory;
     size_t len;
 };
 
 static char line[LINE], hex[LINE];
 static char *field[FIELDS];
+static size_t turn;
 
 static void *memory(size_t len) {
     void *at = malloc(len > 0 ? len : 1);
@@ -30,8 +31,9 @@ static unsigned digit(char character) {
 
 static struct bytes bytes(int name) {
     const char *text = field[name];
-    struct bytes found = {NULL, *text == '-' ? 0 : strlen(text) / 2};
-    found.at = memory(found.len);
+    struct bytes found = {NULL, NULL, *text == '-' ? 0 : strlen(text) / 2};
+    found.memory = memory(found.len + turn % 8);
+    found.at = found.memory + turn % 8;
     for (size_t i = 0; i < found.len; i++)
         found.at[i] = (uint8_t)(digit(text[2 * i]) << 4 | digit(text[2 * i + 1]));
     return found;
@@ -65,7 +67,7 @@ static void print_list(const char *name, const uint8_t *bytes, const size_t *lis
 }
 
 static void answer(void) {
-    static size_t turn, lens[SLOTS];
+    static size_t lens[SLOTS];
     static uint8_t statuses[SLOTS], forms[SLOTS];
     const struct bytes kek = bytes(KEK), new = bytes(NEW), iv = bytes(IV), given = bytes(GIVEN);
     const struct bytes read[] = {kek, new, iv, given};
@@ -97,6 +99,8 @@ static void answer(void) {
         : is("kind")                    ? keywrap_kind(k, kl, g, gl, b, n, &form, &len)
         : is("rewrap")                  ? keywrap_rewrap(k, kl, new.at, new.len, b, n, flags, &already)
         : is("rewrap_in_place")         ? keywrap_rewrap_in_place(k, kl, new.at, new.len, b, n, flags)
+        : is("kek_init")                ? keywrap_kek_init(k, kl, b, n)
+        : is("kek_clear")               ? (keywrap_kek_clear(b, n), KEYWRAP_OK)
         : is("wrap_many")               ? keywrap_wrap_many(k, kl, b, n, number(KEY_LEN), flags, statuses, count)
         : is("unwrap_many") ? keywrap_unwrap_many(k, kl, b, n, flags, lens, number(LENS), statuses, count)
         : is("kind_many")   ? keywrap_kind_many(k, kl, g, gl, b, n, forms, number(FORMS), lens, number(LENS),
@@ -106,7 +110,7 @@ static void answer(void) {
     for (size_t i = 0; i < 4; i++) {
         const struct bytes before = bytes(names[i]);
         right &= !memcmp(before.at, read[i].at, read[i].len);
-        free(before.at);
+        free(before.memory);
     }
     write_hex(hex, b, n);
     printf("status=%d out=%s", (int)status, hex);
@@ -117,7 +121,7 @@ static void answer(void) {
     print_list(" forms=", forms, NULL);
     print_list(" lens=", NULL, lens);
     puts(right ? "" : " changed");
-    for (size_t i = 0; i < 4; i++) free(read[i].at);
+    for (size_t i = 0; i < 4; i++) free(read[i].memory);
     free(block);
 }
 

@@ -5,6 +5,7 @@ usage: python3 rows.py check    prints each row of rows.txt that is wrong, and t
 
 import functools
 import itertools
+import operator
 import pathlib
 import re
 import sys
@@ -16,6 +17,7 @@ PLAIN, PADDED = 0, 1
 OLD_PADDED, NEW_PADDED, KEEP_FORM, PASS_NEW = 1, 2, 4, 8
 MAX_KEY = 1 << 20
 IV, RESERVED = b"\xa6" * 8, bytes.fromhex("a65959a6")
+MARK = b"keywrap kept KEK"
 
 
 @functools.lru_cache(maxsize=None)
@@ -24,6 +26,41 @@ def aes(kek, decrypts):
 
     ecb = Cipher(algorithms.AES(kek), modes.ECB())
     return (ecb.decryptor() if decrypts else ecb.encryptor()).update
+
+
+def doubled(byte):
+    return byte << 1 ^ 0x11B * (byte >> 7)
+
+
+@functools.cache
+def s_box():
+    """FIPS 197, 5.1.1. Each byte but 0 is a power of 3."""
+    powers = [1]
+    while len(powers) < 255:
+        powers.append(powers[-1] ^ doubled(powers[-1]))
+    inverses = {0: 0, **{power: powers[-at % 255] for at, power in enumerate(powers)}}
+    sums = [functools.reduce(operator.xor, (inverses[byte] << bits for bits in range(5))) for byte in range(256)]
+    return bytes((one ^ one >> 8) & 0xFF ^ 0x63 for one in sums)
+
+
+@functools.cache
+def kept_kek(kek):
+    """The mark, and the words of FIPS 197, 5.2."""
+    words, rcon = [kek[at:at + 4] for at in range(0, len(kek), 4)], 1
+    size = len(words)
+    for at in range(size, 4 * size + 28):
+        word = words[-1]
+        if at % size == 0:
+            first, *others = (word[1:] + word[:1]).translate(s_box())
+            word, rcon = bytes([first ^ rcon, *others]), doubled(rcon)
+        elif size == 8 and at % 8 == 4:
+            word = word.translate(s_box())
+        words.append(bytes(map(operator.xor, word, words[at - size])))
+    return MARK + b"".join(words)
+
+
+def is_kek(kek):
+    return len(kek) in (16, 24, 32) or len(kek) in (192, 224, 256) and kek[:16] == MARK
 
 
 def xored(word, number):
@@ -139,8 +176,12 @@ def due(call, row):
     kek, given, room, iv = row["kek"], row["given"], row.get("room"), row.get("iv", IV)
     if len(iv) != 8 or iv[:4] == RESERVED:
         return {"status": BAD_IV}
-    if any(len(name) not in (16, 24, 32) for name in (kek, row.get("new", kek))):
+    if call == "kek_clear":
+        return {"status": OK, "out": bytes(len(given))}
+    if not is_kek(kek) or not is_kek(row.get("new", kek)) or call == "kek_init" and len(kek) > 32:
         return {"status": BAD_KEK}
+    if call == "kek_init":
+        return {"status": BAD_LENGTH} if room not in (None, 4 * len(kek) + 128) else {"status": OK, "out": kept_kek(kek)}
     if call.startswith("rewrap"):
         return rewraps(call, kek, row["new"], given, row["flags"])
     if call == "kind" and not is_text(PADDED, len(given)):
@@ -167,8 +208,8 @@ def value_of(name, text):
     """The value of a text of rows.txt. Bytes of which it has only the ends stay a text."""
     if name not in ("kek", "new", "iv", "given", "out"):
         return int(text)
-    byte, times, number = text.partition("*")
-    return text if ".." in text else bytes.fromhex(byte) * int(number or 1)
+    parts = (part.partition("*") for part in text.split("+"))
+    return text if ".." in text else b"".join(bytes.fromhex(byte) * int(number or 1) for byte, _, number in parts)
 
 
 def lines():
@@ -196,6 +237,16 @@ def kept():
         if isinstance(found.get("out"), str):
             last = Last(int(found["out"].partition("/")[2]))
     return [*singles, *in_slots(singles)]
+
+
+def with_kept_keks():
+    """The rows, and those of short keys once more with kept KEKs: each that there is, and all."""
+    for call, row, found in kept():
+        yield call, row, found
+        is_short = not isinstance(row["given"], Last) and len(row["given"]) < 1 << 16
+        names = [name for name in ("kek", "new") if len(row.get(name, b"")) in (16, 24, 32)]
+        for some in {(*names,), (*names[:1],), (*names[1:],)} - {()} if is_short and call != "kek_init" else ():
+            yield call, {**row, **{name: kept_kek(row[name]) for name in some}}, found
 
 
 def implied(call, row, found):

@@ -45,7 +45,7 @@ def test_macros():
     """KEYWRAP_H and those of the page. A release has no KEYWRAP_PRERELEASE. A compiler unlike GCC sees restrict."""
     defined = set(re.findall(r"^#define KEYWRAP_([A-Z_]*)", preprocessed("-dM"), re.M))
     assert defined == {
-        "ALREADY_NEW", "CPU_SUPPORTED", "H", "KEEP_FORM", "MAX_KEY", "MAX_TEXT", "NEW_PADDED", "OLD_PADDED",
+        "ALREADY_NEW", "CPU_SUPPORTED", "H", "KEEP_FORM", "KEK_LEN", "MAX_KEY", "MAX_TEXT", "NEW_PADDED", "OLD_PADDED",
         "PADDED_TEXT_LEN", "PASS_NEW", "ROOM", "TEXT_LEN", "VERSION", "VERSION_MAJOR", "VERSION_MINOR", "VERSION_PATCH",
         *["PRERELEASE"] * VERSION.endswith("-dev")}
     assert "*restrict wrapped" in preprocessed("-U__GNUC__")

@@ -56,7 +56,7 @@ def declared(pattern, *headers):
 # The calls that return a status; all names of the library; and those of the archive, which also has the calls that
 # c/hardware makes.
 EXPORTS = declared("int32_t", "dist/keywrap")
-NAMES = declared(r"(?:u?int[0-9]+_t|size_t)", "dist/keywrap", "dist/keywrap_steps")
+NAMES = declared(r"(?:u?int[0-9]+_t|size_t|void)", "dist/keywrap", "dist/keywrap_steps")
 ARCHIVED = sorted(NAMES + declared(r"KEYWRAP_CHECK u?int[0-9]+_t", "c/include/keywrap_checks"))
 
 

@@ -20,14 +20,25 @@ static uint32_t any(uint32_t below) {
 }
 
 static size_t any_kek_len(void) {
-    static const size_t LENS[] = {16, 24, 32, 16, 24, 32, 16, 24, 32, 0, 8, 17, 33, 40};
-    return LENS[any(14)];
+    static const size_t LENS[] = {16, 24, 32, 192, 224, 256, 16, 24, 32, 192, 224, 256, 0, 8, 17, 33, 40, 176, 193, 272};
+    return LENS[any(20)];
+}
+
+/* A kept KEK, of some KEK or with random round keys. Some have no mark. */
+static void keep(uint8_t *kek, size_t len) {
+    uint8_t from[40];
+    if (len < 176) return;
+    memcpy(from, kek + 16, sizeof from);
+    memcpy(kek, "keywrap kept KEK", 16);
+    if (any(2) && keywrap_kek_init(from, len / 4 - 32, kek, len) != KEYWRAP_OK) return;
+    if (any(8) == 0) kek[any(16)] ^= (uint8_t)(1 << any(8));
 }
 
 static struct choice any_choice(void) {
     struct choice c = {.call = (int)any(CALLS)};
     c.kek_len = any_kek_len();
     c.new_kek_len = any_kek_len();
+    if (c.call == KEK_INIT && c.kek_len <= 32 && any(4)) c.new_kek_len = KEYWRAP_KEK_LEN(c.kek_len);
     c.iv_len = any(8) ? 8 : any(12);
     c.key_len = any(4) ? 8 * (size_t)any(16) : any(120);
     c.text_len = any(6) ? (c.key_len + 7) / 8 * 8 + 8 : any(LONGEST);
@@ -59,6 +70,8 @@ static void fill(struct world *w, const struct choice *c, uint8_t *text) {
 static void fill_all(struct world *w, const struct choice *c) {
     static const uint8_t RESERVED[4] = {0xa6, 0x59, 0x59, 0xa6};
     for (size_t i = 0; i < sizeof *w; i++) ((uint8_t *)w)[i] = (uint8_t)any(256);
+    keep(w->kek, c->kek_len);
+    keep(w->new_kek, c->new_kek_len);
     if (any(2)) memset(w->iv, 0xa6, 8);
     if (any(6) == 0) memcpy(w->iv, RESERVED, 4);
     if (any(8)) fill(w, c, w->text);
@@ -93,7 +106,7 @@ int main(int argc, char **argv) {
     }
     for (int call = 0; call < CALLS; call++)
         if (done[call] == 0 || refused[call] == 0) {
-            if (call == STATUS_TEXT) continue;
+            if (call == STATUS_TEXT || call == KEK_CLEAR) continue;
             printf("FAILED: call %d: %ld done, %ld refused\n", call, done[call], refused[call]);
             return 1;
         }

@@ -58,6 +58,8 @@ int32_t CALL(struct world *w, const struct choice *c) {
         return keywrap_rewrap(kek, k, w->new_kek, c->new_kek_len, w->text, c->text_len, c->flags, &w->flag);
     case REWRAP_IN_PLACE:
         return keywrap_rewrap_in_place(kek, k, w->new_kek, c->new_kek_len, w->text, c->text_len, c->flags);
+    case KEK_INIT: return keywrap_kek_init(kek, k, w->new_kek, c->new_kek_len);
+    case KEK_CLEAR: keywrap_kek_clear(w->new_kek, c->new_kek_len); return KEYWRAP_OK;
     default: return (int32_t)keywrap_status_text((int32_t)c->flags - 4, (char *)w->key, c->room);
     }
 }
