@@ -3,9 +3,13 @@
  * statuses of slots are read. */
 
 #include <keywrap.h>
+#include <stdlib.h>
 #include <string.h>
 
-static uint8_t kek[32], new_kek[32], key[ROOM], text[2 * ROOM], out[2 * ROOM], iv[8];
+/* The KEKs, and what the calls take: the first bytes of them, or kept KEKs. */
+static uint8_t from[32], new_from[32], kek[256], new_kek[256];
+static uint8_t key[ROOM], text[2 * ROOM], out[2 * ROOM], iv[8];
+static const size_t KEK_LENS[] = {16, 24, 32, 192, 224, 256};
 /* `whole` is the length of a wrapped key, and so is text_len, if that is not the length that is wrong. */
 static size_t kek_len, new_kek_len, key_len, whole, text_len, out_len;
 static uint32_t forms, padded, already;
@@ -15,9 +19,16 @@ static int32_t status;
 static size_t slots, slot_lens[2];
 static uint8_t statuses[2], slot_forms[2];
 
-/* Sets the lengths for a key of this length. */
+static void put_kek(uint8_t *to, const uint8_t *bytes) {
+    if (kek_len <= 32) memcpy(to, bytes, kek_len);
+    else if (keywrap_kek_init(bytes, kek_len / 4 - 32, to, kek_len) != KEYWRAP_OK) exit(4);
+}
+
+/* Sets the lengths for a key of this length, and puts KEKs of this length, or kept ones, in place. */
 static void set_lengths(size_t of_kek, size_t of_key) {
     kek_len = new_kek_len = of_kek;
+    put_kek(kek, from);
+    put_kek(new_kek, new_from);
     key_len = of_key;
     whole = text_len = KEYWRAP_PADDED_TEXT_LEN(of_key);
 }
@@ -27,6 +38,9 @@ static void put_key(void) {
     for (size_t i = 0; i < slots; i++) memcpy(out + 8 + i * whole, key, key_len);
 }
 
+static void kek_init(void) {
+    status = keywrap_kek_init(kek, kek_len, out, text_len + 4 * kek_len + 128 - whole);
+}
 static void wrap(void) {
     status = keywrap_wrap(kek, kek_len, key, key_len, out, text_len);
 }

@@ -63,6 +63,7 @@ static const struct watched {
     uint32_t forms;
     int32_t ends;
 } CALLS[] = {
+    {"keywrap_kek_init", kek_init, NULL, 16, 8, 16, 0, 0},
     {"keywrap_wrap", wrap, NULL, 16, 8, LONGEST, 0, 0},
     {"keywrap_wrap_with", wrap_with, NULL, 16, 8, LONGEST, 0, 0},
     {"keywrap_wrap_in_place", wrap_in_place, NULL, 16, 8, LONGEST, 0, 0},
@@ -115,9 +116,11 @@ static const struct watched {
     {"tables", tables, NULL, 16, 8, 48, 0, 0},
 };
 
+/* The mark of a kept KEK is public. */
 static void mark(int undefined) {
-    uint8_t *secrets[] = {kek, new_kek, key, text};
-    size_t lens[] = {sizeof kek, sizeof new_kek, sizeof key, sizeof text};
+    const size_t mark_len = kek_len > 32 ? 16 : 0, secret_len = kek_len - mark_len;
+    uint8_t *secrets[] = {kek + mark_len, new_kek + mark_len, key, text};
+    size_t lens[] = {secret_len, secret_len, sizeof key, sizeof text};
     for (int i = 0; i < 4; i++) {
         if (undefined) (void)VALGRIND_MAKE_MEM_UNDEFINED(secrets[i], lens[i]);
         else (void)VALGRIND_MAKE_MEM_DEFINED(secrets[i], lens[i]);
@@ -155,13 +158,16 @@ static unsigned reports(const struct watched *watched, size_t of_kek, size_t of_
     return found;
 }
 
-/* Watches a call with all lengths of KEK and keys of up to this length, and prints its line. */
+/* Watches a call with all lengths of KEK and keys of up to this length, and prints its line. With kept
+ * KEKs the keys are short. */
 static void watch(const struct watched *watched, size_t longest, int damage) {
+    const int takes_kept = watched->run != kek_init && watched->run != tables;
     unsigned found = 0, calls = 0;
-    for (size_t of_kek = 16; of_kek <= 32; of_kek += 8)
-        for (size_t len = watched->shortest; len <= longest && len <= watched->most;
+    for (int i = 0; i < (takes_kept ? 6 : 3); i++)
+        for (size_t len = watched->shortest;
+             len <= longest && len <= watched->most && (i < 3 || len <= LONGEST_DAMAGED);
              len += watched->step, calls++)
-            found += reports(watched, of_kek, len, damage);
+            found += reports(watched, KEK_LENS[i], len, damage);
     printf("%s%s: %u reports in %u calls\n", watched->name, damage ? ", damaged" : "", found, calls);
     fflush(stdout);
 }
@@ -172,9 +178,9 @@ int main(int argc, char **argv) {
     if (longest < 16 || longest > LONGEST || !RUNNING_ON_VALGRIND) return 64;
     one_table_start();
     memcpy(iv, "keywrap", sizeof iv);
-    for (size_t i = 0; i < sizeof kek; i++) {
-        kek[i] = (uint8_t)(7 * i + 1);
-        new_kek[i] = (uint8_t)(5 * i + 2);
+    for (size_t i = 0; i < sizeof from; i++) {
+        from[i] = (uint8_t)(7 * i + 1);
+        new_from[i] = (uint8_t)(5 * i + 2);
     }
     for (size_t i = 0; i < sizeof key; i++) key[i] = (uint8_t)(11 * i + 3);
     for (size_t c = 0; c < sizeof CALLS / sizeof *CALLS; c++) {

@@ -1,8 +1,8 @@
 /* stack.c: how many bytes that depend on a KEK, or on the key, each call of the C library leaves
  * below the stack pointer. Each call runs on a stack of its own that is filled beforehand, and again
  * with another KEK, another new KEK, another key: a byte of the stack that differs afterwards depends
- * on what differed. Each call is made with KEKs of 16, 24 and 32 bytes, and in each way in which it
- * can end. Prints a line for each of these: the call, the way, the KEK's length, and then the count
+ * on what differed. Each call is made with KEKs of 16, 24 and 32 bytes and kept ones, in each way in
+ * which it can end. Prints a line for each of these: the call, the way, the KEK's length, and then the count
  * for the KEK, the new KEK, the key, and of copies: 16 bytes in a row of a KEK or of the key; and how
  * many bytes of the stack the call took. */
 
@@ -12,7 +12,7 @@
 #include <stdlib.h>
 #include <ucontext.h>
 
-enum { STACK = 1 << 16, KEY_LEN = 32, ROOM = KEY_LEN + 8 };
+enum { STACK = 1 << 16, KEY_LEN = 32, ROOM = 128 };
 #define PUBLIC(bytes) (void)(bytes)
 #include "calls.h"
 
@@ -108,6 +108,7 @@ static const struct watched {
     {"rewrap_many,keep_padded", rewrap_many, wrap_padded, KEYWRAP_KEEP_FORM, REWRAPS},
     {"rewrap_many,pass_new", rewrap_many, wrap_new, KEYWRAP_PASS_NEW, REWRAPS},
     {"rewrap_many,apart", rewrap_two, wrap_new, KEYWRAP_PASS_NEW, 1 << DONE},
+    {"kek_init", kek_init, NULL, 0, WRAPS},
     {"self_test", self_test, NULL, 0, 1 << DONE},
 };
 
@@ -115,7 +116,7 @@ static const struct watched {
 static const struct secret {
     uint8_t *bytes;
     unsigned seed;
-} SECRETS[] = {{kek, 1}, {new_kek, 3}, {key, 2}};
+} SECRETS[] = {{from, 1}, {new_from, 3}, {key, 2}};
 
 enum { SECRET_COUNT = sizeof SECRETS / sizeof *SECRETS };
 
@@ -214,8 +215,8 @@ int main(void) {
     for (int i = 0; i < SECRET_COUNT; i++) fill(SECRETS[i].bytes, 32, SECRETS[i].seed);
     for (size_t c = 0; c < sizeof CALLS / sizeof *CALLS; c++)
         for (enum way way = DONE; way < WAYS; way++)
-            for (size_t len = 16; len <= 32 && CALLS[c].ways >> way & 1; len += 8)
-                watch(stack, CALLS + c, way, len);
+            for (int i = 0; i < (CALLS[c].run == kek_init ? 3 : 6) && CALLS[c].ways >> way & 1; i++)
+                watch(stack, CALLS + c, way, KEK_LENS[i]);
     free(stack);
     return 0;
 }
