@@ -1,6 +1,6 @@
 /* wrap.c: measures how long the library takes, beside other libraries and the same algorithm in C:
- * for a wrap and an unwrap, each with its key schedule, and for a rewrap, where nettle keeps its
- * schedules. First all must return the same bytes. Then the best time of each counts. bench/wrap.sh
+ * for a wrap and an unwrap, each with its key schedule, and with a kept one for a short key, and for
+ * a rewrap, where nettle keeps its schedules. First all must return the same bytes. Then the best time of each counts. bench/wrap.sh
  * compiles and runs it. Writes CSV.
  *
  * usage: wrap [SECONDS]       (SECONDS for wraps and unwraps; without it, rewraps) */
@@ -24,6 +24,8 @@ enum { KEK_LEN = 32 };
 static const uint8_t INITIAL_VALUE[8] = {0xA6, 0xA6, 0xA6, 0xA6, 0xA6, 0xA6, 0xA6, 0xA6};
 
 static uint8_t kek[KEK_LEN], new_kek[KEK_LEN], key[KEYWRAP_MAX_KEY], answer[KEYWRAP_MAX_TEXT];
+static uint8_t kept[KEYWRAP_KEK_LEN(KEK_LEN)];
+static struct aes256_ctx decrypting, encrypting;
 
 /*** Wraps and unwraps ***/
 
@@ -59,6 +61,16 @@ static CALL(nettle_unwrap) {
     struct aes256_ctx keys;
     aes256_set_decrypt_key(&keys, kek);
     return !nist_keyunwrap16(&keys, (nettle_cipher_func *)aes256_decrypt, INITIAL_VALUE, out_len,
+                             out, in);
+}
+
+static CALL(nettle_kept_wrap) {
+    nist_keywrap16(&encrypting, (nettle_cipher_func *)aes256_encrypt, INITIAL_VALUE, out_len, out, in);
+    return 0;
+}
+
+static CALL(nettle_kept_unwrap) {
+    return !nist_keyunwrap16(&decrypting, (nettle_cipher_func *)aes256_decrypt, INITIAL_VALUE, out_len,
                              out, in);
 }
 
@@ -102,12 +114,19 @@ static const struct peer {
     {"nettle", "AES inst.", nettle_wrap, nettle_unwrap},
     {"gcrypt", "AES inst.", gcrypt_wrap, gcrypt_unwrap},
     {"C", "software", one_table_wraps, one_table_unwraps},
+}, KEEPERS[] = {
+    {"keywrap", "software", keywrap_wrap, keywrap_unwrap},
+    {"hardware", "AES inst.", hw_wrap, hw_unwrap},
+    {"portable", "software", portable_wrap, portable_unwrap},
+    {"portable_hw", "AES inst.", portable_hw_wrap, portable_hw_unwrap},
+    {"nettle", "AES inst.", nettle_kept_wrap, nettle_kept_unwrap},
 };
 
 /* The lengths of the keys. The last is the longest that the library takes. */
 static const size_t LENS[] = {16, 32, 256, 4096, KEYWRAP_MAX_KEY};
 enum { PEER_COUNT = sizeof PEERS / sizeof *PEERS, LEN_COUNT = sizeof LENS / sizeof *LENS };
-enum { WAY_COUNT = 2 * LEN_COUNT * PEER_COUNT };
+enum { WITHOUT = 2 * LEN_COUNT * PEER_COUNT, KEEPER_COUNT = sizeof KEEPERS / sizeof *KEEPERS };
+enum { WAY_COUNT = WITHOUT + 2 * KEEPER_COUNT };
 
 /* The wrapped key of each length. */
 static uint8_t texts[LEN_COUNT][KEYWRAP_MAX_TEXT];
@@ -121,19 +140,22 @@ static struct way {
     const uint8_t *in, *out;
     size_t in_len, out_len;
 } way_of(int w) {
-    const struct peer *peer = PEERS + w % PEER_COUNT;
-    const int at = w / PEER_COUNT % LEN_COUNT;
+    const int keeps = w >= WITHOUT;
+    const struct peer *peer = keeps ? KEEPERS + (w - WITHOUT) % KEEPER_COUNT : PEERS + w % PEER_COUNT;
+    const int at = keeps ? 0 : w / PEER_COUNT % LEN_COUNT;
     const size_t len = LENS[at];
-    if (w < WAY_COUNT / 2)
+    if (keeps ? w < WITHOUT + KEEPER_COUNT : w < WITHOUT / 2)
         return (struct way){peer, "wrap", len, peer->wrap, key, texts[at], len, len + 8};
     return (struct way){peer, "unwrap", len, peer->unwrap, texts[at], key, len + 8, len};
 }
 
 static double wrap_turn(int w, unsigned calls) {
     const struct way way = way_of(w);
+    const uint8_t *given = w < WITHOUT ? kek : kept;
+    const size_t given_len = w < WITHOUT ? KEK_LEN : sizeof kept;
     const double start = now();
     for (unsigned i = 0; i < calls; i++)
-        if (way.call(kek, KEK_LEN, way.in, way.in_len, answer, way.out_len)) return 1e18;
+        if (way.call(given, given_len, way.in, way.in_len, answer, way.out_len)) return 1e18;
     return (now() - start) / calls;
 }
 
@@ -152,9 +174,9 @@ static int time_wraps(double seconds) {
     printf("library,blocks,kek,call,key,ns_per_block\n");
     for (int w = 0; w < WAY_COUNT; w++) {
         const struct way way = way_of(w);
-        printf("%s,%s,%d,%s,%zu,%.1f\n", way.peer->name,
-               __builtin_cpu_supports("aes") ? way.peer->blocks : "software", KEK_LEN, way.name,
-               way.len, best[w] / (double)(6 * (way.len / 8)));
+        printf("%s,%s,%d%s,%s,%zu,%.1f\n", way.peer->name,
+               __builtin_cpu_supports("aes") ? way.peer->blocks : "software", KEK_LEN,
+               w < WITHOUT ? "" : " kept", way.name, way.len, best[w] / (double)(6 * (way.len / 8)));
     }
     return 0;
 }
@@ -170,7 +192,6 @@ rewrap_many_call hw_rewrap_many;
 static uint8_t before[KEYS * LONGEST], buffer[KEYS * LONGEST], wanted[KEYS * LONGEST];
 static size_t text_len;
 static uint32_t flags;
-static struct aes256_ctx decrypting, encrypting;
 
 static int32_t nettle_rewrap(const uint8_t *old_kek, size_t old_kek_len, const uint8_t *new_kek,
                              size_t new_kek_len, uint8_t *text, size_t text_len, uint32_t flags,
@@ -225,7 +246,6 @@ static double rewrap_turn(int w, unsigned calls) {
 
 static int time_rewraps(void) {
     double best[REWRAPPER_COUNT];
-    aes256_set_decrypt_key(&decrypting, kek);
     aes256_set_encrypt_key(&encrypting, new_kek);
     printf("way,flags,key,ns_per_key\n");
     for (size_t len = 16; len <= 32; len += 16)
@@ -245,6 +265,9 @@ static int time_rewraps(void) {
 int main(int argc, char **argv) {
     for (size_t i = 0; i < KEK_LEN; i++) kek[i] = (uint8_t)(3 * i + 1), new_kek[i] = (uint8_t)~i;
     for (size_t i = 0; i < sizeof key; i++) key[i] = (uint8_t)(7 * i);
+    aes256_set_decrypt_key(&decrypting, kek);
+    aes256_set_encrypt_key(&encrypting, kek);
+    if (keywrap_kek_init(kek, KEK_LEN, kept, sizeof kept)) return 1;
     one_table_start();
     gcry_check_version(NULL);
     gcry_control(GCRYCTL_DISABLE_SECMEM, 0);

@@ -181,7 +181,8 @@ def due(call, row):
     if not is_kek(kek) or not is_kek(row.get("new", kek)) or call == "kek_init" and len(kek) > 32:
         return {"status": BAD_KEK}
     if call == "kek_init":
-        return {"status": BAD_LENGTH} if room not in (None, 4 * len(kek) + 128) else {"status": OK, "out": kept_kek(kek)}
+        is_right = room in (None, 4 * len(kek) + 128)
+        return {"status": OK, "out": kept_kek(kek)} if is_right else {"status": BAD_LENGTH}
     if call.startswith("rewrap"):
         return rewraps(call, kek, row["new"], given, row["flags"])
     if call == "kind" and not is_text(PADDED, len(given)):

@@ -117,4 +117,5 @@ def test_symbols(debs):
     since = dict(re.findall(r"^ (keywrap_\w+)@\w+\S* (.*)$", "\n".join(symbols), re.M))
     assert symbols[0].startswith("libkeywrap.so.1 libkeywrap1 ")
     assert since["keywrap_wrap"] == "1.0.0" and since["keywrap_rewrap_many"].startswith("1.1.0~")
+    assert since["keywrap_kek_init"].startswith("1.2.0~")
     assert since.keys() == {*re.findall(r"(keywrap_\w+);", (ROOT / "c/include/keywrap.map").read_text())}

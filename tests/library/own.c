@@ -26,6 +26,7 @@ static void macros(void) {
         {KEYWRAP_ROOM(one ? 24 : 16), 16},       {2 * KEYWRAP_ROOM(24), 32},
         {KEYWRAP_ROOM(one | 6), 0},              {KEYWRAP_ROOM(0), 0},
         {KEYWRAP_ROOM(8), 0},                    {KEYWRAP_ROOM(9), 1},
+        {KEYWRAP_KEK_LEN(one ? 24 : 16), 224},   {2 * KEYWRAP_KEK_LEN(16), 384},
     };
     for (size_t i = 0; i < sizeof found / sizeof *found; i++)
         count(found[i][0] == found[i][1], "a macro", (long)i);

@@ -13,11 +13,17 @@ OK, ALREADY_NEW, BAD_IV, BAD_KEK, BAD_LENGTH, INTEGRITY, KEY_NOT_PLAIN = 0, 1, 2
 OLD_PADDED, NEW_PADDED, KEEP_FORM, PASS_NEW = 1, 2, 4, 8
 LONGEST = 1048576
 PLAIN, PADDED = 0, 1
+KEPT_KEKS, MARK = (192, 224, 256), list(b'keywrap kept KEK')
 
 
 def any_bytes(name, n):
     """Returns n bytes of any value; or zeros, if they are so many that the call has to refuse them unread."""
     return [input_byte(name, i) for i in range(n)] if n <= LONGEST else [0] * n
+
+
+def any_kek(name, n):
+    """Returns a KEK of any value, or a kept KEK with any round keys."""
+    return MARK + any_bytes(name, n - 16) if n in KEPT_KEKS else any_bytes(name, n)
 
 
 def little(v, n=8):
@@ -88,7 +94,8 @@ class Call:
         run = (x86 if isinstance(self.module, x86.Module) else wasm).Run(self.module, self.inputs, STACK)
         for path, status in run.call(self.name, self.args, self.writes, before):
             self.result.stack = max(self.result.stack, run.reached(path))
-            yield path, run.place(path, status), [byte_of(path.memory[at]) for at in self.writes]
+            status = 0 if self.name == 'keywrap_kek_clear' else run.place(path, status)
+            yield path, status, [byte_of(path.memory[at]) for at in self.writes]
         self.result.steps += run.steps
         self.result.lookups += run.lookups
 
@@ -141,7 +148,7 @@ def perform(module, name, numbers, gap=16):
 
 
 def is_kek(n):
-    return n in (16, 24, 32)
+    return n in (16, 24, 32, *KEPT_KEKS)
 
 
 def is_plain_key(n):
@@ -160,10 +167,39 @@ def is_reserved(iv, is_zero):
     return is_zero([xor(a, b) for a, b in zip(iv, standard.aiv(0)[:4])])
 
 
+# Kept KEKs
+
+def kek_init(given, kek_len, kept_len):
+    kek = any_bytes('kek', kek_len)
+
+    def expected(_):
+        if not is_kek(kek_len) or kek_len in KEPT_KEKS:
+            return BAD_KEK, None
+        if kept_len != 4 * kek_len + 128:
+            return BAD_LENGTH, None
+        return OK, MARK + sum(standard.key_expansion(kek), [])
+    Call(given, 'keywrap_kek_init').reads(kek).changes(any_bytes('old', kept_len)).check(expected)
+
+
+def kek_clear(given, n):
+    Call(given, 'keywrap_kek_clear').changes(any_bytes('old', n)).check(lambda _: (OK, [0] * n))
+
+
+def unmarked(given, kek_len, at):
+    """A wrap with a kept KEK whose mark has any byte at this place."""
+    kek, key = any_kek('kek', kek_len), any_bytes('key', 16)
+    kek[at:at + 1] = any_bytes('mark', 1)
+    wrapped = standard.wrapped(kek, key)
+
+    def expected(is_zero):
+        return (OK, wrapped) if is_zero([xor(kek[at], MARK[at])]) else (BAD_KEK, None)
+    Call(given, 'keywrap_wrap').reads(kek).reads(key).changes(any_bytes('old', 24)).check(expected, 1)
+
+
 # Plain. The length of the buffer for the result is right if it is not given.
 
 def wrap(given, kek_len, key_len, out_len=None, iv_len=None):
-    kek, key = any_bytes('kek', kek_len), any_bytes('key', key_len)
+    kek, key = any_kek('kek', kek_len), any_bytes('key', key_len)
     iv = standard.DEFAULT_IV if iv_len is None else any_bytes('iv', iv_len)
     out_len = key_len + 8 if out_len is None else out_len
     call = Call(given, 'keywrap_wrap' if iv_len is None else 'keywrap_wrap_with').reads(kek)
@@ -184,7 +220,7 @@ def wrap(given, kek_len, key_len, out_len=None, iv_len=None):
 
 def unwrap(given, kek_len, key_len, text_len=None, iv_len=None):
     text_len = key_len + 8 if text_len is None else text_len
-    kek, text = any_bytes('kek', kek_len), any_bytes('text', text_len)
+    kek, text = any_kek('kek', kek_len), any_bytes('text', text_len)
     iv = standard.DEFAULT_IV if iv_len is None else any_bytes('iv', iv_len)
     legal = is_kek(kek_len) and is_plain_key(key_len) and text_len == key_len + 8
     unwrapped = given.standard(standard.unwrap_process, kek, text) if legal else None
@@ -212,14 +248,14 @@ def unwrap_with(given, kek_len, key_len, iv_len=8):
 
 
 def wrap_in_place(given, kek_len, key_len):
-    kek, text = any_bytes('kek', kek_len), any_bytes('old', key_len + 8)
+    kek, text = any_kek('kek', kek_len), any_bytes('old', key_len + 8)
     Call(given, 'keywrap_wrap_in_place').reads(kek).changes(text).check(
         lambda _: (BAD_KEK, None) if not is_kek(kek_len) else (BAD_LENGTH, None) if not is_plain_key(key_len)
         else (OK, standard.wrapped(kek, text[8:])))
 
 
 def unwrap_in_place(given, kek_len, key_len):
-    kek, text = any_bytes('kek', kek_len), any_bytes('text', key_len + 8)
+    kek, text = any_kek('kek', kek_len), any_bytes('text', key_len + 8)
     legal = is_kek(kek_len) and is_plain_key(key_len)
     a, key = standard.unwrap_process(kek, text) if legal else (None, None)
     Call(given, 'keywrap_unwrap_in_place').reads(kek).changes(text).check(
@@ -230,7 +266,7 @@ def unwrap_in_place(given, kek_len, key_len):
 # Padded. `room` is the length of the padded key.
 
 def wrap_padded(given, kek_len, key_len, out_len=None):
-    kek, key = any_bytes('kek', kek_len), any_bytes('key', key_len)
+    kek, key = any_kek('kek', kek_len), any_bytes('key', key_len)
     out_len = room_of(key_len) + 8 if out_len is None else out_len
     legal = is_kek(kek_len) and 1 <= key_len <= LONGEST and out_len == room_of(key_len) + 8
     wrapped = given.standard(standard.wrapped_padded, kek, key) if legal else None
@@ -243,7 +279,7 @@ def wrap_padded(given, kek_len, key_len, out_len=None):
 
 def unwrap_padded(given, kek_len, room, text_len=None):
     text_len = room + 8 if text_len is None else text_len
-    kek, text = any_bytes('kek', kek_len), any_bytes('text', text_len)
+    kek, text = any_kek('kek', kek_len), any_bytes('text', text_len)
     old = any_bytes('old', room)
     legal = is_kek(kek_len) and is_padded_text(text_len) and text_len == room + 8
     unwrapped = given.standard(standard.unwrap_process, kek, text) if legal else None
@@ -260,7 +296,7 @@ def unwrap_padded(given, kek_len, room, text_len=None):
 
 def wrap_padded_in_place(given, kek_len, key_len, text_len=None):
     text_len = room_of(key_len) + 8 if text_len is None else text_len
-    kek, text = any_bytes('kek', kek_len), any_bytes('old', text_len)
+    kek, text = any_kek('kek', kek_len), any_bytes('old', text_len)
 
     def expected(_):
         if not is_kek(kek_len):
@@ -272,7 +308,7 @@ def wrap_padded_in_place(given, kek_len, key_len, text_len=None):
 
 
 def unwrap_padded_in_place(given, kek_len, room):
-    kek, text = any_bytes('kek', kek_len), any_bytes('text', room + 8)
+    kek, text = any_kek('kek', kek_len), any_bytes('text', room + 8)
     legal = is_kek(kek_len) and is_padded_text(room + 8)
     a, key = standard.unwrap_process(kek, text) if legal else (None, None)
 
@@ -299,7 +335,7 @@ def form_of(a, key, is_zero, forms=(PLAIN, PADDED)):
 
 def either_form(given, name, kek_len, room, text_len):
     text_len = room + 8 if text_len is None else text_len
-    kek, text, old = any_bytes('kek', kek_len), any_bytes('text', text_len), any_bytes('old', room)
+    kek, text, old = any_kek('kek', kek_len), any_bytes('text', text_len), any_bytes('old', room)
     is_kind = name == 'keywrap_kind'
     legal = is_kek(kek_len) and is_padded_text(text_len) and text_len == room + 8
     a, key = standard.unwrap_process(kek, text) if legal else (None, None)
@@ -371,7 +407,7 @@ class Rewrap:
 
 
 def rewrap(given, old_len, new_len, text_len, flags):
-    old_kek, new_kek = any_bytes('kek', old_len), any_bytes('new', new_len)
+    old_kek, new_kek = any_kek('kek', old_len), any_kek('new', new_len)
     text = any_bytes('text', text_len)
     one = Rewrap(old_kek, new_kek, text, flags)
 
@@ -383,7 +419,7 @@ def rewrap(given, old_len, new_len, text_len, flags):
 
 
 def rewrap_in_place(given, old_len, new_len, text_len, flags):
-    old_kek, new_kek = any_bytes('kek', old_len), any_bytes('new', new_len)
+    old_kek, new_kek = any_kek('kek', old_len), any_kek('new', new_len)
     text = any_bytes('text', text_len)
     one = Rewrap(old_kek, new_kek, text, flags if flags < KEEP_FORM else ~0)
 
@@ -397,7 +433,7 @@ def rewrap_in_place(given, old_len, new_len, text_len, flags):
 
 def rewrap_steps(given, old_len, new_len, text_len, flags, from_copy=0):
     """begin_rewrap, and next_rewrap or next_rewrap_from until the phase is 0. Between them the steps are made here."""
-    keks, text = (any_bytes('kek', old_len), any_bytes('new', new_len)), any_bytes('text', text_len)
+    keks, text = (any_kek('kek', old_len), any_kek('new', new_len)), any_bytes('text', text_len)
     one, forks = Rewrap(*keks, text, flags), 2 if flags & PASS_NEW else 1
     schedules = [standard.key_expansion(kek) for kek in keks]
 
@@ -460,7 +496,7 @@ def texts_of(name, text_len, count, only, flags, kek, new_kek=None):
 
 
 def kek_of(name, n, only):
-    return any_bytes(name, n) if only is None else fixed(name, n)
+    return any_kek(name, n) if only is None else fixed(name, n)
 
 
 def wrap_many(given, kek_len, key_len, flags, count, only=None):
@@ -535,9 +571,9 @@ def kind_many(given, kek_len, text_len, count, only=None):
 
 def uneven_many(given, name, texts_len, lens, count, forms=None):
     """A call for many keys of 16 bytes, whose numbers of bytes, lengths and statuses do not fit each other."""
-    call, texts = Call(given, f'keywrap_{name}').reads(any_bytes('kek', 16)), any_bytes('text', texts_len)
+    call, texts = Call(given, f'keywrap_{name}').reads(any_kek('kek', 16)), any_bytes('text', texts_len)
     if name == 'rewrap_many':
-        call.reads(any_bytes('new', 16))
+        call.reads(any_kek('new', 16))
     if name == 'kind_many':
         call.reads(texts).changes(any_bytes('old', 16)).changes(any_bytes('form', count if forms is None else forms))
     else:
@@ -764,9 +800,9 @@ def step_unwrap_many(given, n, left, count, lanes):
 
 
 CALLS = {f.__name__: f for f in (
-    wrap, unwrap, wrap_with, unwrap_with, wrap_in_place, unwrap_in_place, wrap_padded, unwrap_padded,
-    wrap_padded_in_place, unwrap_padded_in_place, unwrap_any, kind, rewrap, rewrap_in_place, rewrap_steps,
-    wrap_many, unwrap_many, rewrap_many, kind_many, uneven_wrap_many, uneven_unwrap_many, uneven_rewrap_many,
-    uneven_kind_many, self_test, begin_wrap, begin_wrap_padded, step_wrap, end_wrap, begin_unwrap, step_unwrap,
-    end_unwrap, end_unwrap_padded, end_unwrap_any, begin_wrap_many, step_wrap_many, end_wrap_many,
+    kek_init, kek_clear, unmarked, wrap, unwrap, wrap_with, unwrap_with, wrap_in_place, unwrap_in_place, wrap_padded,
+    unwrap_padded, wrap_padded_in_place, unwrap_padded_in_place, unwrap_any, kind, rewrap, rewrap_in_place,
+    rewrap_steps, wrap_many, unwrap_many, rewrap_many, kind_many, uneven_wrap_many, uneven_unwrap_many,
+    uneven_rewrap_many, uneven_kind_many, self_test, begin_wrap, begin_wrap_padded, step_wrap, end_wrap, begin_unwrap,
+    step_unwrap, end_unwrap, end_unwrap_padded, end_unwrap_any, begin_wrap_many, step_wrap_many, end_wrap_many,
     begin_unwrap_many, step_unwrap_many, end_unwrap_many)}

@@ -21,7 +21,7 @@ from calls import CALLS, perform
 from terms import Refused
 
 def is_exported(module, name):
-    export = 'begin_rewrap' if name == 'rewrap_steps' else name.removeprefix('uneven_')
+    export = {'rewrap_steps': 'begin_rewrap', 'unmarked': 'wrap'}.get(name, name.removeprefix('uneven_'))
     return f'keywrap_{export}' in module.exports
 
 

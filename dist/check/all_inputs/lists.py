@@ -2,8 +2,10 @@
 
 import itertools
 
-KEKS = 16, 24, 32
+KEKS, KEPT = (16, 24, 32), (192, 224, 256)
 SHORT = """
+kek_init 16 192,kek_init 24 224,kek_init 32 256,kek_init 17 192,kek_init 16 191,kek_clear 192,unmarked 192 15
+wrap 192 16,unwrap 192 16,wrap 224 16,unwrap_padded 224 16,unwrap_any 256 16,rewrap 192 256 24 9
 begin_wrap 16 8,begin_wrap_padded 5 8,step_wrap 16 3,step_unwrap 16 3,step_wrap 87392 65535,step_unwrap 87392 65537
 step_wrap 8 0,end_wrap 16 12,begin_unwrap 16 0,begin_unwrap 88192,begin_unwrap 8 1,end_unwrap 16 0
 end_unwrap_padded 16 0,end_unwrap_any 16 0,wrap 17 16,wrap 16 8,wrap 16 17,wrap 16 20,wrap 16 16 23,unwrap 16 16 23
@@ -40,6 +42,15 @@ def lengths_list(keks, most):
         for n in range(8, most + 1, 8):
             for name in 'unwrap_padded', 'unwrap_padded_in_place', 'unwrap_any', 'kind':
                 yield name, kek, n
+
+
+def kept_list():
+    for kek, kept in itertools.product((0, 8, 15, *KEKS, 33, *KEPT), (0, 191, 193, *KEPT, 384)):
+        yield 'kek_init', kek, kept
+    for n in 0, 1, 16, 191, *KEPT, 1000:
+        yield 'kek_clear', n
+    for kek, at in itertools.product(KEPT, range(16)):
+        yield 'unmarked', kek, at
 
 
 def rewraps_list(pairs, texts):
@@ -142,7 +153,7 @@ def refusals_list():
                          ('end_wrap', 786438), ('end_unwrap', 0), ('end_unwrap_padded', 0), ('end_unwrap_any', 0)):
         yield name, 1048584, number
     yield 'rewrap', 16, 24, 1048592, 0
-    for kek in 8, 20, 28, 40, 272:
+    for kek in 8, 20, 28, 40, 176, 208, 272:
         for name in ('wrap', 'unwrap', 'wrap_with', 'unwrap_with', 'wrap_in_place', 'unwrap_in_place', 'wrap_padded',
                      'unwrap_padded', 'wrap_padded_in_place', 'unwrap_padded_in_place', 'unwrap_any', 'kind'):
             yield name, kek, 16
@@ -178,9 +189,11 @@ def refusals_list():
 
 def long_list():
     yield from middle_list()
+    yield from kept_list()
     yield from lengths_list(KEKS, 32)
-    yield from rewraps_list(((16, 16), (32, 24)), (16, 24, 32))
-    yield from many_list((16,), (0, 47, 48))
+    yield from lengths_list(KEPT, 16)
+    yield from rewraps_list(((16, 16), (32, 24), (192, 256)), (16, 24, 32))
+    yield from many_list((16, 224), (0, 47, 48))
     yield from steps_list(24)
     yield from refusals_list()
     yield 'self_test',
@@ -206,9 +219,10 @@ def far_list():
 
 def full_list():
     yield from far_list()
-    yield from lengths_list(KEKS, 64)
-    yield from rewraps_list(tuple(itertools.product(KEKS, KEKS)), (16, 24, 32, 40))
-    yield from many_list(KEKS, range(49))
+    yield from kept_list()
+    yield from lengths_list((*KEKS, *KEPT), 64)
+    yield from rewraps_list((*itertools.product(KEKS, KEKS), *zip(KEKS, KEPT), *zip(KEPT, KEPT)), (16, 24, 32, 40))
+    yield from many_list((*KEKS, *KEPT), range(49))
     yield from steps_list(64)
     yield from refusals_list()
     yield 'self_test',

@@ -259,6 +259,8 @@ def and_(a, b):
             return form(a.c & b, {atom: y for atom, x in a.t.items() if (y := x & mask)})
         if a.op == 'and' and isinstance(a.args[1], int):
             return and_(a.args[0], a.args[1] & b)
+        if a.op == 'xor' and isinstance(a.args[1], int) and b == 1:
+            return xor(and_(a.args[0], 1), a.args[1] & 1)
         if a.op == 'or' and (0 in (parts := [and_(part, b) for part in a.args]) or b == 1):
             return or_(*parts)
     elif bits(a) == 1 < bits(b) or bits(b) == 1 < bits(a):      # the other bits of a register may be anything

@@ -196,7 +196,7 @@ class Run(Machine):
         for path in self.paths(path):
             if path.state.globals != self.module.globals:
                 raise Refused('the globals are not what they were')
-            yield path, path.results[0]
+            yield path, path.results[0] if path.results else None
 
     def enter(self, path, index, args):
         params, results = self.module.types[self.module.functions[index]]

@@ -320,8 +320,12 @@ class Run(Machine):
                 if not isinstance(path.state.at, int):
                     raise Refused('a return to a secret address')
             elif op == 'jmp':
-                path.state.at = operands[0] if isinstance(operands[0], int) else self.place(
+                target = operands[0] if isinstance(operands[0], int) else self.place(
                     path, self.get(path, operands[0], 64))
+                if target in module.built_in:       # the last call of a function
+                    self.built_in(path, module.built_in[target])
+                    target = self.pop(path)
+                path.state.at = target
             elif op[0] == 'j':
                 if not self.branch(path, self.condition(path, op[1:]), operands[0], following, waiting):
                     return False
