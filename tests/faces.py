@@ -66,12 +66,12 @@ def ways(face, call, row):
 
 
 def filled(content, length):
-    """So many bytes, of which the last are to be written."""
+    """A buffer of this length that begins with the content. The rest is FILL."""
     return content[:length] + FILL * (length - len(content))
 
 
 def digits(content, length, head=0):
-    """The hex digits of so many bytes: zeros, this content, and zeros. Of a text these are the ends."""
+    """The hex digits of `length` bytes: `head` zeros, this content, and zeros. A text has the ends of the content."""
     if isinstance(content, str):
         return "00" * head + content + "00" * (length - head - int(content.partition("/")[2]))
     return (bytes(head) + content + bytes(length - head - len(content))).hex()
@@ -204,8 +204,8 @@ def asked(face, *names):
 
 
 def is_right(said, due):
-    """Whether the answer is the one that is due, in which `ends..ends/length` stands for so many bytes, and a text is a
-    pattern."""
+    """Whether the answer is the one that is due, in which `ends..ends/length` stands for bytes of this length, and a
+    text is a pattern."""
     (said, _, text), (due, _, pattern) = said.partition(" text="), due.partition(" text=")
     if "/" in due:
         due = re.sub(r"([0-9a-f]*)\.\.([0-9a-f]*)/(\d+)", lambda found: "%s[0-9a-f]{%d}%s" % (

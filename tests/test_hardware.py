@@ -237,7 +237,7 @@ PROCESSORS = {
 
 @pytest.fixture
 def on(programs, hardware, request, monkeypatch):
-    """on("x86-64 with AES", "rows", ..) runs this program there. Skips if it cannot be built."""
+    """on("x86-64 with AES", "rows", *words) runs this program there. Skips if it cannot be built."""
     def found(processor, name, *words):
         built, runs, _ = PROCESSORS[processor]
         need(runs[0], *["aarch64-linux-gnu-gcc"] * (built != "here"))
