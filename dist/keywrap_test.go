@@ -6,7 +6,6 @@ import (
 	"crypto/cipher"
 	"crypto/des"
 	"errors"
-	"sync"
 	"testing"
 
 	"keywrap.example/keywrap"
@@ -103,11 +102,9 @@ func TestGoroutines(t *testing.T) {
 	due, _ := keywrap.Wrap(kek, kek)
 	wanted := bytes.Join([][]byte{due, due, due, kek}, nil)
 	c, _ := keywrap.NewCipher(aesOf(kek))
-	var all sync.WaitGroup
 	for n := 0; n < 8; n++ {
-		all.Add(1)
-		go func() {
-			defer all.Done()
+		t.Run("", func(t *testing.T) {
+			t.Parallel()
 			for i := 0; i < 500; i++ {
 				one, _ := keywrap.Wrap(kek, kek)
 				two, _ := c.Wrap(kek)
@@ -117,9 +114,8 @@ func TestGoroutines(t *testing.T) {
 					t.Errorf("%x, not %x", found, wanted)
 				}
 			}
-		}()
+		})
 	}
-	all.Wait()
 }
 
 func TestSelfTest(t *testing.T) {

@@ -15,7 +15,7 @@ struct bytes {
     size_t len;
 };
 
-static char line[LINE], hex[LINE];
+static char line[LINE];
 static char *field[FIELDS];
 
 static void *memory(size_t len) {
@@ -51,10 +51,9 @@ static int are(const uint8_t *at, int byte, size_t len) {
     return 1;
 }
 
-static void write_hex(char *text, const uint8_t *at, size_t len) {
+static void print_hex(const uint8_t *at, size_t len) {
     static const char all[] = "0123456789abcdef";
-    for (size_t i = 0; i < len; i++) *text++ = all[at[i] >> 4], *text++ = all[at[i] & 15];
-    *text = 0;
+    for (size_t i = 0; i < len; i++) putchar(all[at[i] >> 4]), putchar(all[at[i] & 15]);
 }
 
 /* The numbers, of one byte or of size_t, up to the last one that a call has written. */
@@ -68,9 +67,9 @@ static void answer(void) {
     static size_t turn, lens[SLOTS];
     static uint8_t statuses[SLOTS], forms[SLOTS];
     const struct bytes kek = bytes(KEK), new = bytes(NEW), iv = bytes(IV), given = bytes(GIVEN);
-    const struct bytes read[] = {kek, new, iv, given};
-    const int names[] = {KEK, NEW, IV, GIVEN}, is_in_place = *field[ROOM] == '-';
+    const struct bytes read[] = {kek, new, iv, given}, again[] = {bytes(KEK), bytes(NEW), bytes(IV), bytes(GIVEN)};
     const uint8_t *k = kek.at, *g = given.at;
+    const int is_in_place = *field[ROOM] == '-';
     const size_t kl = kek.len, gl = given.len, n = is_in_place ? gl : number(ROOM), count = number(COUNT);
     const uint32_t flags = (uint32_t)number(FLAGS);
     uint8_t *block = memory(n + 2 * SIDE + 8), *b = block + SIDE + turn++ % 8;
@@ -104,12 +103,12 @@ static void answer(void) {
                             : keywrap_rewrap_many(k, kl, new.at, new.len, b, n, flags, statuses, count);
     int right = are(block, SIDE_BYTE, (size_t)(b - block)) && are(b + n, SIDE_BYTE, SIDE);
     for (size_t i = 0; i < 4; i++) {
-        const struct bytes before = bytes(names[i]);
-        right &= !memcmp(before.at, read[i].at, read[i].len);
-        free(before.at);
+        right &= !memcmp(again[i].at, read[i].at, read[i].len);
+        free(again[i].at);
+        free(read[i].at);
     }
-    write_hex(hex, b, n);
-    printf("status=%d out=%s", (int)status, hex);
+    printf("status=%d out=", (int)status);
+    print_hex(b, n);
     if (form != UINT32_MAX) printf(" form=%u", (unsigned)form);
     if (len != SIZE_MAX) printf(" len=%lu", (unsigned long)len);
     if (already != UINT32_MAX) printf(" already=%u", (unsigned)already);
@@ -117,7 +116,6 @@ static void answer(void) {
     print_list(" forms=", forms, NULL);
     print_list(" lens=", NULL, lens);
     puts(right ? "" : " changed");
-    for (size_t i = 0; i < 4; i++) free(read[i].at);
     free(block);
 }
 

@@ -34,12 +34,17 @@ def words_of(text):
     return [text[at:at + 8] for at in range(0, len(text), 8)]
 
 
+def rounded(length):
+    return (length + 7) // 8 * 8
+
+
 @functools.lru_cache(maxsize=20000)
-def wrapping(kek, iv, words):
-    """RFC 3394, 2.2.1, with an index; one word as in RFC 5649, 4.1."""
-    a, r, encrypt = iv, words_of(words), aes(kek, False)
+def wrapped(form, kek, key, iv=IV):
+    """RFC 3394, 2.2.1, with an index, and RFC 5649, 4.1."""
+    a = RESERVED + len(key).to_bytes(4, "big") if form == PADDED else iv
+    r, encrypt = words_of(key + bytes(rounded(len(key)) - len(key))), aes(kek, False)
     if len(r) == 1:
-        return encrypt(a + words)
+        return encrypt(a + r[0])
     for step in range(6 * len(r)):
         block = encrypt(a + r[step % len(r)])
         a, r[step % len(r)] = xored(block[:8], step + 1), block[8:]
@@ -56,16 +61,6 @@ def opened(kek, text):
         block = decrypt(xored(a, step + 1) + r[step % len(r)])
         a, r[step % len(r)] = block[:8], block[8:]
     return a, b"".join(r)
-
-
-def rounded(length):
-    return (length + 7) // 8 * 8
-
-
-def wrapped(form, kek, key, iv=IV):
-    if form == PADDED:
-        iv = RESERVED + len(key).to_bytes(4, "big")
-    return wrapping(kek, iv, key + bytes(rounded(len(key)) - len(key)))
 
 
 def key_in(form, kek, text, iv=IV):
@@ -251,7 +246,8 @@ def of_slots(name, row, slots):
         return {"status": BAD_LENGTH}
     due = {"status": OK, "statuses": [ALREADY_NEW if one.get("already") else one["status"] for one in each]}
     if name == "rewrap_many":
-        return {**due, "out": [one.get("out", given) for given, one in slots]}
+        return {**due, "out": [one.get("out", given) for given, one in slots],
+                "already": [one.get("already", 0) for one in each]}
     keys = [one["out"] if one["status"] == OK else b"" for one in each]
     if name == "wrap_many":
         return {**due, "out": keys}
@@ -262,9 +258,8 @@ def of_slots(name, row, slots):
 
 def line_of(call, row, found):
     """A line of rows.txt."""
-    words = [f"{name}={shown(row[name])}" for name in GIVEN if name in row and row[name] != []]
-    return " ".join([call, str(found["status"]), *words,
-                     *(f"{name}={shown(value)}" for name, value in found.items() if name != "status")])
+    words = {name: row[name] for name in GIVEN if row.get(name, []) != []} | dict(sorted(found.items()))
+    return " ".join([call, str(words.pop("status")), *(f"{name}={shown(value)}" for name, value in words.items())])
 
 
 def shown(value):
@@ -285,9 +280,9 @@ def wrong(long=True):
         if call.endswith("_many") or len(row["given"]) > 4096 and not long:
             continue
         right = due(call, {**row, "given": last} if isinstance(row["given"], Last) else row)
-        last = right.get("out", b"")
-        if shown(found.get("out", b"")) != shown(right.get("out", b"")) or {**found, "out": 0} != {**right, "out": 0}:
-            yield f"- {line_of(call, row, found)}\n+ {line_of(call, row, right)}\n"
+        last, (kept_line, line) = right.get("out", b""), (line_of(call, row, one) for one in (found, right))
+        if kept_line != line:
+            yield f"- {kept_line}\n+ {line}\n"
 
 
 def more():

@@ -1,20 +1,15 @@
 """The rows of rows.txt say what keywrap.h and OpenSSL's AES say; so do published cases, by which the rules of rows.py
-are tested. Each call of keywrap.h by cc; test_library.py, test_hardware.py and test_portable.py have other builds, and
-test_python.py, test_js.py, test_go.py, test_rust.py and test_java.py the other faces (see faces.py)."""
+are tested. test_library.py, test_hardware.py, test_portable.py, test_python.py, test_js.py, test_go.py, test_rust.py
+and test_java.py run them over each face (see faces.py)."""
 
 import itertools
-import json
 
 import pytest
 
 import faces
 import published
 import rows
-from builds import ROOT, run
-from machines import STRICT
 from program import slow
-from test_hardware import hardware  # noqa: F401
-from test_portable import portable_program  # noqa: F401
 
 
 @pytest.mark.needs("import cryptography")
@@ -38,37 +33,6 @@ class TestRules:
             assert rows.wrapped(rows.PADDED, kek, key) == pyca.aes_key_wrap_with_padding(kek, key)
             if rows.is_key(rows.PLAIN, length):
                 assert rows.wrapped(rows.PLAIN, kek, key) == pyca.aes_key_wrap(kek, key)
-
-
-GROUPS = sorted({faces.group_of(line, due) for line, due, _ in faces.asked("c", "rows")})
-
-
-@pytest.fixture
-def wrong(request, once):
-    """The wrong answers of a build by cc, which runs once for all tests."""
-    def of(build):
-        def make(directory):
-            if build in ARCHIVES:
-                archive = request.getfixturevalue(build) / ARCHIVES[build]
-                run("cc", *STRICT, "-O1", ROOT / "tests/rows.c", archive, "-o", "program")
-                command = ["./program"]
-            else:
-                command = request.getfixturevalue("portable_program")(build, [ROOT / "tests/rows.c"], "-O2")
-            (directory / "wrong").write_text(json.dumps(faces.faults("c", command, "rows")))
-
-        return json.loads((once(f"rows-{build}", make) / "wrong").read_text())
-
-    return of
-
-
-ARCHIVES = {"library": "libkeywrap.a", "hardware": "libkeywrap_hw.a"}
-
-
-@pytest.mark.needs("cc")
-@pytest.mark.parametrize("build", ["gcc", "gcc, tables", *ARCHIVES])
-@pytest.mark.parametrize("group", GROUPS)
-def test_calls(wrong, build, group):
-    assert [fault for name, fault in wrong(build) if name == group] == []
 
 
 def test_other_answers_are_faults():

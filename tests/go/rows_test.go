@@ -34,7 +34,8 @@ var formats = map[string]string{
 
 // listed has commas in the place of brackets and blanks.
 func listed(format string, value any) string {
-	return format[:1] + strings.NewReplacer("[", "", "]", "", " ", ",").Replace(fmt.Sprintf(format[1:], value))
+	given := fmt.Sprintf(format[1:], value)
+	return format[:1] + strings.NewReplacer("[", "", "]", "", " ", ",", "true", "1", "false", "0").Replace(given)
 }
 
 // answer is what a call has returned, without nil, 0 and false, and with the room behind bytes, where secrets could be.

@@ -8,7 +8,21 @@ import {
     BadInitialValue, BadKekLength, BadLength, IntegrityFailed, KeyNotPlain, isAsMade, isEqual, watched,
 } from './watched.mjs';
 
-const { keywrap, exports } = await watched();
+// The calls of the module, which may not use half of its stack.
+const { keywrap, exports } = await watched(undefined, (made) => {
+    const stack = new Uint8Array(made.memory.buffer, 0, 8192);
+    const measured = ([name, call]) => [name, (...given) => {
+        stack.fill(0x5b);
+        const status = call(...given);
+        if (stack.subarray(0, 4096).some((byte) => byte !== 0x5b)) {
+            throw new Error(`${name} uses half of the stack`);
+        }
+        return status;
+    }];
+    const calls = Object.entries(made).filter(([name]) => name.startsWith('keywrap_'));
+    return { ...made, ...Object.fromEntries(calls.map(measured)) };
+});
+keywrap.selfTest();
 const STATUSES = new Map([
     [BadInitialValue, 2], [BadKekLength, 3], [BadLength, 4], [IntegrityFailed, 5], [KeyNotPlain, 8],
 ]);

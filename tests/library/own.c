@@ -1,41 +1,21 @@
 /* own.c: what keywrap.h has beside the calls of tests/rows.txt: its macros, the version, the texts of the statuses, and
  * the self test. */
 
+#undef NDEBUG
+#include <assert.h>
 #include <keywrap.h>
 #include <limits.h>
-#include <stdio.h>
 #include <string.h>
 
-static unsigned passed, failed;
-
-static void count(int right, const char *what, long number) {
-    if (right)
-        passed++;
-    else if (++failed <= 20)
-        printf("FAILED: %s, %ld\n", what, number);
-}
-
-/* A macro is one operand, and so is its argument. */
+/* A macro is one operand, and so is its argument. With a constant argument it is a constant. */
 static void macros(void) {
     volatile size_t one = 1;
-    const size_t found[][2] = {
-        {KEYWRAP_MAX_TEXT, KEYWRAP_MAX_KEY + 8}, {2 * KEYWRAP_MAX_TEXT, 2097168},
-        {KEYWRAP_TEXT_LEN(one ? 24 : 16), 32},   {2 * KEYWRAP_TEXT_LEN(16), 48},
-        {KEYWRAP_PADDED_TEXT_LEN(1), 16},        {KEYWRAP_PADDED_TEXT_LEN(8), 16},
-        {KEYWRAP_PADDED_TEXT_LEN(one ? 17 : 9), 32}, {2 * KEYWRAP_PADDED_TEXT_LEN(9), 48},
-        {KEYWRAP_ROOM(one ? 24 : 16), 16},       {2 * KEYWRAP_ROOM(24), 32},
-        {KEYWRAP_ROOM(one | 6), 0},              {KEYWRAP_ROOM(0), 0},
-        {KEYWRAP_ROOM(8), 0},                    {KEYWRAP_ROOM(9), 1},
-    };
-    for (size_t i = 0; i < sizeof found / sizeof *found; i++)
-        count(found[i][0] == found[i][1], "a macro", (long)i);
-}
-
-static void version(void) {
-    uint32_t found = keywrap_version();
-    count(found == KEYWRAP_VERSION && found >> 16 == KEYWRAP_VERSION_MAJOR
-              && (found >> 8 & 255) == KEYWRAP_VERSION_MINOR && (found & 255) == KEYWRAP_VERSION_PATCH,
-          "the version", (long)found);
+    static const size_t padded[] = {KEYWRAP_PADDED_TEXT_LEN(1), KEYWRAP_PADDED_TEXT_LEN(8), KEYWRAP_PADDED_TEXT_LEN(9)};
+    static const size_t rooms[] = {KEYWRAP_ROOM(0), KEYWRAP_ROOM(8), KEYWRAP_ROOM(9)};
+    assert(padded[0] == 16 && padded[1] == 16 && padded[2] == 24 && rooms[0] == 0 && rooms[1] == 0 && rooms[2] == 1);
+    assert(KEYWRAP_MAX_TEXT == KEYWRAP_MAX_KEY + 8 && 2 * KEYWRAP_MAX_TEXT == 2097168);
+    assert(2 * KEYWRAP_TEXT_LEN(one ? 24 : 16) == 64 && 2 * KEYWRAP_PADDED_TEXT_LEN(one ? 17 : 9) == 64);
+    assert(2 * KEYWRAP_ROOM(one ? 24 : 16) == 32 && KEYWRAP_ROOM(one | 6) == 0);
 }
 
 /* The text of each status: whole, cut to each capacity, with the bytes after it unchanged. */
@@ -53,16 +33,17 @@ static void status_texts(void) {
             memset(found, '~', sizeof found);
             memset(due, '~', sizeof due);
             if (capacity > 0) memcpy(due, text, cut), due[cut] = 0;
-            const size_t answer = keywrap_status_text(statuses[i], found, capacity);
-            count(answer == len && !memcmp(found, due, sizeof due), text, (long)capacity);
+            assert(keywrap_status_text(statuses[i], found, capacity) == len);
+            assert(!memcmp(found, due, sizeof due));
         }
 }
 
 int main(void) {
+    const uint32_t version = keywrap_version();
+    assert(version == KEYWRAP_VERSION && version >> 16 == KEYWRAP_VERSION_MAJOR);
+    assert((version >> 8 & 255) == KEYWRAP_VERSION_MINOR && (version & 255) == KEYWRAP_VERSION_PATCH);
     macros();
-    version();
     status_texts();
-    count(keywrap_self_test() == KEYWRAP_OK, "self test", 0);
-    printf("%u passed, %u failed\n", passed, failed);
-    return failed != 0;
+    assert(keywrap_self_test() == KEYWRAP_OK);
+    return 0;
 }
