@@ -31,7 +31,7 @@ func TestConstants(t *testing.T) {
 	}
 }
 
-// A Refusals finds only what it has. Another error is none. A call without a refusal has none.
+// A Refusals finds only what it has. Another error is none. A refused wrapped key has no form.
 func TestRefusals(t *testing.T) {
 	kek := make([]byte, 16)
 	padded, _ := keywrap.WrapPadded(kek, make([]byte, 20))
@@ -45,8 +45,8 @@ func TestRefusals(t *testing.T) {
 			t.Error(err, other)
 		}
 	}
-	if _, _, err := keywrap.KindMany(kek, [][]byte{padded}); err != nil {
-		t.Error(err)
+	if forms, _, _ := keywrap.KindMany(kek, [][]byte{make([]byte, 24), padded[:24]}); forms[0] != 0 || forms[1] != 0 {
+		t.Error(forms)
 	}
 }
 

@@ -46,16 +46,15 @@ def reason(face, call, row):
         "an initial value has eight bytes": face.startswith("rust") and len(iv) != 8,
         "no slice is so long": face == "rust" and row.get("count", 0) > 1 << 20,
         "no such call makes a Vec": face == "rust vec" and (is_many or call == "rewrap"),
+        "no steps of many keys": face == "rust steps" and is_many,
         "the package makes the buffers": face != "rust" and (SIZES & {*row} or call.endswith("in_place")),
-        "no keys are an empty list": face == "python" and is_many and not row["given"],
+        "no keys are an empty list": face.startswith("python") and is_many and not row["given"],
         "JCA has no such call": face == "java" and (call in ("unwrap_any", "kind", "rewrap") or is_many),
         "JCA has no empty key": face == "java" and row["kek"] == b"",
         "the provider looks at the KEK before the initial value": face == "java" and "iv" in row and not is_kek,
         "the length is refused before the initial value": not (is_iv or is_length) and (
             face == "rust steps" or face == "python steps" and call == "unwrap_with"),
-        "no such steps": face.endswith("steps") and not (
-            is_kek and row["given"] and "kind" not in call and call != "rewrap_many"),
-        "no steps of many keys": face == "rust steps" and is_many,
+        "no such steps": face.endswith("steps") and (not is_kek or "kind" in call or call == "rewrap_many"),
     }
     return next((why for why, holds in reasons.items() if holds), None) if face != "c" else None
 
@@ -74,9 +73,10 @@ def filled(content, length):
 
 
 def digits(content, length, head=0):
-    """The hex digits of `length` bytes: `head` zeros, this content, and zeros. A text has the ends of the content."""
+    """The hex digits of `length` bytes: `head` zeros, this content, and zeros. Of `ends..ends/length` a pattern."""
     if isinstance(content, str):
-        return "00" * head + content + "00" * (length - head - int(content.partition("/")[2]))
+        begin, end, size = re.split(r"\.\.|/", content)
+        return f"{begin}[0-9a-f]{{{2 * int(size) - len(begin) - len(end)}}}{end}"
     return (bytes(head) + content + bytes(length - head - len(content))).hex()
 
 
@@ -144,10 +144,8 @@ def numbers(face, call, row, due):
     found = {name: due.get(name, 0) for name in names if has_numbers and name not in NOT_RETURNED.get(face, ())}
     refused = [status * (status > 1) for status in statuses]
     if face == "go":
-        # Its forms have numbers from 1, and its runner prints no 0.
-        forms = {"form": due.get("form", 0) + 1, "forms": [form + (not status) for form, status in zip(
-            due.get("forms", []), statuses)]}
-        found = {name: forms.get(name, value) for name, value in found.items() if name in forms or value}
+        # Its runner prints no 0, and its forms have other numbers, of which none is 0.
+        found = {name: value for name, value in found.items() if value or name == "form"}
         found |= {"statuses": refused} if any(refused) else {}
     elif statuses:
         found = {"statuses": statuses if has_buffers else refused, **found}
@@ -223,14 +221,10 @@ def asked(face, *names):
 
 
 def is_right(said, due):
-    """Whether the answer is the one that is due, in which `ends..ends/length` stands for bytes of this length, and a
-    text is a pattern."""
+    """Whether the answer is the one that is due: a pattern, but not if it is long, and one of the text."""
     (said, _, text), (due, _, pattern) = said.partition(" text="), due.partition(" text=")
-    if "/" in due:
-        due = re.sub(r"([0-9a-f]*)\.\.([0-9a-f]*)/(\d+)", lambda found: "%s[0-9a-f]{%d}%s" % (
-            found[1], 2 * int(found[3]) - len(found[1]) - len(found[2]), found[2]), due)
-        return not text and re.fullmatch(due, said) is not None
-    return said == due and re.fullmatch(pattern, text) is not None
+    is_due = said == due or len(due) < 1 << 20 and re.fullmatch(due, said)
+    return bool(is_due and re.fullmatch(pattern, text))
 
 
 def faults(face, runner, *names):

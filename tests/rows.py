@@ -9,8 +9,7 @@ import pathlib
 import re
 import sys
 
-HERE = pathlib.Path(__file__).resolve().parent
-KEPT = HERE / "rows.txt"
+KEPT = pathlib.Path(__file__).resolve().parent / "rows.txt"
 OK, ALREADY_NEW, BAD_IV, BAD_KEK, BAD_LENGTH, INTEGRITY, KEY_NOT_PLAIN = 0, 1, 2, 3, 4, 5, 8
 PLAIN, PADDED = 0, 1
 OLD_PADDED, NEW_PADDED, KEEP_FORM, PASS_NEW = 1, 2, 4, 8
@@ -244,16 +243,11 @@ def of_slots(name, row, slots):
         is_text(PADDED if form & (OLD_PADDED | KEEP_FORM) else PLAIN, length))
     if not is_right or not are_flags(name, form):
         return {"status": BAD_LENGTH}
-    due = {"status": OK, "statuses": [ALREADY_NEW if one.get("already") else one["status"] for one in each]}
-    if name == "rewrap_many":
-        return {**due, "out": [one.get("out", given) for given, one in slots],
-                "already": [one.get("already", 0) for one in each]}
-    keys = [one["out"] if one["status"] == OK else b"" for one in each]
-    if name == "wrap_many":
-        return {**due, "out": keys}
-    lens = [one.get("len", len(key)) if one["status"] == OK else 0 for one, key in zip(each, keys)]
-    return {**due, "forms": [one.get("form", 0) for one in each], "lens": lens} if name == "kind_many" else {
-        **due, "out": keys, "lens": lens}
+    # A rewrap leaves what it refuses.
+    out = [one.get("out", given) if one["status"] == OK or name == "rewrap_many" else b"" for given, one in slots]
+    return {"status": OK, "statuses": [ALREADY_NEW if one.get("already") else one["status"] for one in each],
+            "out": out, "lens": [one.get("len", len(key)) for one, key in zip(each, out)],
+            "forms": [one.get("form", 0) for one in each], "already": [one.get("already", 0) for one in each]}
 
 
 def line_of(call, row, found):
@@ -317,6 +311,4 @@ def changes(call, row, kept_due):
 
 
 if __name__ == "__main__":
-    found = [*wrong()]
-    print(end="".join(found))
-    sys.exit(bool(found))
+    sys.exit("".join(wrong()) or None)

@@ -136,10 +136,6 @@ class TestHere:
         run("cc", *OPTIONS, ROOT / "tests/rows.c", hardware / "libkeywrap_hw.a", "-o", "program")
         faces.check("c", ["./program"], *kept(), "more")
 
-    def test_own(self, hardware):
-        run("cc", *OPTIONS, ROOT / "tests/library/own.c", hardware / "libkeywrap_hw.a", "-o", "program")
-        run("./program")
-
     @slow
     @pytest.mark.needs("sanitizers of cc")
     @pytest.mark.parametrize("names", [kept(), pytest.param(["more"], marks=evidence)], ids=["kept", "more"])
@@ -189,9 +185,7 @@ class TestHere:
 def programs(once, request):
     """programs("here") is the directory of the programs of a build, over its libkeywrap_hw.so.1."""
     def compile_all(directory, library, compiler, openssl, *more):
-        sources = {"rows": [ROOT / "tests/rows.c"], "own": [ROOT / "tests/library/own.c"]}
-        for name, files in sources.items():
-            run(*compiler, *OPTIONS, *files, library / "libkeywrap_hw.so.1", *more, "-o", directory / name)
+        run(*compiler, *OPTIONS, ROOT / "tests/rows.c", library / "libkeywrap_hw.so.1", *more, "-o", directory / "rows")
         run(*compiler, *OPTIONS, OWN / "chosen.c", *AES, *more, "-o", directory / "chosen")
         if openssl:
             run(*compiler, *OPTIONS, *openssl[1:], *COMPARING, openssl[0], *more, "-o", directory / "compared")
@@ -269,10 +263,6 @@ class TestEachProcessor:
     @evidence
     def test_more(self, on, processor):
         faces.check("c", on(processor, "rows"), "more")
-
-    @slow
-    def test_own(self, on, processor):
-        run(*on(processor, "own"))
 
     @pytest.mark.parametrize("part", [
         "parameters", pytest.param("sequences 1000", marks=slow),

@@ -108,11 +108,6 @@ def test_rows(portable_program, name):
     faces.check("c", program, "rows" if is_native else "short", "foreign", *more)
 
 
-@pytest.mark.parametrize("name", all_of(MACHINES, ["gcc"], IN_GATE))
-def test_own(portable_program, name):
-    run(*portable_program(name, [ROOT / "tests/library/own.c"], "-O2"))
-
-
 def random_calls(directory, library, name, *options):
     """Compiles fuzz.c over the keywrap.c in the directory and over the library. Returns its command."""
     compiler, runner = MACHINES[name]

@@ -9,6 +9,7 @@ import pytest
 
 import keywrap
 from keywrap import Kind, _many
+from test_objects import Liar
 
 KEK = bytes(range(16))
 WRAPPED, PADDED_OF_7 = keywrap.wrap(KEK, KEK), keywrap.wrap_padded(KEK, KEK[:7])
@@ -47,13 +48,6 @@ def test_the_readme_says_what_is_so():
     readme = pathlib.Path(__file__).parents[1] / "README.md"
     failed, tried = doctest.testfile(str(readme), module_relative=False)
     assert tried > 3 and failed == 0
-
-
-class Liar(bytes):
-    """Reports a length that is too long."""
-
-    def __len__(self):
-        return 4096
 
 
 @each_call

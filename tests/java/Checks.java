@@ -12,6 +12,7 @@ final class Checks {
     private static final String OURS = "Keywrap", THEIRS = "SunJCE";
     private static final String[] FORMS = {"AES/KW/NoPadding", "AES/KWP/NoPadding"};
     private static final Random RANDOM = new Random(78);
+    private static final Map<String, Integer> STATUSES = Map.of("bad length", 4, "integrity check failed", 5);
 
     private static void check(boolean right, Object what) {
         if (!right) {
@@ -210,8 +211,6 @@ final class Checks {
         }
     }
 
-    private static final Map<String, Integer> STATUSES = Map.of("bad length", 4, "integrity check failed", 5);
-
     private static byte[] bytes(String text) {
         return HexFormat.of().parseHex(text.replace("-", ""));
     }
@@ -231,13 +230,11 @@ final class Checks {
             out = !ofKeys ? Arrays.copyOf(out, cipher.doFinal(given, 0, given.length, out, 0))
                 : wraps ? cipher.wrap(aes(given)) : cipher.unwrap(given, "AES", Cipher.SECRET_KEY).getEncoded();
             answer = "status=0 out=" + HexFormat.of().formatHex(out);
-        } catch (InvalidAlgorithmParameterException e) {
-            answer = "status=2";
+        } catch (InvalidAlgorithmParameterException | IllegalArgumentException e) {
+            // The JDK has no empty key.
+            answer = e instanceof IllegalArgumentException ? "status=4" : "status=2";
         } catch (InvalidKeyException | IllegalBlockSizeException e) {
             answer = "status=" + STATUSES.getOrDefault(e.getMessage(), 3);
-        } catch (IllegalArgumentException e) {
-            // The JDK has no empty key.
-            answer = "status=4";
         }
         // Beside a refusal nothing is written, and nothing of what was given is kept.
         boolean isClean = answer.startsWith("status=0")

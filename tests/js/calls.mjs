@@ -99,16 +99,14 @@ test('after 300 calls in which the stack of the host ended, calls work', async (
     let ended = 0, inside = 0;
     // From the end of the stack up, calls until one works, which this returns.
     function fromEnd(...padding) {
+        let works = false;
         try {
-            const works = fromEnd(...padding);
-            if (works) {
-                return works;
-            }
+            works = fromEnd(...padding);
         } catch {
             // Here the stack ends.
         }
         try {
-            return other.keywrap.wrap(KEK, KEY);
+            return works || other.keywrap.wrap(KEK, KEY);
         } catch {
             ended++;
             inside += other.exports.__in_call.value;
@@ -148,11 +146,7 @@ test('the object that load returns cannot be changed', () => {
     const names = ['version', 'wrap', 'unwrap', 'wrapPadded', 'unwrapPadded', 'unwrapAny', 'rewrap',
         'check', 'selfTest', 'wrapMany', 'unwrapMany', 'rewrapMany', 'checkMany'];
     assert.deepEqual(Object.keys(keywrap), names);
-    for (const name of [...names, 'other']) {
-        assert.throws(() => { keywrap[name] = () => KEY; }, TypeError);
-    }
-    assert.throws(() => { delete keywrap.wrap; }, TypeError);
-    assert.deepEqual(keywrap.wrap(KEK, KEY), WRAPPED);
+    assert.ok(Object.isFrozen(keywrap));
 });
 
 test('many keys: more long ones, and more short ones, than the memory has room for', () => {

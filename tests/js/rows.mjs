@@ -1,14 +1,11 @@
-// Makes the calls of the lines that faces.py writes. Looks at the module's memory after each of the first 1,000 calls,
-// and after some of the others.
-//
-// usage: node rows.mjs        (lines from standard input)
-// In a page, too: `answers` has a line for each line.
+// Makes the calls of the lines that faces.py writes, in Node from standard input, in a page by `answers`. Looks at the
+// module's stack after each call, and at its memory after each of the first 1,000 calls, and after some of the others.
 
 import {
     BadInitialValue, BadKekLength, BadLength, IntegrityFailed, KeyNotPlain, isAsMade, isEqual, watched,
 } from './watched.mjs';
 
-// The calls of the module, which may not use half of its stack.
+// No call may use half of the stack.
 const { keywrap, exports } = await watched(undefined, (made) => {
     const stack = new Uint8Array(made.memory.buffer, 0, 8192);
     const measured = ([name, call]) => [name, (...given) => {
@@ -75,10 +72,9 @@ function called(number, call, kek, newKek, iv, flags, text) {
     } catch (error) {
         found = error;
     }
-    const of = (results) => (Array.isArray(results) ? results : [results]);
-    const isOwn = of(found).every((one) => !(one instanceof Uint8Array)
+    const isOwn = [found].flat().every((one) => !(one instanceof Uint8Array)
         || one.buffer.byteLength === one.length && one.buffer !== exports.memory.buffer);
-    const isChanged = !of(copy).every((one, at) => isEqual(one, of(given)[at]));
+    const isChanged = ![copy].flat().every((one, at) => isEqual(one, [given].flat()[at]));
     const isClean = number > 1000 && number % 500 || isAsMade(exports);
     return answer(call, found) + (isOwn && !isChanged && isClean ? '' : ' changed');
 }

@@ -1,5 +1,5 @@
-//! Makes the calls of the lines that faces.py writes, in the file that `KEYWRAP_ROWS` names, and prints what they return
-//! and write: into a buffer or in place, and as `KEYWRAP_WAY` says into a Vec (`_vec`) or by steps (`_steps`).
+//! Makes the calls of the lines that faces.py writes, in the file that `KEYWRAP_ROWS` names, and prints what they
+//! return and write: into a buffer or in place, and as `KEYWRAP_WAY` says into a Vec (`_vec`) or by steps (`_steps`).
 
 use keywrap::steps::{Operation, Rewrapping, Stopped, Unwrapping, Wrapping};
 use keywrap::{Error, Form, Forms, KekSlice, Kind, Rewrapped, Status};
@@ -14,15 +14,12 @@ extern "C" {
     fn AES_decrypt(block: *const u8, result: *mut u8, schedule: *const [u32; 61]);
 }
 
-fn hex(text: &str) -> Vec<u8> {
-    (0..text.len()).step_by(2).map(|at| u8::from_str_radix(&text[at..at + 2], 16).unwrap()).collect()
-}
-
 struct Line<'a>(Vec<&'a str>);
 
 impl Line<'_> {
     fn bytes(&self, at: usize) -> Vec<u8> {
-        hex(self.0[at].trim_start_matches('-'))
+        let text = self.0[at].trim_start_matches('-');
+        (0..text.len()).step_by(2).map(|at| u8::from_str_radix(&text[at..at + 2], 16).unwrap()).collect()
     }
 
     fn number(&self, at: usize) -> usize {
@@ -68,12 +65,8 @@ fn status_of(error: Error) -> u8 {
     }
 }
 
-fn refused((Stopped::Refused(error) | Stopped::Cipher(error)): Stopped<Error>) -> Error {
-    error
-}
-
 fn wrapped(begun: Result<Wrapping>, line: &Line) -> Result<()> {
-    begun?.run(line.aes(1, false)).map_err(refused)
+    begun?.run(line.aes(1, false)).map_err(|(Stopped::Refused(error) | Stopped::Cipher(error))| error)
 }
 
 /// The steps one by one.
@@ -93,7 +86,7 @@ fn rewrapped(begun: Result<Rewrapping>, line: &Line) -> Result<Rewrapped> {
         Operation::EncryptNew => encrypt(block),
         Operation::DecryptNew => decrypt(block),
     });
-    ended.map_err(refused)
+    ended.map_err(|(Stopped::Refused(error) | Stopped::Cipher(error))| error)
 }
 
 /// What a call for one key returns. Beside its buffer, if that is printed.
@@ -147,8 +140,8 @@ fn many(line: &Line, call: &str, kek: &KekSlice, out: &mut Vec<u8>) -> Result<St
     let (padded, (forms, pass_new)) = ([Form::Plain, Form::Padded][line.number(4).min(1)], line.forms());
     let mut statuses = vec![Status::default(); line.number(8)];
     let (mut lens, mut found) = (vec![77; line.number(9)], vec![77; line.number(10)]);
-    // What the iterators return of each slot, and the same in the arrays.
-    let (mut each, mut due): (Vec<Result<Vec<u8>>>, Vec<Result<Vec<u8>>>) = (vec![], vec![]);
+    // What the iterators return of each slot.
+    let mut each: Vec<Result<Vec<u8>>> = vec![];
     match call {
         "wrap_many" => kek.wrap_many(padded, out, line.number(7), &mut statuses)?,
         "unwrap_many" => {
@@ -166,20 +159,17 @@ fn many(line: &Line, call: &str, kek: &KekSlice, out: &mut Vec<u8>) -> Result<St
         }
     };
     let slot = out.len() / statuses.len().max(1);
-    for (at, status) in statuses.iter().enumerate().filter(|_| call != "wrap_many") {
-        due.push(status.rewrapped().map(|one| match call {
-            "unwrap_many" => out[slot * at + 8..][..lens[at]].to_vec(),
-            "kind_many" => vec![found[at], lens[at] as u8],
-            _ => vec![one as u8],
-        }));
-    }
-    assert_eq!(each, due);
+    let due = statuses.iter().enumerate().map(|(at, status)| match call {
+        "unwrap_many" => status.result().map(|()| out[slot * at + 8..][..lens[at]].to_vec()),
+        "kind_many" => status.result().map(|()| vec![found[at], lens[at] as u8]),
+        _ => status.rewrapped().map(|one| vec![one as u8]),
+    });
+    assert!(call == "wrap_many" || due.eq(each));
     let status = |one: &Status| one.rewrapped().map_or_else(status_of, |one| one as u8);
     let statuses = listed("statuses", &statuses.iter().map(status).collect::<Vec<_>>());
-    let (forms, lens) = (listed("forms", &found), listed("lens", &lens));
     Ok(match call {
-        "kind_many" => statuses + &forms + &lens,
-        "unwrap_many" => statuses + &lens,
+        "kind_many" => statuses + &listed("forms", &found) + &listed("lens", &lens),
+        "unwrap_many" => statuses + &listed("lens", &lens),
         _ => statuses,
     })
 }
