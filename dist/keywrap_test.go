@@ -6,7 +6,6 @@ import (
 	"crypto/cipher"
 	"crypto/des"
 	"errors"
-	"sync"
 	"testing"
 
 	"keywrap.example/keywrap"
@@ -32,7 +31,7 @@ func TestConstants(t *testing.T) {
 	}
 }
 
-// A Refusals finds only what it has. Another error is none. A call without a refusal has none.
+// A Refusals finds only what it has. Another error is none. A refused wrapped key has no form.
 func TestRefusals(t *testing.T) {
 	kek := make([]byte, 16)
 	padded, _ := keywrap.WrapPadded(kek, make([]byte, 20))
@@ -46,8 +45,8 @@ func TestRefusals(t *testing.T) {
 			t.Error(err, other)
 		}
 	}
-	if _, _, err := keywrap.KindMany(kek, [][]byte{padded}); err != nil {
-		t.Error(err)
+	if forms, _, _ := keywrap.KindMany(kek, [][]byte{make([]byte, 24), padded[:24]}); forms[0] != 0 || forms[1] != 0 {
+		t.Error(forms)
 	}
 }
 
@@ -103,11 +102,9 @@ func TestGoroutines(t *testing.T) {
 	due, _ := keywrap.Wrap(kek, kek)
 	wanted := bytes.Join([][]byte{due, due, due, kek}, nil)
 	c, _ := keywrap.NewCipher(aesOf(kek))
-	var all sync.WaitGroup
 	for n := 0; n < 8; n++ {
-		all.Add(1)
-		go func() {
-			defer all.Done()
+		t.Run("", func(t *testing.T) {
+			t.Parallel()
 			for i := 0; i < 500; i++ {
 				one, _ := keywrap.Wrap(kek, kek)
 				two, _ := c.Wrap(kek)
@@ -117,9 +114,8 @@ func TestGoroutines(t *testing.T) {
 					t.Errorf("%x, not %x", found, wanted)
 				}
 			}
-		}()
+		})
 	}
-	all.Wait()
 }
 
 func TestSelfTest(t *testing.T) {

@@ -23,7 +23,6 @@ int32_t step_unwrap_each(uint8_t *texts, size_t text_len, size_t count, uint64_t
 void wipe(uint8_t *bytes, size_t len);
 int cpu_supported(void);
 static const char *const VERSION;
-#define NO_MEMORY ...
 """
 
 SOURCE = """
@@ -132,8 +131,6 @@ version = Path(place_of("VERSION", ".."), "VERSION").read_text(encoding="utf-8")
 VERSION = version.strip().replace("-dev", ".dev0")
 
 header = Path(C, "keywrap.h").read_text(encoding="utf-8")
-# Only the header of the portable library defines it for C.
-(no_memory,) = re.findall(r"^#define KEYWRAP_NO_MEMORY (\d+)$", header, re.M)
 ffi = FFI()
 ffi.cdef(declarations(header, Path(C, "keywrap_steps.h").read_text(encoding="utf-8")) + HELPERS)
 # Of the library: without debugging information, which names the directory, and stripped. The package calls the library
@@ -155,7 +152,6 @@ ffi.set_source(
     depends=[f"{C}/keywrap.h", f"{C}/keywrap_steps.h"],
     define_macros=[
         ("PACKAGE_VERSION", f'"{VERSION}"'),
-        ("NO_MEMORY", no_memory),
         *([("KEYWRAP_PORTABLE", None)] if portable else []),
     ],
     py_limited_api=True,

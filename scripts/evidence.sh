@@ -1,6 +1,6 @@
 #!/usr/bin/env bash
 # Runs what takes too long for the gate, before a release. For each line of tests/evidence.txt it writes
-# docs/evidence/NAME: what was tried, with its SHA-256, and the end of the output, without lines of progress ([..). If
+# docs/evidence/NAME: what was tried, with its SHA-256, and the end of the output, without lines that begin with [. If
 # one fails, the others run nevertheless, and the exit status is 1.
 #
 # usage: scripts/evidence.sh [NAME..]        only these lines, if one is named

@@ -38,23 +38,25 @@ def wrong_keks(row):
 def reason(face, call, row):
     """Why a face cannot express a row, or None."""
     is_many, is_kek, iv = call.endswith("_many"), not wrong_keks(row), row.get("iv", rows.IV)
-    is_iv, is_text = len(iv) == 8 and iv[:4] != rows.RESERVED, rows.is_text(rows.PLAIN, len(row["given"]))
+    is_iv = len(iv) == 8 and iv[:4] != rows.RESERVED
+    is_length = (rows.is_key if call[0] == "w" else rows.is_text)(rows.PLAIN, len(row["given"]))
     reasons = {
         "the call of version 1.0 is only in C": call == "rewrap_in_place",
         "a kept KEK has a type of its own": call.startswith("kek_") or any(
             len(row.get(name, b"")) > 100 for name in ("kek", "new")),
         "flags are enums, or named": face not in ("go", "java") and not are_flags(call, row.get("flags", 0)),
-        "an initial value has eight bytes": face == "rust" and len(iv) != 8,
+        "an initial value has eight bytes": face.startswith("rust") and len(iv) != 8,
         "no slice is so long": face == "rust" and row.get("count", 0) > 1 << 20,
+        "no such call makes a Vec": face == "rust vec" and (is_many or call == "rewrap"),
+        "no steps of many keys": face == "rust steps" and is_many,
         "the package makes the buffers": face != "rust" and (SIZES & {*row} or call.endswith("in_place")),
-        "no keys are an empty list": face == "python" and is_many and not row["given"],
+        "no keys are an empty list": face.startswith("python") and is_many and not row["given"],
         "JCA has no such call": face == "java" and (call in ("unwrap_any", "kind", "rewrap") or is_many),
         "JCA has no empty key": face == "java" and row["kek"] == b"",
         "the provider looks at the KEK before the initial value": face == "java" and "iv" in row and not is_kek,
-        "the length is refused before the initial value":
-            face == "python steps" and call == "unwrap_with" and not (is_iv or is_text),
-        "no such steps": face == "python steps" and not (is_kek and row["given"] and "kind" not in call
-                                                         and call != "rewrap_many"),
+        "the length is refused before the initial value": not (is_iv or is_length) and (
+            face == "rust steps" or face == "python steps" and call == "unwrap_with"),
+        "no such steps": face.endswith("steps") and (not is_kek or "kind" in call or call == "rewrap_many"),
     }
     return next((why for why, holds in reasons.items() if holds), None) if face != "c" else None
 
@@ -68,15 +70,21 @@ def ways(face, call, row):
 
 
 def filled(content, length):
-    """So many bytes, of which the last are to be written."""
+    """A buffer of this length that begins with the content. The rest is FILL."""
     return content[:length] + FILL * (length - len(content))
 
 
 def digits(content, length, head=0):
-    """The hex digits of so many bytes: zeros, this content, and zeros. Of a text these are the ends."""
+    """The hex digits of `length` bytes: `head` zeros, this content, and zeros. Of `ends..ends/length` a pattern."""
     if isinstance(content, str):
-        return "00" * head + content + "00" * (length - head - int(content.partition("/")[2]))
+        begin, end, size = re.split(r"\.\.|/", content)
+        return f"{begin}[0-9a-f]{{{2 * int(size) - len(begin) - len(end)}}}{end}"
     return (bytes(head) + content + bytes(length - head - len(content))).hex()
+
+
+def room_of(call, given):
+    """The length of what a call for one key writes beside what it is given, or - if it writes over that."""
+    return "-" if call == "rewrap" else rounded(len(given)) + 8 if call[0] == "w" else max(len(given) - 8, 0)
 
 
 def buffers(face, call, row, due):
@@ -97,8 +105,7 @@ def buffers(face, call, row, due):
             digits(item, slot, 8 * (call == "unwrap_many")) for item in out)
     if call.startswith("rewrap") or call.endswith("in_place") or call == "kek_clear":
         return {"room": "-"}, given.hex() if out is None else digits(out, len(given))
-    is_init, size = call == "kek_init", rounded(len(given)) + 8 if call[0] == "w" else max(len(given) - 8, 0)
-    room = row.get("room", 4 * len(row["kek"]) + 128 if is_init else size)
+    room = row.get("room", 4 * len(row["kek"]) + 128 if call == "kek_init" else room_of(call, given))
     return {"room": room}, (FILL * room).hex() if out is None else digits(out, room)
 
 
@@ -116,35 +123,34 @@ def values(face, call, row, due):
     """What another call is given, and what it returns: nothing beside a refusal."""
     given, out = row["given"], due.get("out")
     if not call.endswith("_many"):
-        return {}, (given.hex() if out is None else digits(out, len(out))) if due["status"] == OK else None
+        made = given.hex() if out is None else digits(out, len(out))
+        return {"room": room_of(call, given)}, made if due["status"] == OK else None
     given = ",".join(item.hex() for item in row["given"]) if row["given"] else "-"
     return {"given": given}, ",".join("" if status > 1 else item.hex() for status, item in zip(
         due["statuses"], out)) if out else None
 
 
-# The numbers that a call writes, in C and Rust also beside a refusal, and what one of other languages returns.
+# The numbers that a call writes, in C also beside a refusal, and those that one with other results returns.
 WRITTEN = {"kind": "form len", "unwrap_any": "form len", "unwrap_padded": "len", "unwrap_padded_in_place": "len",
            "rewrap": "already", "unwrap_many": "lens", "kind_many": "forms lens"}
-RETURNED = {"kind": "form len", "unwrap_any": "form", "kind_many": "forms lens"}
+RETURNED = {"kind": "form len", "unwrap_any": "form", "rewrap": "already", "kind_many": "forms lens",
+            "rewrap_many": "already"}
+NOT_RETURNED = {"python": ("already", "lens"), "python steps": ("already",), "js": ("already",)}
 
 
 def numbers(face, call, row, due):
-    """What is returned beside bytes. Python and JavaScript return no ALREADY_NEW."""
-    has_buffers, statuses = face in ("c", "rust"), due.get("statuses")
+    """What is returned beside bytes."""
+    has_buffers, statuses = face in ("c", "rust"), due.get("statuses", [])
     names = (WRITTEN if has_buffers else RETURNED).get(call, "").split()
-    has_numbers = due["status"] == OK or has_buffers and not call.endswith("_many")
-    found = {name: due.get(name, 0) for name in names if has_numbers and (name != "lens" or face != "python")}
-    if statuses:
-        refused = [status * (status > 1) for status in statuses]
-        found = {"statuses": statuses if has_buffers else refused, **found}
+    has_numbers = due["status"] == OK or face == "c" and not call.endswith("_many")
+    found = {name: due.get(name, 0) for name in names if has_numbers and name not in NOT_RETURNED.get(face, ())}
+    refused = [status * (status > 1) for status in statuses]
     if face == "go":
-        # Its runner prints no 0 and false. Its forms have numbers from 1.
-        found = {name: value + 1 if name == "form" else value for name, value in found.items() if name != "statuses"}
-        if "forms" in found:
-            found["forms"] = [form + (not status) for form, status in zip(due["forms"], statuses)]
-        if call == "rewrap_many" and statuses:
-            found["already"] = ["true" if status == 1 else "false" for status in statuses]
-        found |= {"already": "true"} if "already" in due else {"statuses": refused} if statuses and any(refused) else {}
+        # Its runner prints no 0, and its forms have other numbers, of which none is 0.
+        found = {name: value for name, value in found.items() if value or name == "form"}
+        found |= {"statuses": refused} if any(refused) else {}
+    elif statuses:
+        found = {"statuses": statuses if has_buffers else refused, **found}
     text = text_of(face, call, row, due)
     return {**found, "text": text} if text else found
 
@@ -153,6 +159,15 @@ def numbers(face, call, row, due):
 TEXTS = {2: "initial value is not 8 bytes, or is reserved for the padded form",
          3: "key length is not 16, 24 or 32 bytes", 4: "bad length", 5: "integrity check failed",
          8: "no plain key has the length of the key"}
+
+
+def legal(call, row):
+    """What the length of a key or a wrapped key has to be in this call."""
+    is_padded = "padded" in call or call in ("unwrap_any", "kind", "kind_many") or row.get("flags", 0) & (
+        rows.NEW_PADDED if call == "wrap_many" else rows.OLD_PADDED | rows.KEEP_FORM)
+    if call[0] == "w":
+        return "from 1 to 1048576" if is_padded else "a multiple of 8 from 16 to 1048576"
+    return f"a multiple of 8 from {16 if is_padded else 24} to 1048584"
 
 
 def text_of(face, call, row, due):
@@ -166,7 +181,7 @@ def text_of(face, call, row, due):
     if face == "go":
         at = f" at index {statuses.index(status)}; {len(refused)} of {len(statuses)} refused"
         return f"keywrap: {text}{at * ('statuses' in due)}"
-    if face == "rust":
+    if face.startswith("rust"):
         # It says what the output needs, if what is given has a legal length.
         is_legal, form = rows.is_key if call[0] == "w" else rows.is_text, call.startswith(("wrap_p", "unwrap_p", "k"))
         is_sure = "room" in row and not call.endswith("_many") and is_legal(int(form), len(row["given"]))
@@ -175,7 +190,8 @@ def text_of(face, call, row, due):
     what, given = "the key" if call[0] == "w" else "the wrapped key", row["given"]
     is_long = f"{what} is {len(given[0] if call.endswith('_many') and given else given)} bytes long"
     if status == BAD_LENGTH:
-        return f"{text}: ({is_long}(; it must be .* bytes|, another one .*)|{what}s must have one length, and there .*)"
+        ends = f"; it must be {legal(call, row)} bytes|, another one .*"
+        return f"{text}: ({is_long}({ends})|{what}s must have one length, and there .*)"
     return {BAD_KEK: f"the KEK is {kek} bytes long; it must be 16, 24 or 32 bytes",
             BAD_IV: "the initial value is reserved for the padded form: it begins with a6 59 59 a6" if len(iv) == 8 else
                     f"the initial value is {len(iv)} bytes long; it must be 8 bytes",
@@ -207,24 +223,15 @@ def asked(face, *names):
 
 
 def is_right(said, due):
-    """Whether the answer is the one that is due, in which `ends..ends/length` stands for so many bytes, and a text is a
-    pattern."""
+    """Whether the answer is the one that is due: a pattern, but not if it is long, and one of the text."""
     (said, _, text), (due, _, pattern) = said.partition(" text="), due.partition(" text=")
-    if "/" in due:
-        due = re.sub(r"([0-9a-f]*)\.\.([0-9a-f]*)/(\d+)", lambda found: "%s[0-9a-f]{%d}%s" % (
-            found[1], 2 * int(found[3]) - len(found[1]) - len(found[2]), found[2]), due)
-        return not text and re.fullmatch(due, said) is not None
-    return said == due and re.fullmatch(pattern, text) is not None
-
-
-def group_of(line, due):
-    """The call, and whether it is done."""
-    return line.split()[0] + (", done" if due.startswith("status=0") else ", refused")
+    is_due = said == due or len(due) < 1 << 20 and re.fullmatch(due, said)
+    return bool(is_due and re.fullmatch(pattern, text))
 
 
 def faults(face, runner, *names):
-    """The rows of these tables to which a runner gives another answer, each with its group. It is a command that reads
-    the lines, or a function of the lines."""
+    """The rows of these tables to which a runner gives another answer. It is a command that reads the lines, or a
+    function of the lines."""
     def answers(texts):
         text = "".join(f"{text}\n" for text in texts)
         found = re.findall("^status=.*", runner(text) if callable(runner) else run(*runner, input=text), re.M)
@@ -238,18 +245,19 @@ def faults(face, runner, *names):
         again |= {at: line.replace("^", made)} if "^" in line else {}
     for at, answer in zip(again, answers([*again.values()]) if again else ()):
         said[at] = answer
-    return [(group_of(line, due), f"{rows.line_of(*row)[:300]}\n  {line[:40]}: {answer[:300]}, not {due[:300]}")
+    return [f"{rows.line_of(*row)[:300]}\n  {line[:40]}: {answer[:300]}, not {due[:300]}"
             for (line, due, row), answer in zip(lines, said) if not is_right(answer, due)]
+
+
+def check(face, runner, *names):
+    wrong = faults(face, runner, *names)
+    assert wrong == [], "\n".join([f"{len(wrong)} wrong answers", *wrong[:20]])
 
 
 def has_fault(face, runner, *names):
     """Whether there is one. A runner that ends too early has one, too."""
     try:
-        return bool(faults(face, runner, *names))
+        check(face, runner, *names)
     except AssertionError:
         return True
-
-
-def check(face, runner, *names):
-    wrong = [fault for _, fault in faults(face, runner, *names)]
-    assert wrong == [], "\n".join([f"{len(wrong)} wrong answers", *wrong[:20]])
+    return False

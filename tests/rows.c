@@ -1,8 +1,12 @@
 /* rows.c: makes the calls of lines that faces.py writes, and prints what they return and write. A buffer that is read
  * is in memory of its own length. One that is written is between bytes that no call may write. Each has another
- * alignment each time. `changed` is printed if these bytes or what is only read are not as before. */
+ * alignment each time. `changed` is printed if these bytes or what is only read are not as before. Aborts if something
+ * that keywrap.h has beside these calls is wrong: the macros, the version, the texts of the statuses, the self test. */
 
+#undef NDEBUG
+#include <assert.h>
 #include <keywrap.h>
+#include <limits.h>
 #include <stdio.h>
 #include <stdlib.h>
 #include <string.h>
@@ -15,13 +19,13 @@ struct bytes {
     size_t len;
 };
 
-static char line[LINE], hex[LINE];
+static char line[LINE];
 static char *field[FIELDS];
 static size_t turn;
 
 static void *memory(size_t len) {
     void *at = malloc(len > 0 ? len : 1);
-    if (at == NULL) abort();
+    assert(at != NULL);
     return at;
 }
 
@@ -53,10 +57,9 @@ static int are(const uint8_t *at, int byte, size_t len) {
     return 1;
 }
 
-static void write_hex(char *text, const uint8_t *at, size_t len) {
+static void print_hex(const uint8_t *at, size_t len) {
     static const char all[] = "0123456789abcdef";
-    for (size_t i = 0; i < len; i++) *text++ = all[at[i] >> 4], *text++ = all[at[i] & 15];
-    *text = 0;
+    for (size_t i = 0; i < len; i++) putchar(all[at[i] >> 4]), putchar(all[at[i] & 15]);
 }
 
 /* The numbers, of one byte or of size_t, up to the last one that a call has written. */
@@ -70,17 +73,16 @@ static void answer(void) {
     static size_t lens[SLOTS];
     static uint8_t statuses[SLOTS], forms[SLOTS];
     const struct bytes kek = bytes(KEK), new = bytes(NEW), iv = bytes(IV), given = bytes(GIVEN);
-    const struct bytes read[] = {kek, new, iv, given};
-    const int names[] = {KEK, NEW, IV, GIVEN}, is_in_place = *field[ROOM] == '-';
+    const struct bytes read[] = {kek, new, iv, given}, again[] = {bytes(KEK), bytes(NEW), bytes(IV), bytes(GIVEN)};
     const uint8_t *k = kek.at, *g = given.at;
-    const size_t kl = kek.len, gl = given.len, n = is_in_place ? gl : number(ROOM), count = number(COUNT);
+    const size_t kl = kek.len, gl = given.len, n = *field[ROOM] == '-' ? gl : number(ROOM), count = number(COUNT);
     const uint32_t flags = (uint32_t)number(FLAGS);
     uint8_t *block = memory(n + 2 * SIDE + 8), *b = block + SIDE + turn++ % 8;
     uint32_t form = UINT32_MAX, already = UINT32_MAX;
     size_t len = SIZE_MAX;
     memset(block, SIDE_BYTE, n + 2 * SIDE + 8);
     memset(b, FILL, n);
-    if (is_in_place) memcpy(b, g, n);
+    if (*field[ROOM] == '-') memcpy(b, g, n);
     memset(lens, 0xff, sizeof lens);
     memset(statuses, FILL, sizeof statuses);
     memset(forms, FILL, sizeof forms);
@@ -108,12 +110,12 @@ static void answer(void) {
                             : keywrap_rewrap_many(k, kl, new.at, new.len, b, n, flags, statuses, count);
     int right = are(block, SIDE_BYTE, (size_t)(b - block)) && are(b + n, SIDE_BYTE, SIDE);
     for (size_t i = 0; i < 4; i++) {
-        const struct bytes before = bytes(names[i]);
-        right &= !memcmp(before.at, read[i].at, read[i].len);
-        free(before.memory);
+        right &= !memcmp(again[i].at, read[i].at, read[i].len);
+        free(again[i].memory);
+        free(read[i].memory);
     }
-    write_hex(hex, b, n);
-    printf("status=%d out=%s", (int)status, hex);
+    printf("status=%d out=", (int)status);
+    print_hex(b, n);
     if (form != UINT32_MAX) printf(" form=%u", (unsigned)form);
     if (len != SIZE_MAX) printf(" len=%lu", (unsigned long)len);
     if (already != UINT32_MAX) printf(" already=%u", (unsigned)already);
@@ -121,11 +123,47 @@ static void answer(void) {
     print_list(" forms=", forms, NULL);
     print_list(" lens=", NULL, lens);
     puts(right ? "" : " changed");
-    for (size_t i = 0; i < 4; i++) free(read[i].memory);
     free(block);
 }
 
+/* A macro is one operand, and so is its argument. With a constant argument it is a constant. */
+static void check_macros(void) {
+    volatile size_t one = 1;
+    static const size_t padded[] = {KEYWRAP_PADDED_TEXT_LEN(1), KEYWRAP_PADDED_TEXT_LEN(8), KEYWRAP_PADDED_TEXT_LEN(9)};
+    static const size_t rooms[] = {KEYWRAP_ROOM(0), KEYWRAP_ROOM(8), KEYWRAP_ROOM(9)};
+    assert(padded[0] == 16 && padded[1] == 16 && padded[2] == 24 && rooms[0] == 0 && rooms[1] == 0 && rooms[2] == 1);
+    assert(KEYWRAP_MAX_TEXT == KEYWRAP_MAX_KEY + 8 && 2 * KEYWRAP_MAX_TEXT == 2097168);
+    assert(2 * KEYWRAP_TEXT_LEN(one ? 24 : 16) == 64 && 2 * KEYWRAP_PADDED_TEXT_LEN(one ? 17 : 9) == 64);
+    assert(2 * KEYWRAP_ROOM(one ? 24 : 16) == 32 && KEYWRAP_ROOM(one | 6) == 0 && 2 * KEYWRAP_KEK_LEN(one ? 24 : 16) == 448);
+}
+
+/* The text of each status: whole, cut to each capacity, with the bytes after it unchanged. */
+static void check_texts(void) {
+    static const char *const texts[] = {
+        "done", NULL, "initial value is not 8 bytes, or is reserved for the padded form",
+        "key length is not 16, 24 or 32 bytes", "bad length", "integrity check failed", NULL, "out of memory",
+        "no plain key has the length of the key"};
+    static const int32_t statuses[] = {0, 1, 2, 3, 4, 5, 6, 7, 8, 9, 70, -1, INT32_MIN, INT32_MAX};
+    for (size_t i = 0; i < sizeof statuses / sizeof *statuses; i++)
+        for (size_t capacity = 0; capacity <= 90; capacity++) {
+            const char *text = i < 9 && texts[i] != NULL ? texts[i] : "unknown status";
+            const size_t len = strlen(text), cut = len < capacity ? len : capacity - 1;
+            char found[91], due[91];
+            memset(found, '~', sizeof found);
+            memset(due, '~', sizeof due);
+            if (capacity > 0) memcpy(due, text, cut), due[cut] = 0;
+            assert(keywrap_status_text(statuses[i], found, capacity) == len);
+            assert(!memcmp(found, due, sizeof due));
+        }
+}
+
 int main(void) {
+    const uint32_t version = keywrap_version();
+    assert(version == KEYWRAP_VERSION && version >> 16 == KEYWRAP_VERSION_MAJOR);
+    assert((version >> 8 & 255) == KEYWRAP_VERSION_MINOR && (version & 255) == KEYWRAP_VERSION_PATCH);
+    check_macros();
+    check_texts();
+    assert(keywrap_self_test() == KEYWRAP_OK);
     while (fgets(line, LINE, stdin)) {
         field[CALL] = strtok(line, " \n");
         for (int i = 1; i < FIELDS; i++) field[i] = strtok(NULL, " \n");

@@ -10,8 +10,7 @@ import pathlib
 import re
 import sys
 
-HERE = pathlib.Path(__file__).resolve().parent
-KEPT = HERE / "rows.txt"
+KEPT = pathlib.Path(__file__).resolve().parent / "rows.txt"
 OK, ALREADY_NEW, BAD_IV, BAD_KEK, BAD_LENGTH, INTEGRITY, KEY_NOT_PLAIN = 0, 1, 2, 3, 4, 5, 8
 PLAIN, PADDED = 0, 1
 OLD_PADDED, NEW_PADDED, KEEP_FORM, PASS_NEW = 1, 2, 4, 8
@@ -71,12 +70,17 @@ def words_of(text):
     return [text[at:at + 8] for at in range(0, len(text), 8)]
 
 
+def rounded(length):
+    return (length + 7) // 8 * 8
+
+
 @functools.lru_cache(maxsize=20000)
-def wrapping(kek, iv, words):
-    """RFC 3394, 2.2.1, with an index; one word as in RFC 5649, 4.1."""
-    a, r, encrypt = iv, words_of(words), aes(kek, False)
+def wrapped(form, kek, key, iv=IV):
+    """RFC 3394, 2.2.1, with an index, and RFC 5649, 4.1."""
+    a = RESERVED + len(key).to_bytes(4, "big") if form == PADDED else iv
+    r, encrypt = words_of(key + bytes(rounded(len(key)) - len(key))), aes(kek, False)
     if len(r) == 1:
-        return encrypt(a + words)
+        return encrypt(a + r[0])
     for step in range(6 * len(r)):
         block = encrypt(a + r[step % len(r)])
         a, r[step % len(r)] = xored(block[:8], step + 1), block[8:]
@@ -93,16 +97,6 @@ def opened(kek, text):
         block = decrypt(xored(a, step + 1) + r[step % len(r)])
         a, r[step % len(r)] = block[:8], block[8:]
     return a, b"".join(r)
-
-
-def rounded(length):
-    return (length + 7) // 8 * 8
-
-
-def wrapped(form, kek, key, iv=IV):
-    if form == PADDED:
-        iv = RESERVED + len(key).to_bytes(4, "big")
-    return wrapping(kek, iv, key + bytes(rounded(len(key)) - len(key)))
 
 
 def key_in(form, kek, text, iv=IV):
@@ -301,22 +295,17 @@ def of_slots(name, row, slots):
         is_text(PADDED if form & (OLD_PADDED | KEEP_FORM) else PLAIN, length))
     if not is_right or not are_flags(name, form):
         return {"status": BAD_LENGTH}
-    due = {"status": OK, "statuses": [ALREADY_NEW if one.get("already") else one["status"] for one in each]}
-    if name == "rewrap_many":
-        return {**due, "out": [one.get("out", given) for given, one in slots]}
-    keys = [one["out"] if one["status"] == OK else b"" for one in each]
-    if name == "wrap_many":
-        return {**due, "out": keys}
-    lens = [one.get("len", len(key)) if one["status"] == OK else 0 for one, key in zip(each, keys)]
-    return {**due, "forms": [one.get("form", 0) for one in each], "lens": lens} if name == "kind_many" else {
-        **due, "out": keys, "lens": lens}
+    # A rewrap leaves what it refuses.
+    out = [one.get("out", given) if one["status"] == OK or name == "rewrap_many" else b"" for given, one in slots]
+    return {"status": OK, "statuses": [ALREADY_NEW if one.get("already") else one["status"] for one in each],
+            "out": out, "lens": [one.get("len", len(key)) for one, key in zip(each, out)],
+            "forms": [one.get("form", 0) for one in each], "already": [one.get("already", 0) for one in each]}
 
 
 def line_of(call, row, found):
     """A line of rows.txt."""
-    words = [f"{name}={shown(row[name])}" for name in GIVEN if name in row and row[name] != []]
-    return " ".join([call, str(found["status"]), *words,
-                     *(f"{name}={shown(value)}" for name, value in found.items() if name != "status")])
+    words = {name: row[name] for name in GIVEN if row.get(name, []) != []} | dict(sorted(found.items()))
+    return " ".join([call, str(words.pop("status")), *(f"{name}={shown(value)}" for name, value in words.items())])
 
 
 def shown(value):
@@ -337,9 +326,9 @@ def wrong(long=True):
         if call.endswith("_many") or len(row["given"]) > 4096 and not long:
             continue
         right = due(call, {**row, "given": last} if isinstance(row["given"], Last) else row)
-        last = right.get("out", b"")
-        if shown(found.get("out", b"")) != shown(right.get("out", b"")) or {**found, "out": 0} != {**right, "out": 0}:
-            yield f"- {line_of(call, row, found)}\n+ {line_of(call, row, right)}\n"
+        last, (kept_line, line) = right.get("out", b""), (line_of(call, row, one) for one in (found, right))
+        if kept_line != line:
+            yield f"- {kept_line}\n+ {line}\n"
 
 
 def more():
@@ -374,6 +363,4 @@ def changes(call, row, kept_due):
 
 
 if __name__ == "__main__":
-    found = [*wrong()]
-    print(end="".join(found))
-    sys.exit(bool(found))
+    sys.exit("".join(wrong()) or None)

@@ -71,12 +71,12 @@ def answer(call, found):
     words = [("status", status_of(found))]
     refusals = [one for one in (found if isinstance(found, list) else [found]) if isinstance(one, Exception)]
     text = [("text", str(refusals[0]))] if refusals else []
-    if call == "check_many" and isinstance(found, list):
-        words += [("forms", ",".join(str(int(one is Kind.PADDED)) for one in found))]
-        return [words[0], ("statuses", ",".join(str(status_of(one)) for one in found)), *words[1:]]
     if isinstance(found, list):
+        statuses = ("statuses", ",".join(str(status_of(one)) for one in found))
+        if call == "check_many":
+            return [*words, statuses, ("forms", ",".join(str(int(one is Kind.PADDED)) for one in found))]
         texts = [one.hex() if isinstance(one, bytes) else "" for one in found]
-        return [*words, ("out", ",".join(texts)), ("statuses", ",".join(str(status_of(one)) for one in found)), *text]
+        return [*words, ("out", ",".join(texts)), statuses, *text]
     parts = found if isinstance(found, tuple) else (found,)
     shown = {bytes: lambda part: ("out", part.hex()), Kind: lambda part: ("form", int(part is Kind.PADDED)),
              int: lambda part: ("len", part)}

@@ -29,7 +29,7 @@ WHOLE, LAST = ["wrap", "rewrap", "drill", "help", *(command.name for command in 
 
 @pytest.fixture
 def succeeds(keywrap, command):
-    """succeeds(program, ..) returns whether a run ends as with ample memory. Otherwise nothing was written."""
+    """succeeds(program, **options) returns whether a run ends as with ample memory. Otherwise nothing was written."""
     own = keywrap(command.args, text=False)
     into_file = command in INTO_FILES
     answer = own.stdout if command.stdout is None else command.stdout
@@ -81,12 +81,12 @@ def test_ever_more_memory(keywrap, command, succeeds):
 
 
 def calls(crates):
-    """The tests refuses_each_growth_.. of the test programs that `rt test` built in the crates."""
+    """The tests refuses_each_growth_* of the test programs that `rt test` built in the crates."""
     for crate, count in ("key_wrap", 6), ("keywrap_cli", None):
         program = os.path.abspath(f"{crates}/{crate}/out/{crate}_tests")
         listed = subprocess.run([program, "--list"], capture_output=True, text=True).stdout
         names = re.findall(r"(?m)^(.*::refuses_each_growth_.*): test$", listed)
-        assert names, f"no test refuses_each_growth_.. in {program}"
+        assert names, f"no test refuses_each_growth_* in {program}"
         yield from (pytest.param(program, name, count, id=name) for name in names)
 
 

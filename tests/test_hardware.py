@@ -134,11 +134,7 @@ class TestHere:
 
     def test_rows(self, hardware):
         run("cc", *OPTIONS, ROOT / "tests/rows.c", hardware / "libkeywrap_hw.a", "-o", "program")
-        faces.check("c", ["./program"], *kept()[1:], "more")
-
-    def test_own(self, hardware):
-        run("cc", *OPTIONS, ROOT / "tests/library/own.c", hardware / "libkeywrap_hw.a", "-o", "program")
-        assert run("./program").endswith(" passed, 0 failed\n")
+        faces.check("c", ["./program"], *kept(), "more")
 
     @slow
     @pytest.mark.needs("sanitizers of cc")
@@ -189,9 +185,7 @@ class TestHere:
 def programs(once, request):
     """programs("here") is the directory of the programs of a build, over its libkeywrap_hw.so.1."""
     def compile_all(directory, library, compiler, openssl, *more):
-        sources = {"rows": [ROOT / "tests/rows.c"], "own": [ROOT / "tests/library/own.c"]}
-        for name, files in sources.items():
-            run(*compiler, *OPTIONS, *files, library / "libkeywrap_hw.so.1", *more, "-o", directory / name)
+        run(*compiler, *OPTIONS, ROOT / "tests/rows.c", library / "libkeywrap_hw.so.1", *more, "-o", directory / "rows")
         run(*compiler, *OPTIONS, OWN / "chosen.c", *AES, *more, "-o", directory / "chosen")
         if openssl:
             run(*compiler, *OPTIONS, *openssl[1:], *COMPARING, openssl[0], *more, "-o", directory / "compared")
@@ -237,7 +231,7 @@ PROCESSORS = {
 
 @pytest.fixture
 def on(programs, hardware, request, monkeypatch):
-    """on("x86-64 with AES", "rows", ..) runs this program there. Skips if it cannot be built."""
+    """on("x86-64 with AES", "rows", *words) runs this program there. Skips if it cannot be built."""
     def found(processor, name, *words):
         built, runs, _ = PROCESSORS[processor]
         need(runs[0], *["aarch64-linux-gnu-gcc"] * (built != "here"))
@@ -269,10 +263,6 @@ class TestEachProcessor:
     @evidence
     def test_more(self, on, processor):
         faces.check("c", on(processor, "rows"), "more")
-
-    @slow
-    def test_own(self, on, processor):
-        assert run(*on(processor, "own")).endswith(" passed, 0 failed\n")
 
     @pytest.mark.parametrize("part", [
         "parameters", pytest.param("sequences 1000", marks=slow),

@@ -32,7 +32,7 @@ def compiled(directory, path, *sources):
 def classes(once):
     """The provider, the example and the programs, compiled without a warning."""
     programs = [ROOT / "java/Example.java",
-                *(PROGRAMS / f"{name}.java" for name in ("Checks", "Cleared", "Heap", "Rows"))]
+                *(PROGRAMS / f"{name}.java" for name in ("Checks", "Cleared", "Heap"))]
     return once("java-classes", lambda directory: compiled(directory, [JNA], *SOURCES, *programs))
 
 
@@ -60,7 +60,7 @@ def test_compared(java, check):
 
 @pytest.mark.parametrize("name", ["rows", pytest.param("more", marks=slow), "foreign", "nist"])
 def test_rows(java, name):
-    faces.check("java", lambda text: java("Rows", input=text), name)
+    faces.check("java", lambda text: java("Checks", "rows", input=text), name)
 
 
 def test_self_test(java, tmp_path):
@@ -78,7 +78,7 @@ def test_other_library(java, thing):
     """By its path, in the property keywrap.library."""
     def called(path):
         env = {**os.environ, "JAVA_TOOL_OPTIONS": f"-Dkeywrap.library={path}"}
-        faces.check("java", lambda text: java("Rows", input=text, env=env), "rows")
+        faces.check("java", lambda text: java("Checks", "rows", input=text, env=env), "rows")
 
     called(thing("hardware") / "lib/libkeywrap_hw.so.1")
     with pytest.raises(AssertionError, match="cannot load /none.so"):

@@ -1,5 +1,5 @@
 """The C library as users have it: its header by each compiler; its files by both compilers of the toolchain, rows.txt
-and own.c over them; installed, from C, C++ and CMake; what it needs of the processor."""
+over them; installed, from C, C++ and CMake; what it needs of the processor."""
 
 import os
 import re
@@ -106,9 +106,6 @@ class TestCalls:
     @evidence
     def test_more(self, program):
         faces.check("c", program("rows.c"), "more")
-
-    def test_own(self, program):
-        assert run(*program("library/own.c")).endswith(" passed, 0 failed\n")
 
 
 ### Installed

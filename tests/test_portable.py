@@ -101,17 +101,11 @@ def test_compiles_without_a_warning(portable, compiler, only, options):
 
 @pytest.mark.parametrize("name", all_of(MACHINES, ["gcc", "gcc, tables", "s390x"], IN_GATE))
 def test_rows(portable_program, name):
-    """Those that test_rows.py has not, under an emulator without the long ones, with the published cases."""
+    """Under an emulator without the long ones, and with the published cases."""
     program = portable_program(name, ROWS, "-O2")
     is_native = len(program) == 1
     more = ["more", "nist"] if name == "gcc" or ALL and is_native else []
-    kept = [] if name.startswith("gcc") else ["rows" if is_native else "short"]
-    faces.check("c", program, *kept, "foreign", *more)
-
-
-@pytest.mark.parametrize("name", all_of(MACHINES, ["gcc"], IN_GATE))
-def test_own(portable_program, name):
-    assert run(*portable_program(name, [ROOT / "tests/library/own.c"], "-O2")).endswith(" passed, 0 failed\n")
+    faces.check("c", program, "rows" if is_native else "short", "foreign", *more)
 
 
 def random_calls(directory, library, name, *options):

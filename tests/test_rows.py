@@ -1,20 +1,13 @@
 """The rows of rows.txt say what keywrap.h and OpenSSL's AES say; so do published cases, by which the rules of rows.py
-are tested. Each call of keywrap.h by cc; test_library.py, test_hardware.py and test_portable.py have other builds, and
-test_python.py, test_js.py, test_go.py, test_rust.py and test_java.py the other faces (see faces.py)."""
-
-import itertools
-import json
+are tested. test_library.py, test_hardware.py, test_portable.py, test_python.py, test_js.py, test_go.py, test_rust.py
+and test_java.py run them over each face (see faces.py)."""
 
 import pytest
 
 import faces
 import published
 import rows
-from builds import ROOT, run
-from machines import STRICT
 from program import slow
-from test_hardware import hardware  # noqa: F401
-from test_portable import portable_program  # noqa: F401
 
 
 @pytest.mark.needs("import cryptography")
@@ -22,58 +15,17 @@ class TestRules:
     @pytest.mark.parametrize("long", [False, pytest.param(True, marks=slow)])
     def test_kept(self, long):
         """Each row, and the long ones, which take seconds."""
-        assert [*rows.wrong(long)] == [] and len({*itertools.starmap(rows.line_of, rows.kept())}) > 800
+        assert [*rows.wrong(long)] == [] and len({rows.line_of(*row) for row in rows.kept()}) > 800
 
     @pytest.mark.parametrize("cases", [published.foreign, pytest.param(published.nist_or_skip, marks=slow)])
     def test_published(self, cases):
         for case in cases():
             assert rows.due(case.call.value, {"kek": case.kek, "given": case.given}) == published.due(case), case
 
-    def test_wrapped_as_pyca_does(self):
-        """Its calls are OpenSSL's."""
-        from cryptography.hazmat.primitives import keywrap as pyca
-
-        for length in range(1, 41):
-            kek, key = bytes(range(length % 3 * 8 + 16)), bytes(range(length))
-            assert rows.wrapped(rows.PADDED, kek, key) == pyca.aes_key_wrap_with_padding(kek, key)
-            if rows.is_key(rows.PLAIN, length):
-                assert rows.wrapped(rows.PLAIN, kek, key) == pyca.aes_key_wrap(kek, key)
-
-
-GROUPS = sorted({faces.group_of(line, due) for line, due, _ in faces.asked("c", "rows")})
-
-
-@pytest.fixture
-def wrong(request, once):
-    """The wrong answers of a build by cc, which runs once for all tests."""
-    def of(build):
-        def make(directory):
-            if build in ARCHIVES:
-                archive = request.getfixturevalue(build) / ARCHIVES[build]
-                run("cc", *STRICT, "-O1", ROOT / "tests/rows.c", archive, "-o", "program")
-                command = ["./program"]
-            else:
-                command = request.getfixturevalue("portable_program")(build, [ROOT / "tests/rows.c"], "-O2")
-            (directory / "wrong").write_text(json.dumps(faces.faults("c", command, "rows")))
-
-        return json.loads((once(f"rows-{build}", make) / "wrong").read_text())
-
-    return of
-
-
-ARCHIVES = {"library": "libkeywrap.a", "hardware": "libkeywrap_hw.a"}
-
-
-@pytest.mark.needs("cc")
-@pytest.mark.parametrize("build", ["gcc", "gcc, tables", *ARCHIVES])
-@pytest.mark.parametrize("group", GROUPS)
-def test_calls(wrong, build, group):
-    assert [fault for name, fault in wrong(build) if name == group] == []
-
 
 def test_other_answers_are_faults():
     """Another byte at an end, another length, number or status, and a change beside what is written."""
-    due = "status=0 out=00..11/4 len=4"
+    due = f"status=0 out={faces.digits('00..11/4', 4)} len=4"
     assert faces.is_right("status=0 out=00aabb11 len=4", due)
     for said in ("0 out=01aabb11 len=4", "0 out=00aabb12 len=4", "0 out=00aa11 len=4", "0 out=00aabb11 len=5",
                  "5 out=00aabb11 len=4", "0 out=00aabb11 len=4 changed"):

@@ -191,21 +191,26 @@ def crate_with_rows(once, crate):
     return once("rust-rows", build) / "copy"
 
 
-def runner(cargo, crate, **more):
-    """Runs rows.rs over these lines."""
+def runner(cargo, crate, face, **more):
+    """Runs rows.rs over the lines for one of the faces."""
     def call(text):
         pathlib.Path("lines.txt").write_text(text)
-        env = {"KEYWRAP_ROWS": os.path.abspath("lines.txt"), "CARGO_PROFILE_TEST_OPT_LEVEL": "1", **more}
+        env = {"KEYWRAP_ROWS": os.path.abspath("lines.txt"), "CARGO_PROFILE_TEST_OPT_LEVEL": "1", **more,
+               "KEYWRAP_WAY": FACES[face]}
         return cargo("test", "--offline", "--test", "rows", "--", "--nocapture", cwd=crate, env=env)
 
     return call
 
 
+# Into buffers and in place, as a Vec, and by steps.
+FACES = {"rust": "", "rust vec": "_vec", "rust steps": "_steps"}
+
+
 @pytest.mark.needs("<openssl/evp.h>")
 @pytest.mark.parametrize("name", ["rows", *(pytest.param(name, marks=slow) for name in ("more", "foreign", "nist"))])
-def test_rows(cargo, crate_with_rows, name):
-    """Into buffers, in place, as a Vec and by steps."""
-    faces.check("rust", runner(cargo, crate_with_rows), name)
+@pytest.mark.parametrize("face", FACES)
+def test_rows(cargo, crate_with_rows, face, name):
+    faces.check(face, runner(cargo, crate_with_rows, face), name)
 
 
 @slow
@@ -248,8 +253,8 @@ def test_bugs_are_caught(cargo, crate, crate_with_rows):
     def passes():
         # An edit that does not compile catches nothing.
         run(*tests, "--no-run", cwd=copy, env=env)
-        return subprocess.run(tests, cwd=copy, env=env, capture_output=True).returncode == 0 and not faces.has_fault(
-            "rust", runner(cargo, copy, CARGO_TARGET_DIR=target), "rows")
+        return subprocess.run(tests, cwd=copy, env=env, capture_output=True).returncode == 0 and not any(
+            faces.has_fault(face, runner(cargo, copy, face, CARGO_TARGET_DIR=target), "rows") for face in FACES)
 
     assert passes()
     survived = []

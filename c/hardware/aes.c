@@ -42,7 +42,7 @@ void aes_decrypt_many(const struct aes *aes, uint8_t *blocks, size_t count) {
     for (size_t i = 0; i < count; i += 8) decrypt_8_blocks(aes, blocks + BLOCK * i);
 }
 
-/* The ciphertexts of 00112233445566778899aabbccddeeff under 00 01 02 .. (FIPS 197, appendix C). */
+/* FIPS 197, appendix C: 00112233445566778899aabbccddeeff under the keys that count from 00. */
 static const uint8_t CIPHERTEXTS[3][BLOCK] = {
     {0x69, 0xc4, 0xe0, 0xd8, 0x6a, 0x7b, 0x04, 0x30, 0xd8, 0xcd, 0xb7, 0x80, 0x70, 0xb4, 0xc5,
      0x5a},

@@ -1,16 +1,21 @@
-"""What the package has around its calls: named flags, statuses, names. tests/rows.txt has the calls, and tests/faces.py
-their messages."""
+"""What the package has around its calls: named flags, names, and around those for many keys the objects that they
+take, and wiping. tests/rows.txt has the calls, and tests/faces.py their messages."""
 
+import gc
 import pathlib
 import types
 
 import pytest
 
 import keywrap
-from keywrap import Kind
+from keywrap import Kind, _many
+from test_objects import Liar
 
 KEK = bytes(range(16))
 WRAPPED, PADDED_OF_7 = keywrap.wrap(KEK, KEK), keywrap.wrap_padded(KEK, KEK[:7])
+MANY = {"wrap_many": ([KEK], KEK), "unwrap_many": ([KEK], WRAPPED), "rewrap_many": ([KEK, KEK], WRAPPED),
+        "check_many": ([KEK], WRAPPED)}  # fmt: skip
+each_call = pytest.mark.parametrize("name", MANY)
 
 
 def test_self_test(monkeypatch):
@@ -29,32 +34,6 @@ def test_flags():
     assert [keywrap.check(KEK, text) for text in (WRAPPED, PADDED_OF_7, bytes(24), b"")] == [*Kind, None, None]
 
 
-@pytest.mark.parametrize("name, legal", [
-    ("wrap", "a multiple of 8 from 16 to 1048576"), ("wrap_padded", "from 1 to 1048576"),
-    ("unwrap", "a multiple of 8 from 24 to 1048584"), ("unwrap_padded", "a multiple of 8 from 16 to 1048584"),
-    ("unwrap_any", "a multiple of 8 from 16 to 1048584")])  # fmt: skip
-def test_legal_lengths(name, legal):
-    with pytest.raises(keywrap.BadLength, match=f"key is 0 bytes long; it must be {legal} bytes$"):
-        getattr(keywrap, name)(KEK, b"")
-
-
-@pytest.mark.parametrize(
-    "name", ["check", "check_with_length", "unwrap_any", "unwrap_padded", "unwrap", "wrap", "rewrap"]
-)
-def test_without_memory(monkeypatch, name):
-    """The portable library then returns 7. A valid key is not refused."""
-    helper = "_kind" if "check" in name else f"_{name}"
-    monkeypatch.setattr(keywrap, helper, lambda *_: 7 if name in ("unwrap", "wrap", "rewrap") else -7)
-    with pytest.raises(MemoryError):
-        getattr(keywrap, name)(*[KEK] * (1 + (name == "rewrap")), WRAPPED)
-
-
-def test_the_status_without_memory():
-    text = keywrap._ffi.ffi.new("char[]", 80)
-    keywrap._lib.keywrap_status_text(keywrap._lib.NO_MEMORY, text, 80)
-    assert keywrap._ffi.ffi.string(text) == b"out of memory"
-
-
 def test_names():
     """`import *` gives all names without an underscore, except the modules that the package uses."""
     assert sorted(keywrap.__all__) == keywrap.__all__
@@ -69,3 +48,68 @@ def test_the_readme_says_what_is_so():
     readme = pathlib.Path(__file__).parents[1] / "README.md"
     failed, tried = doctest.testfile(str(readme), module_relative=False)
     assert tried > 3 and failed == 0
+
+
+@each_call
+def test_takes_objects_by_their_bytes(name):
+    """Items of any such type, from any iterable, and one buffer with the length of an item."""
+    call, (keks, item) = getattr(keywrap, name), MANY[name]
+    expected, both = call(*keks, [item, item]), item + item
+    for keks in (keks, [*map(bytearray, keks)]):
+        for items in (map(bytearray, [item, item]), [Liar(item), memoryview(item).cast("Q")], iter((item, item))):
+            assert call(*keks, items) == expected
+        for buffer in (both, Liar(both), bytearray(both), memoryview(both)):
+            assert call(*keks, buffer, len(item)) == expected
+    for wrong in (None, 7, "text", [item.decode("latin-1")], [7], item, [memoryview(both)[::2]], [None, item],
+                  memoryview(both).cast("B", [2, len(item)])):  # fmt: skip
+        with pytest.raises(TypeError):
+            call(*keks, wrong)
+    for wrong in (None, "text", [item], memoryview(both)[::2]):
+        with pytest.raises(TypeError):
+            call(*keks, wrong, len(item))
+
+
+@each_call
+def test_refuses_the_whole_call(name):
+    """A length that is not the items', and flags."""
+    call, (keks, item) = getattr(keywrap, name), MANY[name]
+    for length in (-1, 0, 5, len(item) + 1):
+        with pytest.raises(keywrap.BadLength, match=f"bad length: {3 * len(item)} bytes are not items of {length} bytes"):
+            call(*keks, item * 3, length)
+    assert call(*keks, []) == call(*keks, b"", 16) == []
+    if name == "rewrap_many":
+        with pytest.raises(ValueError, match="keep_form goes with neither"):
+            call(*keks, [], keep_form=True, new_padded=True)
+
+
+@pytest.mark.parametrize("name, item", [("wrap_many", bytes(range(32))), ("wrap_many", bytes(range(9))),
+                                        ("unwrap_many", keywrap.wrap(KEK, bytes(range(32))))])  # fmt: skip
+def test_keys_in_buffers_are_wiped(monkeypatch, name, item):
+    """Also if the call is refused, or the lengths differ."""
+    made, new = [], bytearray
+
+    class Kept(new):
+        def join(self, parts):
+            made.append(new(self).join(parts))
+            return made[-1]
+
+    monkeypatch.setattr(_many, "bytearray", Kept, raising=False)
+    for kek, items in ((KEK, [item] * 3), (KEK[1:], [item] * 3), (KEK, [item, item[1:]])):
+        try:
+            getattr(keywrap, name)(kek, items, padded=len(item) == 9)
+        except keywrap.KeywrapError:
+            pass
+    assert [len(buffer) >= 2 * len(item) - 1 for buffer in made] == [True] * 3
+    assert all(buffer == bytes(len(buffer)) for buffer in made)
+
+
+@each_call
+def test_a_refusal_in_a_cycle_can_be_collected(name):
+    """Some versions of Python crash if they collect a view whose buffer C uses."""
+    keks, item = MANY[name]
+    for wrong in ([bytes(9)] * 2, [memoryview(item), memoryview(item)[:8]]):
+        try:
+            getattr(keywrap, name)(*keks, wrong)
+        except keywrap.BadLength as refusal:
+            refusal.cycle = [refusal, wrong]
+        gc.collect()

@@ -29,12 +29,15 @@ var statuses = map[error]int{nil: 0, keywrap.ErrBadIV: 2, keywrap.ErrBadKEK: 3, 
 
 // How results are printed.
 var formats = map[string]string{
-	"[]uint8": " out=%x", "[][]uint8": " out=%x", "keywrap.Form": " form=%d", "[]keywrap.Form": " forms=%d",
+	"[]uint8": " out=%x", "[][]uint8": " out=%x", "keywrap.Form": " form=%s", "[]keywrap.Form": " forms=%s",
 	"int": " len=%d", "[]int": " lens=%d", "bool": " already=%t", "[]bool": " already=%t"}
 
-// listed has commas in the place of brackets and blanks.
+var asNumbers = strings.NewReplacer(
+	"[", "", "]", "", " ", ",", "true", "1", "false", "0", "plain", "0", "padded", "1", "none", "0")
+
+// listed has commas in the place of brackets and blanks, and numbers.
 func listed(format string, value any) string {
-	return format[:1] + strings.NewReplacer("[", "", "]", "", " ", ",").Replace(fmt.Sprintf(format[1:], value))
+	return format[:1] + asNumbers.Replace(fmt.Sprintf(format[1:], value))
 }
 
 // answer is what a call has returned, without nil, 0 and false, and with the room behind bytes, where secrets could be.
@@ -104,10 +107,7 @@ func cipherOf(kek []byte) *keywrap.Cipher {
 	if n := len(kek); n%8 != 0 || n < 16 || n > 32 {
 		kek = make([]byte, 16)
 	}
-	c, err := keywrap.NewCipher(aesOf(kek))
-	if err != nil {
-		panic(err)
-	}
+	c, _ := keywrap.NewCipher(aesOf(kek))
 	return c
 }
 

@@ -33,7 +33,6 @@ PROGRAMS = {
                      "proved.a",
                      "qemu-x86_64 -cpu max ./program", "0 5\n"),
     "calls": (CALLS, ROWS, ""),
-    "beside_them": ("tests/library/own.c c/hardware/*.c proved.a", "./program", r"\d+ passed, 0 failed\n"),
     # At most 16 bytes below the stack pointer depend on a secret: they are a block of the wrapped key. With -flto the
     # compiler sees that nothing reads what is cleared.
     "clears": ("tests/secrets/stack.c c/hardware/*.c proved.a -flto -Wl,-z,now",

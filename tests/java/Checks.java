@@ -1,32 +1,18 @@
-// What the provider has around its calls, beside the JDK's own ciphers. The argument is the name of a check. Fails with
-// an exception. tests/rows.txt has the calls.
+// What the provider has around its calls, beside the JDK's own ciphers, and the calls of rows.txt. The argument is the
+// name of a check; it fails with an exception.
 
 import java.nio.ByteBuffer;
-import java.security.AlgorithmParameters;
-import java.security.InvalidAlgorithmParameterException;
-import java.security.InvalidKeyException;
-import java.security.Key;
-import java.security.KeyPair;
-import java.security.KeyPairGenerator;
-import java.security.PublicKey;
-import java.security.Security;
-import java.util.Arrays;
-import java.util.HashSet;
-import java.util.List;
-import java.util.Map;
-import java.util.Random;
-import java.util.Set;
+import java.security.*;
+import java.util.*;
 import java.util.concurrent.Callable;
-import javax.crypto.Cipher;
-import javax.crypto.ShortBufferException;
-import javax.crypto.spec.GCMParameterSpec;
-import javax.crypto.spec.IvParameterSpec;
-import javax.crypto.spec.SecretKeySpec;
+import javax.crypto.*;
+import javax.crypto.spec.*;
 
 final class Checks {
     private static final String OURS = "Keywrap", THEIRS = "SunJCE";
     private static final String[] FORMS = {"AES/KW/NoPadding", "AES/KWP/NoPadding"};
     private static final Random RANDOM = new Random(78);
+    private static final Map<String, Integer> STATUSES = Map.of("bad length", 4, "integrity check failed", 5);
 
     private static void check(boolean right, Object what) {
         if (!right) {
@@ -66,13 +52,13 @@ final class Checks {
         };
     }
 
-    private static Cipher begun(String name, String provider, int mode, Key kek, byte... iv) throws Exception {
+    private static Cipher begun(String name, String provider, int mode, Key kek, byte[]... iv) throws Exception {
         Cipher cipher = Cipher.getInstance(name, provider);
-        cipher.init(mode, kek, iv.length == 0 ? null : new IvParameterSpec(iv));
+        cipher.init(mode, kek, iv.length == 0 ? null : new IvParameterSpec(iv[0]));
         return cipher;
     }
 
-    private static byte[] wrapped(String name, String provider, Key kek, byte[] key, byte... iv) throws Exception {
+    private static byte[] wrapped(String name, String provider, Key kek, byte[] key, byte[]... iv) throws Exception {
         return begun(name, provider, Cipher.ENCRYPT_MODE, kek, iv).doFinal(key);
     }
 
@@ -222,6 +208,46 @@ final class Checks {
             byte[] wrong = random(15);
             throwsOne(InvalidKeyException.class, () -> begun(name, OURS, Cipher.WRAP_MODE, ofThese(wrong)));
             check(Arrays.equals(wrong, new byte[15]), "a refused KEK was left");
+        }
+    }
+
+    private static byte[] bytes(String text) {
+        return HexFormat.of().parseHex(text.replace("-", ""));
+    }
+
+    /** What the call of a line returns, by doFinal, or by wrap and unwrap. */
+    private static String answer(boolean ofKeys, String... line) throws Exception {
+        boolean wraps = line[0].startsWith("wrap");
+        String name = FORMS[line[0].endsWith("padded") ? 1 : 0];
+        byte[][] iv = line[0].endsWith("with") ? new byte[][] {bytes(line[3])} : new byte[0][];
+        byte[] given = bytes(line[5]), out = new byte[given.length + 16];
+        Cipher cipher = null;
+        String answer;
+        try {
+            int mode = ofKeys ? wraps ? Cipher.WRAP_MODE : Cipher.UNWRAP_MODE
+                : wraps ? Cipher.ENCRYPT_MODE : Cipher.DECRYPT_MODE;
+            cipher = begun(name, OURS, mode, aes(bytes(line[1])), iv);
+            out = !ofKeys ? Arrays.copyOf(out, cipher.doFinal(given, 0, given.length, out, 0))
+                : wraps ? cipher.wrap(aes(given)) : cipher.unwrap(given, "AES", Cipher.SECRET_KEY).getEncoded();
+            answer = "status=0 out=" + HexFormat.of().formatHex(out);
+        } catch (InvalidAlgorithmParameterException | IllegalArgumentException e) {
+            // The JDK has no empty key.
+            answer = e instanceof IllegalArgumentException ? "status=4" : "status=2";
+        } catch (InvalidKeyException | IllegalBlockSizeException e) {
+            answer = "status=" + STATUSES.getOrDefault(e.getMessage(), 3);
+        }
+        // Beside a refusal nothing is written, and nothing of what was given is kept.
+        boolean isClean = answer.startsWith("status=0")
+            || Arrays.equals(out, new byte[out.length]) && (cipher == null || cipher.getOutputSize(0) <= 8);
+        return answer + (isClean && Arrays.equals(given, bytes(line[5])) ? "" : " changed");
+    }
+
+    /** Makes the calls of the lines that faces.py writes. */
+    static void rows() throws Exception {
+        for (Scanner lines = new Scanner(System.in); lines.hasNextLine();) {
+            String[] line = lines.nextLine().split(" ");
+            String answer = answer(false, line), ofKeys = answer(true, line);
+            System.out.println(answer.equals(ofKeys) ? answer : answer + ", but " + ofKeys);
         }
     }
 

@@ -15,10 +15,9 @@ const MODULE = await readModule();
 const MAX_KEY = 1048576;
 const KEK = counted(16);
 const KEY = counted(16, 17);
-const IV = counted(8);
 
 const { keywrap, exports } = await watched();
-const { wrap, unwrap, wrapPadded, unwrapAny, rewrap, check, wrapMany, unwrapMany, rewrapMany, checkMany } = keywrap;
+const { wrap, unwrap, wrapPadded, unwrapAny, check, wrapMany, unwrapMany, checkMany } = keywrap;
 const WRAPPED = wrap(KEK, KEY);
 
 // Where the module has these bytes.
@@ -44,22 +43,11 @@ test('the self test sees a changed byte of a vector', async () => {
     assert.throws(() => other.selfTest(), { name: 'Error', message });
 });
 
-test('flags that exclude each other, and what is none', () => {
-    for (const other of ['oldPadded', 'newPadded']) {
-        assert.throws(() => rewrap(KEK, KEK, WRAPPED, { keepForm: true, [other]: true }), TypeError);
-        assert.throws(() => rewrapMany(KEK, KEK, [WRAPPED], { keepForm: true, [other]: true }), TypeError);
-    }
-    assert.deepEqual(rewrap(KEK, KEK, WRAPPED, { keepForm: false }), WRAPPED);
-    assert.deepEqual(wrap(KEK, KEY, { iv: undefined }), WRAPPED);
-});
-
 test('inputs that the memory has no room for', () => {
     const long = zeros(5 * MAX_KEY);
-    const legal = [[wrap, 'a multiple of 8 from 16 to 1048576'], [wrapPadded, 'from 1 to 1048576'],
-        [unwrap, 'a multiple of 8 from 24 to 1048584'], [unwrapAny, 'a multiple of 8 from 16 to 1048584']];
-    for (const [call, lengths] of legal) {
-        const message = new RegExp(`key is 5242880 bytes long; it must be ${lengths} bytes$`);
-        assert.throws(() => call(KEK, long), { constructor: BadLength, message });
+    const refused = { constructor: BadLength, message: /key is 5242880 bytes long; it must be / };
+    for (const call of [wrap, wrapPadded, unwrap, unwrapAny]) {
+        assert.throws(() => call(KEK, long), refused);
     }
     assert.throws(() => wrap(long, long), BadKekLength);
     assert.throws(() => wrap(long, KEY, { iv: long }), BadInitialValue);
@@ -111,16 +99,14 @@ test('after 300 calls in which the stack of the host ended, calls work', async (
     let ended = 0, inside = 0;
     // From the end of the stack up, calls until one works, which this returns.
     function fromEnd(...padding) {
+        let works = false;
         try {
-            const works = fromEnd(...padding);
-            if (works) {
-                return works;
-            }
+            works = fromEnd(...padding);
         } catch {
             // Here the stack ends.
         }
         try {
-            return other.keywrap.wrap(KEK, KEY);
+            return works || other.keywrap.wrap(KEK, KEY);
         } catch {
             ended++;
             inside += other.exports.__in_call.value;
@@ -133,34 +119,6 @@ test('after 300 calls in which the stack of the host ended, calls work', async (
     assert.ok(inside > 0);
     other.keywrap.selfTest();
     assert.ok(isAsMade(other.exports));
-});
-
-test('no call uses half of the stack of the module', async () => {
-    const used = {};
-    const { keywrap: other } = await watched(undefined, (made) => {
-        const stack = new Uint8Array(made.memory.buffer, 0, 8192);
-        const measured = ([name, call]) => [name, (...given) => {
-            assert.equal(Number(made.__stack_pointer.value), stack.length);
-            stack.fill(0x5b);
-            const status = call(...given);
-            // Nothing is found, at -1, if a call uses none.
-            used[name] = (stack.length - stack.findIndex((byte) => byte !== 0x5b)) % (stack.length + 1);
-            assert.ok(used[name] < 4096, `${name}: ${used[name]}`);
-            return status;
-        }];
-        const calls = Object.entries(made).filter(([name]) => name.startsWith('keywrap_'));
-        return { ...made, ...Object.fromEntries(calls.map(measured)) };
-    });
-    other.unwrap(KEK, other.wrap(KEK, KEY, { iv: IV }), { iv: IV });
-    other.unwrapPadded(KEK, other.wrapPadded(KEK, KEY));
-    for (const call of [other.unwrap, other.unwrapAny, other.check]) {
-        call(KEK, other.wrap(KEK, KEY));
-    }
-    for (const name of ['newPadded', 'keepForm', 'passNew']) {
-        other.rewrap(KEK, KEK, WRAPPED, { [name]: true });
-    }
-    other.selfTest();
-    assert.ok(used.keywrap_self_test > 0);
 });
 
 test('a host without WebAssembly', async () => {
@@ -188,11 +146,7 @@ test('the object that load returns cannot be changed', () => {
     const names = ['version', 'wrap', 'unwrap', 'wrapPadded', 'unwrapPadded', 'unwrapAny', 'rewrap',
         'check', 'selfTest', 'wrapMany', 'unwrapMany', 'rewrapMany', 'checkMany'];
     assert.deepEqual(Object.keys(keywrap), names);
-    for (const name of [...names, 'other']) {
-        assert.throws(() => { keywrap[name] = () => KEY; }, TypeError);
-    }
-    assert.throws(() => { delete keywrap.wrap; }, TypeError);
-    assert.deepEqual(keywrap.wrap(KEK, KEY), WRAPPED);
+    assert.ok(Object.isFrozen(keywrap));
 });
 
 test('many keys: more long ones, and more short ones, than the memory has room for', () => {
@@ -204,18 +158,6 @@ test('many keys: more long ones, and more short ones, than the memory has room f
         assert.ok(unwrapMany(KEK, wrapped, { padded }).every((key, at) => isEqual(key, keys[at])));
         assert.deepEqual(checkMany(KEK, wrapped), keys.map(() => kind));
         assert.deepEqual(check(KEK, wrapped.at(-1)), kind);
-    }
-    assert.ok(isAsMade(exports));
-});
-
-test('many keys: what is of a wrong type', () => {
-    const two = [WRAPPED, WRAPPED];
-    for (const call of [
-        () => wrapMany(KEK, KEY), () => unwrapMany(KEK, [WRAPPED, 'no']), () => checkMany(KEK, null),
-        () => wrapMany(KEK, [KEY], { iv: IV }), () => unwrapMany(KEK, two, { padded: 1 }),
-        () => checkMany(KEK, two, { padded: true }), () => wrapMany('no', [KEY]),
-    ]) {
-        assert.throws(call, TypeError);
     }
     assert.ok(isAsMade(exports));
 });

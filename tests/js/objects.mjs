@@ -10,6 +10,7 @@ const KEY = KEK.map((byte) => 17 * byte);
 const IV = new Uint8Array(8).fill(0xa6);
 const { keywrap, exports } = await watched();
 const { wrap, unwrap, wrapPadded, unwrapPadded, unwrapAny, rewrap, check } = keywrap;
+const { wrapMany, unwrapMany, rewrapMany, checkMany } = keywrap;
 const WRAPPED = wrap(KEK, KEY);
 const PADDED = wrapPadded(KEK, KEY);
 
@@ -24,6 +25,10 @@ const CALLS = [
     [unwrapAny, [KEK, WRAPPED], { form: 'plain', key: KEY }],
     [rewrap, [KEK, KEK, WRAPPED], WRAPPED],
     [check, [KEK, WRAPPED], { form: 'plain', length: 16 }],
+    [(kek, key) => wrapMany(kek, [KEY, key]), [KEK, KEY], [WRAPPED, WRAPPED]],
+    [(kek, wrapped) => unwrapMany(kek, [WRAPPED, wrapped]), [KEK, WRAPPED], [KEY, KEY]],
+    [(old, fresh, wrapped) => rewrapMany(old, fresh, [wrapped]), [KEK, KEK, WRAPPED], [WRAPPED]],
+    [(kek, wrapped) => checkMany(kek, [wrapped]), [KEK, WRAPPED], [{ form: 'plain', length: 16 }]],
 ];
 
 // Says that it is longer than it is, and answers others for itself.
@@ -121,7 +126,11 @@ test('options that are none, or of another call, are a TypeError', () => {
         [check, [KEK, WRAPPED], [IV, null, { iv: IV }]],
         [rewrap, [KEK, KEK, WRAPPED], [true, null, { iv: IV }, { padded: true }, { newPadded: 1 },
             { newPadded: 'false' }, { oldPadded: null }, { oldPadded: 0 }, { keepForm: 1 },
-            { passNew: 1 }]],
+            { passNew: 1 }, { keepForm: true, oldPadded: true }, { keepForm: true, newPadded: true }]],
+        [wrapMany, [KEK, [KEY]], [null, { iv: IV }]],
+        [unwrapMany, [KEK, [WRAPPED]], [null, { padded: 1 }]],
+        [checkMany, [KEK, [WRAPPED]], [null, { padded: true }]],
+        [rewrapMany, [KEK, KEK, [WRAPPED]], [{ keepForm: true, oldPadded: true }, { keepForm: true, newPadded: true }]],
     ];
     for (const [call, given, options] of others) {
         call(...given, {});
@@ -129,4 +138,8 @@ test('options that are none, or of another call, are a TypeError', () => {
             assert.throws(() => call(...given, option), TypeError);
         }
     }
+    assert.deepEqual(rewrap(KEK, KEK, WRAPPED, { keepForm: false }), WRAPPED);
+    assert.deepEqual(wrap(KEK, KEY, { iv: undefined }), WRAPPED);
+    assert.throws(() => wrapMany(KEK, KEY), TypeError);
+    assert.throws(() => checkMany(KEK, null), TypeError);
 });

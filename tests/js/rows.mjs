@@ -1,14 +1,25 @@
-// Makes the calls of the lines that faces.py writes. Looks at the module's memory after each of the first 1,000 calls,
-// and after some of the others.
-//
-// usage: node rows.mjs        (lines from standard input)
-// In a page, too: `answers` has a line for each line.
+// Makes the calls of the lines that faces.py writes, in Node from standard input, in a page by `answers`. Looks at the
+// module's stack after each call, and at its memory after each of the first 1,000 calls, and after some of the others.
 
 import {
     BadInitialValue, BadKekLength, BadLength, IntegrityFailed, KeyNotPlain, isAsMade, isEqual, watched,
 } from './watched.mjs';
 
-const { keywrap, exports } = await watched();
+// No call may use half of the stack.
+const { keywrap, exports } = await watched(undefined, (made) => {
+    const stack = new Uint8Array(made.memory.buffer, 0, 8192);
+    const measured = ([name, call]) => [name, (...given) => {
+        stack.fill(0x5b);
+        const status = call(...given);
+        if (stack.subarray(0, 4096).some((byte) => byte !== 0x5b)) {
+            throw new Error(`${name} uses half of the stack`);
+        }
+        return status;
+    }];
+    const calls = Object.entries(made).filter(([name]) => name.startsWith('keywrap_'));
+    return { ...made, ...Object.fromEntries(calls.map(measured)) };
+});
+keywrap.selfTest();
 const STATUSES = new Map([
     [BadInitialValue, 2], [BadKekLength, 3], [BadLength, 4], [IntegrityFailed, 5], [KeyNotPlain, 8],
 ]);
@@ -61,10 +72,9 @@ function called(number, call, kek, newKek, iv, flags, text) {
     } catch (error) {
         found = error;
     }
-    const of = (results) => (Array.isArray(results) ? results : [results]);
-    const isOwn = of(found).every((one) => !(one instanceof Uint8Array)
+    const isOwn = [found].flat().every((one) => !(one instanceof Uint8Array)
         || one.buffer.byteLength === one.length && one.buffer !== exports.memory.buffer);
-    const isChanged = !of(copy).every((one, at) => isEqual(one, of(given)[at]));
+    const isChanged = ![copy].flat().every((one, at) => isEqual(one, [given].flat()[at]));
     const isClean = number > 1000 && number % 500 || isAsMade(exports);
     return answer(call, found) + (isOwn && !isChanged && isClean ? '' : ' changed');
 }

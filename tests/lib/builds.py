@@ -57,7 +57,7 @@ def once(tmp_path_factory):
 @pytest.fixture(scope="session")
 def built(once):
     """built("llvm.a") is a file or directory of tests/library/build.sh. KEYWRAP_BUILT=DIRECTORY: of the scripts' build.
-    KEYWRAP_ARCHIVES='PATH ..': the last of these is in the place of llvm.a."""
+    KEYWRAP_ARCHIVES is a list of paths: the last of them is in the place of llvm.a."""
     def find(name):
         if name == "llvm.a" and (archives := os.environ.get("KEYWRAP_ARCHIVES", "").split()):
             return pathlib.Path(archives[-1]).absolute()

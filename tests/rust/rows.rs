@@ -1,5 +1,5 @@
-//! Makes the calls of the lines that faces.py writes, in the file that `KEYWRAP_ROWS` names, into a buffer or in
-//! place, and prints what they return and write. The same call into a Vec and by steps has to do the same.
+//! Makes the calls of the lines that faces.py writes, in the file that `KEYWRAP_ROWS` names, and prints what they
+//! return and write: into a buffer or in place, and as `KEYWRAP_WAY` says into a Vec (`_vec`) or by steps (`_steps`).
 
 use keywrap::steps::{Operation, Rewrapping, Stopped, Unwrapping, Wrapping};
 use keywrap::{Error, Form, Forms, KekSlice, Kind, Rewrapped, Status};
@@ -14,15 +14,12 @@ extern "C" {
     fn AES_decrypt(block: *const u8, result: *mut u8, schedule: *const [u32; 61]);
 }
 
-fn hex(text: &str) -> Vec<u8> {
-    (0..text.len()).step_by(2).map(|at| u8::from_str_radix(&text[at..at + 2], 16).unwrap()).collect()
-}
-
 struct Line<'a>(Vec<&'a str>);
 
 impl Line<'_> {
     fn bytes(&self, at: usize) -> Vec<u8> {
-        hex(self.0[at].trim_start_matches('-'))
+        let text = self.0[at].trim_start_matches('-');
+        (0..text.len()).step_by(2).map(|at| u8::from_str_radix(&text[at..at + 2], 16).unwrap()).collect()
     }
 
     fn number(&self, at: usize) -> usize {
@@ -35,18 +32,16 @@ impl Line<'_> {
         (if flags & 4 > 0 { Forms::Kept } else { given }, flags & 8 > 0)
     }
 
-    /// The AES of libcrypto under a KEK, or InvalidStep if its length is wrong.
-    fn aes(&self, at: usize, decrypts: bool) -> Result<impl Fn(&mut [u8; 16]) -> Result<()>> {
+    /// The AES of libcrypto under a KEK.
+    fn aes(&self, at: usize, decrypts: bool) -> impl Fn(&mut [u8; 16]) -> Result<()> {
         let (kek, mut schedule) = (self.bytes(at), [0; 61]);
         let set = if decrypts { AES_set_decrypt_key } else { AES_set_encrypt_key };
         let crypt = if decrypts { AES_decrypt } else { AES_encrypt };
-        let status = unsafe { set(kek.as_ptr(), 8 * kek.len() as i32, &mut schedule) };
-        let aes = move |block: &mut [u8; 16]| {
-            let given = *block;
-            unsafe { crypt(given.as_ptr(), block.as_mut_ptr(), &schedule) };
+        assert_eq!(unsafe { set(kek.as_ptr(), 8 * kek.len() as i32, &mut schedule) }, 0);
+        move |block| {
+            unsafe { crypt(block.as_ptr(), block.as_mut_ptr(), &schedule) };
             Ok(())
-        };
-        if status == 0 { Ok(aes) } else { Err(Error::InvalidStep) }
+        }
     }
 }
 
@@ -70,85 +65,73 @@ fn status_of(error: Error) -> u8 {
     }
 }
 
-fn refused((Stopped::Refused(error) | Stopped::Cipher(error)): Stopped<Error>) -> Error {
-    error
-}
-
 fn wrapped(begun: Result<Wrapping>, line: &Line) -> Result<()> {
-    let encrypt = line.aes(1, false)?;
-    begun?.run(encrypt).map_err(refused)
+    begun?.run(line.aes(1, false)).map_err(|(Stopped::Refused(error) | Stopped::Cipher(error))| error)
 }
 
 /// The steps one by one.
-fn unwrapped(begun: Result<Unwrapping>, line: &Line) -> Result<(Vec<u8>, Form)> {
-    let (decrypt, mut begun) = (line.aes(1, true)?, begun?);
+fn unwrapped(begun: Result<Unwrapping>, line: &Line) -> Result<(Form, Vec<u8>)> {
+    let (decrypt, mut begun) = (line.aes(1, true), begun?);
     while let Some(&(mut block)) = begun.block() {
         decrypt(&mut block)?;
         begun.step(&block)?;
     }
-    begun.end_with_form().map(|(key, form)| (key.to_vec(), form))
+    begun.end_with_form().map(|(key, form)| (form, key.to_vec()))
 }
 
 fn rewrapped(begun: Result<Rewrapping>, line: &Line) -> Result<Rewrapped> {
-    let (old, encrypt, decrypt) = (line.aes(1, true)?, line.aes(2, false)?, line.aes(2, true)?);
+    let (old, encrypt, decrypt) = (line.aes(1, true), line.aes(2, false), line.aes(2, true));
     let ended = begun?.run(|operation, block| match operation {
         Operation::DecryptOld => old(block),
         Operation::EncryptNew => encrypt(block),
         Operation::DecryptNew => decrypt(block),
     });
-    ended.map_err(refused)
+    ended.map_err(|(Stopped::Refused(error) | Stopped::Cipher(error))| error)
 }
 
-/// What a call for one key returns beside its buffer. And of the other ways the bytes, and the beginning of the rest.
-fn one(line: &Line, call: &str, kek: &KekSlice, out: &mut [u8]) -> (Result<String>, Vec<Result<(Vec<u8>, String)>>) {
+/// What a call for one key returns. Beside its buffer, if that is printed.
+fn one(line: &Line, call: &str, kek: &KekSlice, out: &mut [u8]) -> Result<String> {
     let (data, iv) = (&line.bytes(5)[..], line.bytes(3).try_into().unwrap_or_default());
-    let mut room = out.to_vec();
-    let (nothing, of_key) = (|()| String::new(), |key: &[u8]| format!(" len={}", key.len()));
-    let of_form = |form: Form| format!(" form={}", form as u8);
-    // The call, the same into a Vec, and the steps.
-    macro_rules! ways {
-        ($rest:expr, $call:ident, $vec:ident, $steps:expr, $begin:expr, $($given:expr),+) => {{
-            let steps = $begin($($given,)+ &mut room);
-            let steps = $steps(steps, line).map(|key| if key.is_empty() { room } else { key });
-            let other = |found: Result<Vec<u8>>| found.map(|out| (out, String::new()));
-            (kek.$call($($given,)+ out).map($rest), vec![other(kek.$vec($($given),+)), other(steps)])
-        }};
-    }
-    let wrapped = |begun, line| wrapped(begun, line).map(|()| vec![]);
-    let key_of = |begun, line| unwrapped(begun, line).map(|(key, _)| key);
+    let (new_kek, (forms, pass_new)) = (line.bytes(2), line.forms());
+    let (nothing, of_len) = (|()| String::new(), |key: &[u8]| format!(" len={}", key.len()));
+    let (shown, of_form) = (|out: &[u8]| format!(" out={}", digits(out)), |form: Form| format!(" form={}", form as u8));
+    let of_kind = |kind: Kind| format!("{} len={}", of_form(kind.form), kind.key_len);
+    let already = |one: Rewrapped| format!(" already={}", one as u8);
+    let (made, of_key) = (|out: Vec<u8>| shown(&out), |(_, key): (Form, Vec<u8>)| shown(&key));
+    let of_any = |(form, key): (Form, Vec<u8>)| shown(&key) + &of_form(form);
     match call {
-        "wrap" => ways!(nothing, wrap, wrap_vec, wrapped, Wrapping::new, data),
-        "wrap_padded" => {
-            ways!(nothing, wrap_with_padding, wrap_with_padding_vec, wrapped, Wrapping::with_padding, data)
+        "wrap" => kek.wrap(data, out).map(nothing),
+        "wrap_with" => kek.wrap_with_iv(&iv, data, out).map(nothing),
+        "wrap_padded" => kek.wrap_with_padding(data, out).map(nothing),
+        "unwrap" => kek.unwrap(data, out).map(nothing),
+        "unwrap_with" => kek.unwrap_with_iv(&iv, data, out).map(nothing),
+        "unwrap_padded" => kek.unwrap_with_padding(data, out).map(of_len),
+        "unwrap_any" => kek.unwrap_any(data, out).map(|(form, key)| of_form(form) + &of_len(key)),
+        "kind" => kek.kind(data, out).map(of_kind),
+        "rewrap" => kek.rewrap(KekSlice::new(&new_kek), out, forms, pass_new).map(already),
+        "wrap_in_place" => kek.wrap_in_place(out).map(nothing),
+        "wrap_padded_in_place" => kek.wrap_with_padding_in_place(out, line.number(7)).map(nothing),
+        "unwrap_in_place" => kek.unwrap_in_place(out).map(|_| String::new()),
+        "unwrap_padded_in_place" => kek.unwrap_with_padding_in_place(out).map(|key| of_len(key)),
+        "wrap_vec" => kek.wrap_vec(data).map(made),
+        "wrap_with_vec" => kek.wrap_with_iv_vec(&iv, data).map(made),
+        "wrap_padded_vec" => kek.wrap_with_padding_vec(data).map(made),
+        "unwrap_vec" => kek.unwrap_vec(data).map(made),
+        "unwrap_with_vec" => kek.unwrap_with_iv_vec(&iv, data).map(made),
+        "unwrap_padded_vec" => kek.unwrap_with_padding_vec(data).map(made),
+        "unwrap_any_vec" => kek.unwrap_any_vec(data).map(of_any),
+        "kind_vec" => kek.kind_vec(data).map(of_kind),
+        "wrap_steps" => wrapped(Wrapping::new(data, out), line).map(|()| shown(out)),
+        "wrap_with_steps" => wrapped(Wrapping::with_iv(&iv, data, out), line).map(|()| shown(out)),
+        "wrap_padded_steps" => wrapped(Wrapping::with_padding(data, out), line).map(|()| shown(out)),
+        "unwrap_steps" => unwrapped(Unwrapping::new(data, out), line).map(of_key),
+        "unwrap_with_steps" => unwrapped(Unwrapping::with_iv(&iv, data, out), line).map(of_key),
+        "unwrap_padded_steps" => unwrapped(Unwrapping::with_padding(data, out), line).map(of_key),
+        "unwrap_any_steps" => unwrapped(Unwrapping::in_either_form(data, out), line).map(of_any),
+        _ => {
+            let ended = rewrapped(Rewrapping::new(data, out, forms, pass_new), line);
+            ended.map(|one| shown(out) + &already(one))
         }
-        "wrap_with" => ways!(nothing, wrap_with_iv, wrap_with_iv_vec, wrapped, Wrapping::with_iv, &iv, data),
-        "unwrap" => ways!(nothing, unwrap, unwrap_vec, key_of, Unwrapping::new, data),
-        "unwrap_with" => ways!(nothing, unwrap_with_iv, unwrap_with_iv_vec, key_of, Unwrapping::with_iv, &iv, data),
-        "unwrap_padded" => {
-            ways!(of_key, unwrap_with_padding, unwrap_with_padding_vec, key_of, Unwrapping::with_padding, data)
-        }
-        "unwrap_any" => {
-            let steps = unwrapped(Unwrapping::in_either_form(data, &mut room), line);
-            let found = kek.unwrap_any_vec(data).map(|(form, key)| (key, form));
-            let others = [found, steps].map(|found| found.map(|(key, form)| (key, of_form(form))));
-            (kek.unwrap_any(data, out).map(|(form, key)| of_form(form) + &of_key(key)), others.to_vec())
-        }
-        "kind" => {
-            let shown = |kind: Kind| format!("{} len={}", of_form(kind.form), kind.key_len);
-            let other = kek.kind_vec(data).map(|kind| (vec![0; out.len()], shown(kind)));
-            (kek.kind(data, out).map(shown), vec![other])
-        }
-        "rewrap" => {
-            let (forms, pass_new) = line.forms();
-            let shown = |one| format!(" already={}", one as u8);
-            let steps = rewrapped(Rewrapping::new(data, &mut room, forms, pass_new), line);
-            let found = kek.rewrap(KekSlice::new(&line.bytes(2)), out, forms, pass_new);
-            (found.map(shown), vec![steps.map(|one| (room, shown(one)))])
-        }
-        "wrap_in_place" => (kek.wrap_in_place(out).map(nothing), vec![]),
-        "unwrap_in_place" => (kek.unwrap_in_place(out).map(|_| String::new()), vec![]),
-        "wrap_padded_in_place" => (kek.wrap_with_padding_in_place(out, line.number(7)).map(nothing), vec![]),
-        _ => (kek.unwrap_with_padding_in_place(out).map(|key| of_key(key)), vec![]),
     }
 }
 
@@ -157,8 +140,8 @@ fn many(line: &Line, call: &str, kek: &KekSlice, out: &mut Vec<u8>) -> Result<St
     let (padded, (forms, pass_new)) = ([Form::Plain, Form::Padded][line.number(4).min(1)], line.forms());
     let mut statuses = vec![Status::default(); line.number(8)];
     let (mut lens, mut found) = (vec![77; line.number(9)], vec![77; line.number(10)]);
-    // What the iterators return of each slot, and the same in the arrays.
-    let (mut each, mut due): (Vec<Result<Vec<u8>>>, Vec<Result<Vec<u8>>>) = (vec![], vec![]);
+    // What the iterators return of each slot.
+    let mut each: Vec<Result<Vec<u8>>> = vec![];
     match call {
         "wrap_many" => kek.wrap_many(padded, out, line.number(7), &mut statuses)?,
         "unwrap_many" => {
@@ -176,20 +159,17 @@ fn many(line: &Line, call: &str, kek: &KekSlice, out: &mut Vec<u8>) -> Result<St
         }
     };
     let slot = out.len() / statuses.len().max(1);
-    for (at, status) in statuses.iter().enumerate().filter(|_| call != "wrap_many") {
-        due.push(status.rewrapped().map(|one| match call {
-            "unwrap_many" => out[slot * at + 8..][..lens[at]].to_vec(),
-            "kind_many" => vec![found[at], lens[at] as u8],
-            _ => vec![one as u8],
-        }));
-    }
-    assert_eq!(each, due);
+    let due = statuses.iter().enumerate().map(|(at, status)| match call {
+        "unwrap_many" => status.result().map(|()| out[slot * at + 8..][..lens[at]].to_vec()),
+        "kind_many" => status.result().map(|()| vec![found[at], lens[at] as u8]),
+        _ => status.rewrapped().map(|one| vec![one as u8]),
+    });
+    assert!(call == "wrap_many" || due.eq(each));
     let status = |one: &Status| one.rewrapped().map_or_else(status_of, |one| one as u8);
     let statuses = listed("statuses", &statuses.iter().map(status).collect::<Vec<_>>());
-    let (forms, lens) = (listed("forms", &found), listed("lens", &lens));
     Ok(match call {
-        "kind_many" => statuses + &forms + &lens,
-        "unwrap_many" => statuses + &lens,
+        "kind_many" => statuses + &listed("forms", &found) + &listed("lens", &lens),
+        "unwrap_many" => statuses + &listed("lens", &lens),
         _ => statuses,
     })
 }
@@ -197,33 +177,17 @@ fn many(line: &Line, call: &str, kek: &KekSlice, out: &mut Vec<u8>) -> Result<St
 #[test]
 fn rows() {
     let text = std::fs::read_to_string(std::env::var("KEYWRAP_ROWS").unwrap()).unwrap();
+    let way = std::env::var("KEYWRAP_WAY").unwrap_or_default();
     for text in text.lines() {
         let line = Line(text.split(' ').collect());
         let (kek, call) = (line.bytes(1), line.0[0]);
         let mut out = if line.0[6] == "-" { line.bytes(5) } else { vec![0x5a; line.number(6)] };
-        let (found, others) = match call.ends_with("_many") {
-            true => (many(&line, call, KekSlice::new(&kek), &mut out), vec![]),
-            false => one(&line, call, KekSlice::new(&kek), &mut out),
+        let found = match call.ends_with("_many") {
+            true => many(&line, call, KekSlice::new(&kek), &mut out),
+            false => one(&line, &format!("{call}{way}"), KekSlice::new(&kek), &mut out),
         };
-        let none = match call {
-            "kind" | "unwrap_any" => " form=0 len=0",
-            "unwrap_padded" | "unwrap_padded_in_place" => " len=0",
-            "rewrap" => " already=0",
-            _ => "",
-        };
-        let is_same = |other: &Result<(Vec<u8>, String)>| match (&found, other) {
-            (Ok(rest), Ok((made, begin))) => {
-                let len = rest.rsplit_once(" len=").filter(|_| call != "kind").map(|(_, len)| len.parse().unwrap());
-                out.starts_with(made) && rest.starts_with(begin) && made.len() == len.unwrap_or(out.len())
-            }
-            // A Vec always has the right length, and steps refuse that of a key first.
-            (Err(Error::InvalidOutputSize { .. }), Ok(_) | Err(Error::IntegrityCheckFailed)) => true,
-            (Err(Error::InvalidKekSize { .. } | Error::InvalidIv), Err(Error::InvalidStep)) => true,
-            (Err(Error::InvalidIv), Err(Error::InvalidDataSize | Error::InvalidOutputSize { .. })) => true,
-            (one, other) => one.clone().err() == other.clone().err(),
-        };
-        let others = if others.iter().all(is_same) { String::new() } else { format!(" but {others:?}") };
-        let more = found.clone().unwrap_or_else(|error| format!("{none} text={error}"));
-        println!("status={} out={}{more}{others}", found.err().map_or(0, status_of), digits(&out));
+        let written = if way.is_empty() { format!(" out={}", digits(&out)) } else { String::new() };
+        let more = found.clone().unwrap_or_else(|error| format!(" text={error}"));
+        println!("status={}{written}{more}", found.err().map_or(0, status_of));
     }
 }

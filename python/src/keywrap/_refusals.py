@@ -58,9 +58,7 @@ def bad_length(what: str, length: int, legal: str) -> BadLength:
 
 
 def refusal(status: int, what: str, length: int, legal: str, *keks: bytes) -> KeywrapError:
-    """What a call on these KEKs refused by its status, where `what` is of that length. Raises `MemoryError` itself."""
-    if status == lib.NO_MEMORY:
-        raise MemoryError
+    """What a call on these KEKs refused by its status, where `what` is of that length."""
     if status == lib.KEYWRAP_BAD_KEK:
         length = next(len(kek) for kek in keks if len(kek) not in (16, 24, 32))
         return BadKekLength(f"the KEK is {length} bytes long; it must be {KEKS} bytes")
