@@ -56,7 +56,7 @@ typedef int64_t s64;
 
 /* The bytes of the module's stack that a call takes, that the steps take, and that one step takes; the
  * bytes of its constants, and their address, of all and of those that the steps read. */
-#define STACK 2160
+#define STACK 2640
 #define STEPS_STACK 80
 #define STEP_STACK 16
 #define DATA 4088
@@ -692,26 +692,26 @@ static u32 w2c_f33(struct instance *, u64, u64, u64, u64, u64);
 #ifdef WITH_AES
 static u32 w2c_keywrap_begin_wrap_slot(struct instance *, u32, u64, u64, u64, u64, u64);
 static u32 w2c_f35(struct instance *, u32, u64, u64, u64, u64, u64);
-static u32 w2c_keywrap_check_keks(struct instance *, u64, u64);
-static u32 w2c_f37(struct instance *, u64, u64);
-static u32 w2c_keywrap_check_kind(struct instance *, u64, u64, u64);
-static u32 w2c_f39(struct instance *, u64, u64, u64);
-static u32 w2c_keywrap_check_kind_many(struct instance *, u64, u64, u64, u64, u64, u64);
-static u32 w2c_f41(struct instance *, u64, u64, u64, u64, u64, u64);
-static u32 w2c_keywrap_check_padded(struct instance *, u64, u64, u64);
-static u32 w2c_f43(struct instance *, u64, u64, u64);
-static u32 w2c_keywrap_check_plain(struct instance *, u64, u64, u64, u64, u64);
-static u32 w2c_f45(struct instance *, u64, u64, u64, u64, u64);
-static u32 w2c_keywrap_check_rewrap_in_place(struct instance *, u64, u64, u32);
-static u32 w2c_f47(struct instance *, u64, u64, u32);
-static u32 w2c_keywrap_check_rewrap_many(struct instance *, u64, u64, u64, u32, u64);
-static u32 w2c_f49(struct instance *, u64, u64, u64, u32, u64);
-static u32 w2c_keywrap_check_room(struct instance *, u64, u64, u64);
-static u32 w2c_f51(struct instance *, u64, u64, u64);
-static u32 w2c_keywrap_check_unwrap_many(struct instance *, u64, u64, u32, u64, u64);
-static u32 w2c_f53(struct instance *, u64, u64, u32, u64, u64);
-static u32 w2c_keywrap_check_wrap_many(struct instance *, u64, u64, u64, u32, u64);
-static u32 w2c_f55(struct instance *, u64, u64, u64, u32, u64);
+static u32 w2c_keywrap_check_keks(struct instance *, u64, u64, u64, u64);
+static u32 w2c_f37(struct instance *, u64, u64, u64, u64);
+static u32 w2c_keywrap_check_kind(struct instance *, u64, u64, u64, u64);
+static u32 w2c_f39(struct instance *, u64, u64, u64, u64);
+static u32 w2c_keywrap_check_kind_many(struct instance *, u64, u64, u64, u64, u64, u64, u64);
+static u32 w2c_f41(struct instance *, u64, u64, u64, u64, u64, u64, u64);
+static u32 w2c_keywrap_check_padded(struct instance *, u64, u64, u64, u64);
+static u32 w2c_f43(struct instance *, u64, u64, u64, u64);
+static u32 w2c_keywrap_check_plain(struct instance *, u64, u64, u64, u64, u64, u64);
+static u32 w2c_f45(struct instance *, u64, u64, u64, u64, u64, u64);
+static u32 w2c_keywrap_check_rewrap_in_place(struct instance *, u64, u64, u64, u64, u32);
+static u32 w2c_f47(struct instance *, u64, u64, u64, u64, u32);
+static u32 w2c_keywrap_check_rewrap_many(struct instance *, u64, u64, u64, u64, u64, u32, u64);
+static u32 w2c_f49(struct instance *, u64, u64, u64, u64, u64, u32, u64);
+static u32 w2c_keywrap_check_room(struct instance *, u64, u64, u64, u64);
+static u32 w2c_f51(struct instance *, u64, u64, u64, u64);
+static u32 w2c_keywrap_check_unwrap_many(struct instance *, u64, u64, u64, u32, u64, u64);
+static u32 w2c_f53(struct instance *, u64, u64, u64, u32, u64, u64);
+static u32 w2c_keywrap_check_wrap_many(struct instance *, u64, u64, u64, u64, u32, u64);
+static u32 w2c_f55(struct instance *, u64, u64, u64, u64, u32, u64);
 static u32 w2c_keywrap_end_rewrap(struct instance *, u32, u64);
 static u32 w2c_f57(struct instance *, u32, u64);
 static u32 w2c_keywrap_end_rewrap_in_place(struct instance *, u32, u64, u64);
@@ -730,62 +730,66 @@ static u32 w2c_f67(struct instance *, u32, u64, u64, u64, u64, u64);
 static u32 w2c_keywrap_end_wrap(struct instance *, u64, u64, u64, u64, u64);
 static u32 w2c_f69(struct instance *, u64, u64, u64, u64);
 #ifndef KEYWRAP_STEPS_ONLY
+static void w2c_keywrap_kek_clear(struct instance *, u64, u64);
+static void w2c_f71(struct instance *, u64, u64);
+static u32 w2c_keywrap_kek_init(struct instance *, u64, u64, u64, u64);
+static u32 w2c_f73(struct instance *, u64, u64, u64, u64);
 static u32 w2c_keywrap_kind(struct instance *, u64, u64, u64, u64, u64, u64, u64, u64);
-static u32 w2c_f71(struct instance *, u64, u64, u64, u64, u64, u64, u64, u64);
+static u32 w2c_f75(struct instance *, u64, u64, u64, u64, u64, u64, u64, u64);
 static u32 w2c_keywrap_kind_many(struct instance *, u64, u64, u64, u64, u64, u64, u64, u64, u64, u64, u64, u64);
-static u32 w2c_f73(struct instance *, u64, u64, u64, u64, u64, u64, u64, u64, u64, u64, u64, u64);
+static u32 w2c_f77(struct instance *, u64, u64, u64, u64, u64, u64, u64, u64, u64, u64, u64, u64);
 #endif
 static u32 w2c_keywrap_next_rewrap(struct instance *, u32, u64, u64, u64, u64, u64);
-static u32 w2c_f75(struct instance *, u32, u64, u64, u64, u64, u64);
+static u32 w2c_f79(struct instance *, u32, u64, u64, u64, u64, u64);
 static u32 w2c_keywrap_next_rewrap_from(struct instance *, u32, u64, u64, u64, u64, u64, u64, u64);
-static u32 w2c_f77(struct instance *, u32, u64, u64, u64, u64, u64, u64, u64);
+static u32 w2c_f81(struct instance *, u32, u64, u64, u64, u64, u64, u64, u64);
 #ifndef KEYWRAP_STEPS_ONLY
 static u32 w2c_keywrap_rewrap(struct instance *, u64, u64, u64, u64, u64, u64, u32, u64);
-static u32 w2c_f79(struct instance *, u64, u64, u64, u64, u64, u64, u32, u64);
+static u32 w2c_f83(struct instance *, u64, u64, u64, u64, u64, u64, u32, u64);
 static u32 w2c_keywrap_rewrap_in_place(struct instance *, u64, u64, u64, u64, u64, u64, u32);
-static u32 w2c_f81(struct instance *, u64, u64, u64, u64, u64, u64, u32);
+static u32 w2c_f85(struct instance *, u64, u64, u64, u64, u64, u64, u32);
 static u32 w2c_keywrap_rewrap_many(struct instance *, u64, u64, u64, u64, u64, u64, u32, u64, u64);
-static u32 w2c_f83(struct instance *, u64, u64, u64, u64, u64, u64, u32, u64, u64);
+static u32 w2c_f87(struct instance *, u64, u64, u64, u64, u64, u64, u32, u64, u64);
 static u32 w2c_keywrap_self_test(struct instance *);
-static u32 w2c_f85(struct instance *);
+static u32 w2c_f89(struct instance *);
 static u64 w2c_keywrap_status_text(struct instance *, u32, u64, u64);
-static u64 w2c_f87(struct instance *, u32, u64, u64);
+static u64 w2c_f91(struct instance *, u32, u64, u64);
 #endif
 static u64 w2c_keywrap_step_count(struct instance *, u64);
-static u64 w2c_f89(struct instance *, u64);
+static u64 w2c_f93(struct instance *, u64);
 static u32 w2c_keywrap_step_unwrap(struct instance *, u64, u64, u64, u64);
-static u32 w2c_f91(struct instance *, u64, u64, u64, u64);
+static u32 w2c_f95(struct instance *, u64, u64, u64, u64);
 static u32 w2c_keywrap_step_wrap(struct instance *, u64, u64, u64, u64);
-static u32 w2c_f93(struct instance *, u64, u64, u64, u64);
+static u32 w2c_f97(struct instance *, u64, u64, u64, u64);
 #ifndef KEYWRAP_STEPS_ONLY
 static u32 w2c_keywrap_unwrap(struct instance *, u64, u64, u64, u64, u64, u64);
-static u32 w2c_f95(struct instance *, u64, u64, u64, u64, u64, u64);
+static u32 w2c_f99(struct instance *, u64, u64, u64, u64, u64, u64);
 static u32 w2c_keywrap_unwrap_any(struct instance *, u64, u64, u64, u64, u64, u64, u64, u64);
-static u32 w2c_f97(struct instance *, u64, u64, u64, u64, u64, u64, u64, u64);
+static u32 w2c_f101(struct instance *, u64, u64, u64, u64, u64, u64, u64, u64);
 static u32 w2c_keywrap_unwrap_in_place(struct instance *, u64, u64, u64, u64);
-static u32 w2c_f99(struct instance *, u64, u64, u64, u64);
+static u32 w2c_f103(struct instance *, u64, u64, u64, u64);
 static u32 w2c_keywrap_unwrap_many(struct instance *, u64, u64, u64, u64, u32, u64, u64, u64, u64);
-static u32 w2c_f101(struct instance *, u64, u64, u64, u64, u32, u64, u64, u64, u64);
+static u32 w2c_f105(struct instance *, u64, u64, u64, u64, u32, u64, u64, u64, u64);
 static u32 w2c_keywrap_unwrap_padded(struct instance *, u64, u64, u64, u64, u64, u64, u64);
-static u32 w2c_f103(struct instance *, u64, u64, u64, u64, u64, u64, u64);
+static u32 w2c_f107(struct instance *, u64, u64, u64, u64, u64, u64, u64);
 static u32 w2c_keywrap_unwrap_padded_in_place(struct instance *, u64, u64, u64, u64, u64);
-static u32 w2c_f105(struct instance *, u64, u64, u64, u64, u64);
+static u32 w2c_f109(struct instance *, u64, u64, u64, u64, u64);
 static u32 w2c_keywrap_unwrap_with(struct instance *, u64, u64, u64, u64, u64, u64, u64, u64);
-static u32 w2c_f107(struct instance *, u64, u64, u64, u64, u64, u64, u64, u64);
+static u32 w2c_f111(struct instance *, u64, u64, u64, u64, u64, u64, u64, u64);
 static u32 w2c_keywrap_version(struct instance *);
-static void w2c_f109(struct instance *);
+static void w2c_f113(struct instance *);
 static u32 w2c_keywrap_wrap(struct instance *, u64, u64, u64, u64, u64, u64);
-static u32 w2c_f111(struct instance *, u64, u64, u64, u64, u64, u64);
+static u32 w2c_f115(struct instance *, u64, u64, u64, u64, u64, u64);
 static u32 w2c_keywrap_wrap_in_place(struct instance *, u64, u64, u64, u64);
-static u32 w2c_f113(struct instance *, u64, u64, u64, u64);
+static u32 w2c_f117(struct instance *, u64, u64, u64, u64);
 static u32 w2c_keywrap_wrap_many(struct instance *, u64, u64, u64, u64, u64, u32, u64, u64);
-static u32 w2c_f115(struct instance *, u64, u64, u64, u64, u64, u32, u64, u64);
+static u32 w2c_f119(struct instance *, u64, u64, u64, u64, u64, u32, u64, u64);
 static u32 w2c_keywrap_wrap_padded(struct instance *, u64, u64, u64, u64, u64, u64);
-static u32 w2c_f117(struct instance *, u64, u64, u64, u64, u64, u64);
+static u32 w2c_f121(struct instance *, u64, u64, u64, u64, u64, u64);
 static u32 w2c_keywrap_wrap_padded_in_place(struct instance *, u64, u64, u64, u64, u64);
-static u32 w2c_f119(struct instance *, u64, u64, u64, u64, u64);
+static u32 w2c_f123(struct instance *, u64, u64, u64, u64, u64);
 static u32 w2c_keywrap_wrap_with(struct instance *, u64, u64, u64, u64, u64, u64, u64, u64);
-static u32 w2c_f121(struct instance *, u64, u64, u64, u64, u64, u64, u64, u64);
+static u32 w2c_f125(struct instance *, u64, u64, u64, u64, u64, u64, u64, u64);
 #endif
 static u32 w2c_f0(struct instance *instance) {
   u32 w2c_l0 = 0;
@@ -874,14 +878,14 @@ static void w2c_f3(struct instance *instance, u64 w2c_p0, u64 w2c_p1, u64 w2c_p2
 }
 #ifndef KEYWRAP_STEPS_ONLY
 static void w2c_f4(struct instance *instance, u64 w2c_p0, u64 w2c_p1, u64 w2c_p2) {
-  u32 w2c_l11 = 0, w2c_l12 = 0, w2c_l13 = 0;
+  u32 w2c_l11 = 0, w2c_l12 = 0;
   u64 w2c_l3 = 0, w2c_l4 = 0, w2c_l5 = 0, w2c_l6 = 0, w2c_l7 = 0, w2c_l8 = 0, w2c_l9 = 0, w2c_l10 = 0;
   const struct memory memory = instance->w2c_memory;
   (void)memory;
   u32 w2c_i0, w2c_i1, w2c_i2, w2c_i3;
   u64 w2c_j0, w2c_j1, w2c_j2;
   w2c_j0 = instance->w2c_g0;
-  w2c_j1 = 496ull;
+  w2c_j1 = 976ull;
   w2c_j0 -= w2c_j1;
   w2c_l3 = w2c_j0;
   instance->w2c_g0 = w2c_j0;
@@ -889,119 +893,116 @@ static void w2c_f4(struct instance *instance, u64 w2c_p0, u64 w2c_p1, u64 w2c_p2
   w2c_l4 = w2c_j0;
   w2c_j1 = 16ull;
   w2c_i0 = (u64)((s64)w2c_j0 < (s64)w2c_j1);
-  if (w2c_i0) {goto w2c_B0;}
+  if (w2c_i0) {goto w2c_B3;}
+  w2c_j0 = w2c_l4;
+  w2c_j1 = 12ull;
+  w2c_j0 += w2c_j1;
+  w2c_i0 = (u32)(w2c_j0);
+  w2c_i1 = 0u;
+  w2c_j2 = 240ull;
+  w2c_i2 = (u32)(w2c_j2);
+  memory_fill(memory, w2c_i0, w2c_i1, w2c_i2);
+  w2c_j0 = w2c_l4;
+  w2c_i0 = (u32)(w2c_j0);
+  w2c_i1 = 0u;
+  i32_store8(memory, (u64)(w2c_i0) + 10, w2c_i1);
+  w2c_j0 = w2c_l4;
+  w2c_i0 = (u32)(w2c_j0);
+  w2c_i1 = 0u;
+  i32_store16(memory, (u64)(w2c_i0) + 8, w2c_i1);
+  w2c_j0 = w2c_p2;
+  w2c_j1 = 184ull;
+  w2c_i0 = w2c_j0 == w2c_j1;
+  if (w2c_i0) {goto w2c_B5;}
+  w2c_j0 = w2c_p2;
+  w2c_j1 = 248ull;
+  w2c_i0 = w2c_j0 == w2c_j1;
+  if (w2c_i0) {goto w2c_B5;}
+  w2c_j0 = w2c_p2;
+  w2c_j1 = 216ull;
+  w2c_i0 = w2c_j0 != w2c_j1;
+  if (w2c_i0) {goto w2c_B4;}
+  w2c_B5:;
+  w2c_j0 = w2c_p1;
+  w2c_i0 = (u32)(w2c_j0);
+  w2c_j0 = i64_load(memory, (u64)(w2c_i0));
+  w2c_j1 = 5423823929002190187ull;
+  w2c_i0 = w2c_j0 != w2c_j1;
+  if (w2c_i0) {goto w2c_B4;}
   w2c_i0 = 0u;
   w2c_l11 = w2c_i0;
   w2c_j0 = w2c_l4;
-  w2c_j1 = 13ull;
+  w2c_j1 = 496ull;
   w2c_j0 += w2c_j1;
   w2c_i0 = (u32)(w2c_j0);
   w2c_i1 = 0u;
-  w2c_j2 = 243ull;
+  w2c_j2 = 240ull;
+  w2c_i2 = (u32)(w2c_j2);
+  memory_fill(memory, w2c_i0, w2c_i1, w2c_i2);
+  w2c_j0 = w2c_l4;
+  w2c_i0 = (u32)(w2c_j0);
+  w2c_i1 = 0u;
+  i32_store8(memory, (u64)(w2c_i0) + 494, w2c_i1);
+  w2c_j0 = w2c_l4;
+  w2c_i0 = (u32)(w2c_j0);
+  w2c_i1 = 0u;
+  i32_store16(memory, (u64)(w2c_i0) + 492, w2c_i1);
+  w2c_j0 = w2c_l4;
+  w2c_j1 = 736ull;
+  w2c_j0 += w2c_j1;
+  w2c_i0 = (u32)(w2c_j0);
+  w2c_i1 = 0u;
+  w2c_j2 = 240ull;
   w2c_i2 = (u32)(w2c_j2);
   memory_fill(memory, w2c_i0, w2c_i1, w2c_i2);
   w2c_j0 = w2c_p2;
-  w2c_j1 = 18446744073709551600ull;
-  w2c_j0 += w2c_j1;
-  w2c_l3 = w2c_j0;
-  w2c_j1 = 16ull;
-  w2c_i0 = w2c_j0 > w2c_j1;
-  if (w2c_i0) {goto w2c_B4;}
+  w2c_j1 = 184ull;
+  w2c_i0 = w2c_j0 != w2c_j1;
+  if (w2c_i0) {goto w2c_B8;}
   w2c_i0 = 10u;
   w2c_l12 = w2c_i0;
-  w2c_j0 = w2c_l3;
-  w2c_i0 = (u32)(w2c_j0);
-  switch (w2c_i0) {
-    case 0: goto w2c_B2;
-    case 1: goto w2c_B4;
-    case 2: goto w2c_B4;
-    case 3: goto w2c_B4;
-    case 4: goto w2c_B4;
-    case 5: goto w2c_B4;
-    case 6: goto w2c_B4;
-    case 7: goto w2c_B4;
-    case 8: goto w2c_B3;
-    case 9: goto w2c_B4;
-    case 10: goto w2c_B4;
-    case 11: goto w2c_B4;
-    case 12: goto w2c_B4;
-    case 13: goto w2c_B4;
-    case 14: goto w2c_B4;
-    case 15: goto w2c_B4;
-    case 16: goto w2c_B5;
-    default: goto w2c_B2;
-  }
-  w2c_B5:;
-  w2c_i0 = 14u;
+  goto w2c_B7;
+  w2c_B8:;
+  w2c_j0 = w2c_p2;
+  w2c_j1 = 248ull;
+  w2c_i0 = w2c_j0 == w2c_j1;
+  if (w2c_i0) {goto w2c_B9;}
+  w2c_i0 = 0u;
   w2c_l12 = w2c_i0;
-  goto w2c_B2;
-  w2c_B4:;
-  w2c_j0 = w2c_l4;
-  w2c_j1 = 16ull;
-  w2c_j0 += w2c_j1;
-  w2c_i0 = (u32)(w2c_j0);
-  w2c_i1 = 0u;
-  w2c_j2 = 240ull;
-  w2c_i2 = (u32)(w2c_j2);
-  memory_fill(memory, w2c_i0, w2c_i1, w2c_i2);
-  w2c_j0 = w2c_l4;
-  w2c_i0 = (u32)(w2c_j0);
-  w2c_i1 = 0u;
-  i32_store8(memory, (u64)(w2c_i0) + 12, w2c_i1);
-  w2c_j0 = w2c_l4;
-  w2c_i0 = (u32)(w2c_j0);
-  w2c_i1 = 0u;
-  i32_store16(memory, (u64)(w2c_i0) + 10, w2c_i1);
-  w2c_i0 = 1u;
-  w2c_l13 = w2c_i0;
-  goto w2c_B1;
-  w2c_B3:;
+  w2c_j0 = w2c_p2;
+  w2c_j1 = 216ull;
+  w2c_i0 = w2c_j0 != w2c_j1;
+  if (w2c_i0) {goto w2c_B6;}
   w2c_i0 = 12u;
   w2c_l12 = w2c_i0;
-  w2c_B2:;
-  w2c_j0 = w2c_l4;
-  w2c_j1 = 256ull;
-  w2c_j0 += w2c_j1;
-  w2c_i0 = (u32)(w2c_j0);
-  w2c_i1 = 0u;
-  w2c_j2 = 240ull;
-  w2c_i2 = (u32)(w2c_j2);
-  memory_fill(memory, w2c_i0, w2c_i1, w2c_i2);
-  w2c_j0 = w2c_p2;
-  w2c_j1 = 2ull;
-  w2c_j0 >>= (w2c_j1 & 63);
+  goto w2c_B7;
+  w2c_B9:;
+  w2c_i0 = 14u;
+  w2c_l12 = w2c_i0;
+  w2c_B7:;
+  w2c_i0 = w2c_l12;
+  w2c_j0 = (u64)(w2c_i0);
+  w2c_j1 = 4ull;
+  w2c_j0 <<= (w2c_j1 & 63);
   w2c_l5 = w2c_j0;
-  w2c_j1 = 3ull;
-  w2c_j0 &= w2c_j1;
-  w2c_l6 = w2c_j0;
-  w2c_j0 = 0ull;
-  w2c_l7 = w2c_j0;
-  w2c_j0 = w2c_l5;
-  w2c_j1 = 18446744073709551615ull;
-  w2c_j0 += w2c_j1;
-  w2c_j1 = 3ull;
-  w2c_i0 = w2c_j0 < w2c_j1;
-  if (w2c_i0) {goto w2c_B7;}
-  w2c_j0 = w2c_l5;
-  w2c_j1 = 4611686018427387900ull;
-  w2c_j0 &= w2c_j1;
-  w2c_l8 = w2c_j0;
-  w2c_j0 = 0ull;
+  w2c_j0 = 18446744073709551600ull;
   w2c_l3 = w2c_j0;
-  w2c_j0 = 0ull;
-  w2c_l7 = w2c_j0;
-  w2c_L8: 
+  w2c_L10: 
     w2c_j0 = w2c_l4;
-    w2c_j1 = 256ull;
+    w2c_j1 = 736ull;
     w2c_j0 += w2c_j1;
     w2c_j1 = w2c_l3;
     w2c_j0 += w2c_j1;
-    w2c_l9 = w2c_j0;
+    w2c_l6 = w2c_j0;
+    w2c_j1 = 16ull;
+    w2c_j0 += w2c_j1;
     w2c_i0 = (u32)(w2c_j0);
     w2c_j1 = w2c_p1;
     w2c_j2 = w2c_l3;
     w2c_j1 += w2c_j2;
-    w2c_l10 = w2c_j1;
+    w2c_l7 = w2c_j1;
+    w2c_j2 = 24ull;
+    w2c_j1 += w2c_j2;
     w2c_i1 = (u32)(w2c_j1);
     w2c_i1 = i32_load(memory, (u64)(w2c_i1));
     w2c_l11 = w2c_i1;
@@ -1016,11 +1017,238 @@ static void w2c_f4(struct instance *instance, u64 w2c_p0, u64 w2c_p1, u64 w2c_p2
     w2c_i2 &= w2c_i3;
     w2c_i1 |= w2c_i2;
     i32_store(memory, (u64)(w2c_i0), w2c_i1);
-    w2c_j0 = w2c_l9;
+    w2c_j0 = w2c_l6;
+    w2c_j1 = 20ull;
+    w2c_j0 += w2c_j1;
+    w2c_i0 = (u32)(w2c_j0);
+    w2c_j1 = w2c_l7;
+    w2c_j2 = 28ull;
+    w2c_j1 += w2c_j2;
+    w2c_i1 = (u32)(w2c_j1);
+    w2c_i1 = i32_load(memory, (u64)(w2c_i1));
+    w2c_l11 = w2c_i1;
+    w2c_i2 = 16711935u;
+    w2c_i1 &= w2c_i2;
+    w2c_i2 = 8u;
+    w2c_i1 = I32_ROTR(w2c_i1, w2c_i2);
+    w2c_i2 = w2c_l11;
+    w2c_i3 = 24u;
+    w2c_i2 = I32_ROTR(w2c_i2, w2c_i3);
+    w2c_i3 = 16711935u;
+    w2c_i2 &= w2c_i3;
+    w2c_i1 |= w2c_i2;
+    i32_store(memory, (u64)(w2c_i0), w2c_i1);
+    w2c_j0 = w2c_l6;
+    w2c_j1 = 24ull;
+    w2c_j0 += w2c_j1;
+    w2c_i0 = (u32)(w2c_j0);
+    w2c_j1 = w2c_l7;
+    w2c_j2 = 32ull;
+    w2c_j1 += w2c_j2;
+    w2c_i1 = (u32)(w2c_j1);
+    w2c_i1 = i32_load(memory, (u64)(w2c_i1));
+    w2c_l11 = w2c_i1;
+    w2c_i2 = 16711935u;
+    w2c_i1 &= w2c_i2;
+    w2c_i2 = 8u;
+    w2c_i1 = I32_ROTR(w2c_i1, w2c_i2);
+    w2c_i2 = w2c_l11;
+    w2c_i3 = 24u;
+    w2c_i2 = I32_ROTR(w2c_i2, w2c_i3);
+    w2c_i3 = 16711935u;
+    w2c_i2 &= w2c_i3;
+    w2c_i1 |= w2c_i2;
+    i32_store(memory, (u64)(w2c_i0), w2c_i1);
+    w2c_j0 = w2c_l6;
+    w2c_j1 = 28ull;
+    w2c_j0 += w2c_j1;
+    w2c_i0 = (u32)(w2c_j0);
+    w2c_j1 = w2c_l7;
+    w2c_j2 = 36ull;
+    w2c_j1 += w2c_j2;
+    w2c_i1 = (u32)(w2c_j1);
+    w2c_i1 = i32_load(memory, (u64)(w2c_i1));
+    w2c_l11 = w2c_i1;
+    w2c_i2 = 16711935u;
+    w2c_i1 &= w2c_i2;
+    w2c_i2 = 8u;
+    w2c_i1 = I32_ROTR(w2c_i1, w2c_i2);
+    w2c_i2 = w2c_l11;
+    w2c_i3 = 24u;
+    w2c_i2 = I32_ROTR(w2c_i2, w2c_i3);
+    w2c_i3 = 16711935u;
+    w2c_i2 &= w2c_i3;
+    w2c_i1 |= w2c_i2;
+    i32_store(memory, (u64)(w2c_i0), w2c_i1);
+    w2c_j0 = w2c_l5;
+    w2c_j1 = w2c_l3;
+    w2c_j2 = 16ull;
+    w2c_j1 += w2c_j2;
+    w2c_l3 = w2c_j1;
+    w2c_i0 = w2c_j0 != w2c_j1;
+    if (w2c_i0) {goto w2c_L10;}
+  w2c_j0 = w2c_l4;
+  w2c_j1 = 496ull;
+  w2c_j0 += w2c_j1;
+  w2c_i0 = (u32)(w2c_j0);
+  w2c_j1 = w2c_l4;
+  w2c_j2 = 736ull;
+  w2c_j1 += w2c_j2;
+  w2c_i1 = (u32)(w2c_j1);
+  w2c_j2 = 240ull;
+  w2c_i2 = (u32)(w2c_j2);
+  memory_copy(memory, memory, w2c_i0, w2c_i1, w2c_i2);
+  w2c_j0 = w2c_l4;
+  w2c_i0 = (u32)(w2c_j0);
+  w2c_i1 = 0u;
+  i32_store8(memory, (u64)(w2c_i0) + 494, w2c_i1);
+  w2c_j0 = w2c_l4;
+  w2c_i0 = (u32)(w2c_j0);
+  w2c_i1 = 0u;
+  i32_store16(memory, (u64)(w2c_i0) + 492, w2c_i1);
+  w2c_i0 = 1u;
+  w2c_l11 = w2c_i0;
+  w2c_B6:;
+  w2c_j0 = w2c_p0;
+  w2c_i0 = (u32)(w2c_j0);
+  w2c_i1 = w2c_l11;
+  i32_store(memory, (u64)(w2c_i0), w2c_i1);
+  w2c_j0 = w2c_p0;
+  w2c_j1 = 4ull;
+  w2c_j0 += w2c_j1;
+  w2c_i0 = (u32)(w2c_j0);
+  w2c_j1 = w2c_l4;
+  w2c_j2 = 496ull;
+  w2c_j1 += w2c_j2;
+  w2c_i1 = (u32)(w2c_j1);
+  w2c_j2 = 240ull;
+  w2c_i2 = (u32)(w2c_j2);
+  memory_copy(memory, memory, w2c_i0, w2c_i1, w2c_i2);
+  w2c_j0 = w2c_p0;
+  w2c_j1 = 244ull;
+  w2c_j0 += w2c_j1;
+  w2c_i0 = (u32)(w2c_j0);
+  w2c_i1 = w2c_l12;
+  i32_store8(memory, (u64)(w2c_i0), w2c_i1);
+  w2c_j0 = w2c_p0;
+  w2c_j1 = 245ull;
+  w2c_j0 += w2c_j1;
+  w2c_i0 = (u32)(w2c_j0);
+  w2c_j1 = w2c_l4;
+  w2c_i1 = (u32)(w2c_j1);
+  w2c_i1 = i32_load16_u(memory, (u64)(w2c_i1) + 492u);
+  i32_store16(memory, (u64)(w2c_i0), w2c_i1);
+  w2c_j0 = w2c_p0;
+  w2c_j1 = 247ull;
+  w2c_j0 += w2c_j1;
+  w2c_i0 = (u32)(w2c_j0);
+  w2c_j1 = w2c_l4;
+  w2c_i1 = (u32)(w2c_j1);
+  w2c_i1 = i32_load8_u(memory, (u64)(w2c_i1) + 494u);
+  i32_store8(memory, (u64)(w2c_i0), w2c_i1);
+  goto w2c_B0;
+  w2c_B4:;
+  w2c_j0 = w2c_p2;
+  w2c_j1 = 18446744073709551600ull;
+  w2c_j0 += w2c_j1;
+  w2c_l3 = w2c_j0;
+  w2c_j1 = 16ull;
+  w2c_i0 = w2c_j0 > w2c_j1;
+  if (w2c_i0) {goto w2c_B2;}
+  w2c_i0 = 10u;
+  w2c_l12 = w2c_i0;
+  w2c_j0 = w2c_l3;
+  w2c_i0 = (u32)(w2c_j0);
+  switch (w2c_i0) {
+    case 0: goto w2c_B11;
+    case 1: goto w2c_B2;
+    case 2: goto w2c_B2;
+    case 3: goto w2c_B2;
+    case 4: goto w2c_B2;
+    case 5: goto w2c_B2;
+    case 6: goto w2c_B2;
+    case 7: goto w2c_B2;
+    case 8: goto w2c_B13;
+    case 9: goto w2c_B2;
+    case 10: goto w2c_B2;
+    case 11: goto w2c_B2;
+    case 12: goto w2c_B2;
+    case 13: goto w2c_B2;
+    case 14: goto w2c_B2;
+    case 15: goto w2c_B2;
+    case 16: goto w2c_B12;
+    default: goto w2c_B11;
+  }
+  w2c_B13:;
+  w2c_i0 = 12u;
+  w2c_l12 = w2c_i0;
+  goto w2c_B11;
+  w2c_B12:;
+  w2c_i0 = 14u;
+  w2c_l12 = w2c_i0;
+  w2c_B11:;
+  w2c_j0 = w2c_l4;
+  w2c_j1 = 736ull;
+  w2c_j0 += w2c_j1;
+  w2c_i0 = (u32)(w2c_j0);
+  w2c_i1 = 0u;
+  w2c_j2 = 240ull;
+  w2c_i2 = (u32)(w2c_j2);
+  memory_fill(memory, w2c_i0, w2c_i1, w2c_i2);
+  w2c_j0 = w2c_p2;
+  w2c_j1 = 2ull;
+  w2c_j0 >>= (w2c_j1 & 63);
+  w2c_l7 = w2c_j0;
+  w2c_j1 = 3ull;
+  w2c_j0 &= w2c_j1;
+  w2c_l8 = w2c_j0;
+  w2c_j0 = 0ull;
+  w2c_l9 = w2c_j0;
+  w2c_j0 = w2c_l7;
+  w2c_j1 = 18446744073709551615ull;
+  w2c_j0 += w2c_j1;
+  w2c_j1 = 3ull;
+  w2c_i0 = w2c_j0 < w2c_j1;
+  if (w2c_i0) {goto w2c_B15;}
+  w2c_j0 = w2c_l7;
+  w2c_j1 = 4611686018427387900ull;
+  w2c_j0 &= w2c_j1;
+  w2c_l10 = w2c_j0;
+  w2c_j0 = 0ull;
+  w2c_l3 = w2c_j0;
+  w2c_j0 = 0ull;
+  w2c_l9 = w2c_j0;
+  w2c_L16: 
+    w2c_j0 = w2c_l4;
+    w2c_j1 = 736ull;
+    w2c_j0 += w2c_j1;
+    w2c_j1 = w2c_l3;
+    w2c_j0 += w2c_j1;
+    w2c_l6 = w2c_j0;
+    w2c_i0 = (u32)(w2c_j0);
+    w2c_j1 = w2c_p1;
+    w2c_j2 = w2c_l3;
+    w2c_j1 += w2c_j2;
+    w2c_l5 = w2c_j1;
+    w2c_i1 = (u32)(w2c_j1);
+    w2c_i1 = i32_load(memory, (u64)(w2c_i1));
+    w2c_l11 = w2c_i1;
+    w2c_i2 = 16711935u;
+    w2c_i1 &= w2c_i2;
+    w2c_i2 = 8u;
+    w2c_i1 = I32_ROTR(w2c_i1, w2c_i2);
+    w2c_i2 = w2c_l11;
+    w2c_i3 = 24u;
+    w2c_i2 = I32_ROTR(w2c_i2, w2c_i3);
+    w2c_i3 = 16711935u;
+    w2c_i2 &= w2c_i3;
+    w2c_i1 |= w2c_i2;
+    i32_store(memory, (u64)(w2c_i0), w2c_i1);
+    w2c_j0 = w2c_l6;
     w2c_j1 = 4ull;
     w2c_j0 += w2c_j1;
     w2c_i0 = (u32)(w2c_j0);
-    w2c_j1 = w2c_l10;
+    w2c_j1 = w2c_l5;
     w2c_j2 = 4ull;
     w2c_j1 += w2c_j2;
     w2c_i1 = (u32)(w2c_j1);
@@ -1037,11 +1265,11 @@ static void w2c_f4(struct instance *instance, u64 w2c_p0, u64 w2c_p1, u64 w2c_p2
     w2c_i2 &= w2c_i3;
     w2c_i1 |= w2c_i2;
     i32_store(memory, (u64)(w2c_i0), w2c_i1);
-    w2c_j0 = w2c_l9;
+    w2c_j0 = w2c_l6;
     w2c_j1 = 8ull;
     w2c_j0 += w2c_j1;
     w2c_i0 = (u32)(w2c_j0);
-    w2c_j1 = w2c_l10;
+    w2c_j1 = w2c_l5;
     w2c_j2 = 8ull;
     w2c_j1 += w2c_j2;
     w2c_i1 = (u32)(w2c_j1);
@@ -1058,11 +1286,11 @@ static void w2c_f4(struct instance *instance, u64 w2c_p0, u64 w2c_p1, u64 w2c_p2
     w2c_i2 &= w2c_i3;
     w2c_i1 |= w2c_i2;
     i32_store(memory, (u64)(w2c_i0), w2c_i1);
-    w2c_j0 = w2c_l9;
+    w2c_j0 = w2c_l6;
     w2c_j1 = 12ull;
     w2c_j0 += w2c_j1;
     w2c_i0 = (u32)(w2c_j0);
-    w2c_j1 = w2c_l10;
+    w2c_j1 = w2c_l5;
     w2c_j2 = 12ull;
     w2c_j1 += w2c_j2;
     w2c_i1 = (u32)(w2c_j1);
@@ -1083,32 +1311,32 @@ static void w2c_f4(struct instance *instance, u64 w2c_p0, u64 w2c_p1, u64 w2c_p2
     w2c_j1 = 16ull;
     w2c_j0 += w2c_j1;
     w2c_l3 = w2c_j0;
-    w2c_j0 = w2c_l8;
-    w2c_j1 = w2c_l7;
+    w2c_j0 = w2c_l10;
+    w2c_j1 = w2c_l9;
     w2c_j2 = 4ull;
     w2c_j1 += w2c_j2;
-    w2c_l7 = w2c_j1;
+    w2c_l9 = w2c_j1;
     w2c_i0 = w2c_j0 != w2c_j1;
-    if (w2c_i0) {goto w2c_L8;}
-  w2c_j0 = w2c_l6;
+    if (w2c_i0) {goto w2c_L16;}
+  w2c_j0 = w2c_l8;
   w2c_i0 = !(w2c_j0);
-  if (w2c_i0) {goto w2c_B6;}
-  w2c_B7:;
+  if (w2c_i0) {goto w2c_B14;}
+  w2c_B15:;
   w2c_j0 = w2c_p1;
-  w2c_j1 = w2c_l7;
+  w2c_j1 = w2c_l9;
   w2c_j2 = 2ull;
   w2c_j1 <<= (w2c_j2 & 63);
-  w2c_l9 = w2c_j1;
+  w2c_l6 = w2c_j1;
   w2c_j0 += w2c_j1;
   w2c_l3 = w2c_j0;
   w2c_j0 = w2c_l4;
-  w2c_j1 = 256ull;
+  w2c_j1 = 736ull;
   w2c_j0 += w2c_j1;
-  w2c_j1 = w2c_l9;
+  w2c_j1 = w2c_l6;
   w2c_j0 += w2c_j1;
-  w2c_l9 = w2c_j0;
-  w2c_L9: 
-    w2c_j0 = w2c_l9;
+  w2c_l6 = w2c_j0;
+  w2c_L17: 
+    w2c_j0 = w2c_l6;
     w2c_i0 = (u32)(w2c_j0);
     w2c_j1 = w2c_l3;
     w2c_i1 = (u32)(w2c_j1);
@@ -1129,28 +1357,28 @@ static void w2c_f4(struct instance *instance, u64 w2c_p0, u64 w2c_p1, u64 w2c_p2
     w2c_j1 = 4ull;
     w2c_j0 += w2c_j1;
     w2c_l3 = w2c_j0;
-    w2c_j0 = w2c_l9;
+    w2c_j0 = w2c_l6;
     w2c_j1 = 4ull;
     w2c_j0 += w2c_j1;
-    w2c_l9 = w2c_j0;
-    w2c_j0 = w2c_l6;
+    w2c_l6 = w2c_j0;
+    w2c_j0 = w2c_l8;
     w2c_j1 = 18446744073709551615ull;
     w2c_j0 += w2c_j1;
-    w2c_l6 = w2c_j0;
+    w2c_l8 = w2c_j0;
     w2c_j1 = 0ull;
     w2c_i0 = w2c_j0 != w2c_j1;
-    if (w2c_i0) {goto w2c_L9;}
-  w2c_B6:;
-  w2c_j0 = w2c_l5;
+    if (w2c_i0) {goto w2c_L17;}
+  w2c_B14:;
+  w2c_j0 = w2c_l7;
   w2c_j1 = 2ull;
   w2c_j0 <<= (w2c_j1 & 63);
-  w2c_l6 = w2c_j0;
+  w2c_l8 = w2c_j0;
   w2c_j0 = w2c_p2;
   w2c_j1 = 28ull;
   w2c_j0 += w2c_j1;
-  w2c_l7 = w2c_j0;
+  w2c_p1 = w2c_j0;
   w2c_j0 = w2c_l4;
-  w2c_j1 = 256ull;
+  w2c_j1 = 736ull;
   w2c_j0 += w2c_j1;
   w2c_j1 = w2c_p2;
   w2c_j2 = 18446744073709551612ull;
@@ -1162,23 +1390,23 @@ static void w2c_f4(struct instance *instance, u64 w2c_p0, u64 w2c_p1, u64 w2c_p2
   w2c_i0 = i32_load(memory, (u64)(w2c_i0));
   w2c_l11 = w2c_i0;
   w2c_j0 = w2c_l4;
-  w2c_j1 = 256ull;
+  w2c_j1 = 736ull;
   w2c_j0 += w2c_j1;
-  w2c_l9 = w2c_j0;
-  w2c_j0 = w2c_l5;
+  w2c_l6 = w2c_j0;
+  w2c_j0 = w2c_l7;
   w2c_l3 = w2c_j0;
-  w2c_L10: 
+  w2c_L18: 
     w2c_j0 = w2c_l3;
     w2c_j1 = w2c_l3;
-    w2c_j2 = w2c_l5;
+    w2c_j2 = w2c_l7;
     w2c_j1 = DIV_U(w2c_j1, w2c_j2);
-    w2c_l10 = w2c_j1;
-    w2c_j2 = w2c_l5;
+    w2c_l5 = w2c_j1;
+    w2c_j2 = w2c_l7;
     w2c_j1 *= w2c_j2;
     w2c_j0 -= w2c_j1;
     w2c_j1 = 0ull;
     w2c_i0 = w2c_j0 != w2c_j1;
-    if (w2c_i0) {goto w2c_B12;}
+    if (w2c_i0) {goto w2c_B20;}
     w2c_i0 = w2c_l11;
     w2c_i1 = 8u;
     w2c_i0 = I32_ROTL(w2c_i0, w2c_i1);
@@ -1196,7 +1424,7 @@ static void w2c_f4(struct instance *instance, u64 w2c_p0, u64 w2c_p1, u64 w2c_p2
     w2c_i0 <<= (w2c_i1 & 31);
     w2c_i1 = w2c_l11;
     w2c_j1 = (u64)(w2c_i1);
-    w2c_p1 = w2c_j1;
+    w2c_l9 = w2c_j1;
     w2c_j2 = 24ull;
     w2c_j1 >>= (w2c_j2 & 63);
     w2c_i1 = (u32)(w2c_j1);
@@ -1215,7 +1443,7 @@ static void w2c_f4(struct instance *instance, u64 w2c_p0, u64 w2c_p1, u64 w2c_p2
     w2c_i2 = 16u;
     w2c_i1 <<= (w2c_i2 & 31);
     w2c_i0 |= w2c_i1;
-    w2c_j1 = w2c_p1;
+    w2c_j1 = w2c_l9;
     w2c_j2 = 255ull;
     w2c_j1 &= w2c_j2;
     w2c_i1 = (u32)(w2c_j1);
@@ -1234,7 +1462,7 @@ static void w2c_f4(struct instance *instance, u64 w2c_p0, u64 w2c_p1, u64 w2c_p2
     w2c_i2 = 16711935u;
     w2c_i1 &= w2c_i2;
     w2c_i0 |= w2c_i1;
-    w2c_j1 = w2c_l10;
+    w2c_j1 = w2c_l5;
     w2c_j2 = 2ull;
     w2c_j1 <<= (w2c_j2 & 63);
     w2c_j2 = 65532ull;
@@ -1243,18 +1471,18 @@ static void w2c_f4(struct instance *instance, u64 w2c_p0, u64 w2c_p1, u64 w2c_p2
     w2c_i1 = i32_load(memory, (u64)(w2c_i1));
     w2c_i0 ^= w2c_i1;
     w2c_l11 = w2c_i0;
-    goto w2c_B11;
-    w2c_B12:;
-    w2c_j0 = w2c_l5;
+    goto w2c_B19;
+    w2c_B20:;
+    w2c_j0 = w2c_l7;
     w2c_j1 = 8ull;
     w2c_i0 = w2c_j0 != w2c_j1;
-    if (w2c_i0) {goto w2c_B11;}
+    if (w2c_i0) {goto w2c_B19;}
     w2c_j0 = w2c_l3;
     w2c_j1 = 7ull;
     w2c_j0 &= w2c_j1;
     w2c_j1 = 4ull;
     w2c_i0 = w2c_j0 != w2c_j1;
-    if (w2c_i0) {goto w2c_B11;}
+    if (w2c_i0) {goto w2c_B19;}
     w2c_i0 = w2c_l11;
     w2c_i1 = 16u;
     w2c_i0 >>= (w2c_i1 & 31);
@@ -1269,7 +1497,7 @@ static void w2c_f4(struct instance *instance, u64 w2c_p0, u64 w2c_p1, u64 w2c_p2
     w2c_i0 <<= (w2c_i1 & 31);
     w2c_i1 = w2c_l11;
     w2c_j1 = (u64)(w2c_i1);
-    w2c_l10 = w2c_j1;
+    w2c_l5 = w2c_j1;
     w2c_j2 = 24ull;
     w2c_j1 >>= (w2c_j2 & 63);
     w2c_i1 = (u32)(w2c_j1);
@@ -1288,7 +1516,7 @@ static void w2c_f4(struct instance *instance, u64 w2c_p0, u64 w2c_p1, u64 w2c_p2
     w2c_i2 = 16u;
     w2c_i1 <<= (w2c_i2 & 31);
     w2c_i0 |= w2c_i1;
-    w2c_j1 = w2c_l10;
+    w2c_j1 = w2c_l5;
     w2c_j2 = 255ull;
     w2c_j1 &= w2c_j2;
     w2c_i1 = (u32)(w2c_j1);
@@ -1308,63 +1536,80 @@ static void w2c_f4(struct instance *instance, u64 w2c_p0, u64 w2c_p1, u64 w2c_p2
     w2c_i1 &= w2c_i2;
     w2c_i0 |= w2c_i1;
     w2c_l11 = w2c_i0;
-    w2c_B11:;
-    w2c_j0 = w2c_l9;
-    w2c_j1 = w2c_l6;
+    w2c_B19:;
+    w2c_j0 = w2c_l6;
+    w2c_j1 = w2c_l8;
     w2c_j0 += w2c_j1;
     w2c_i0 = (u32)(w2c_j0);
     w2c_i1 = w2c_l11;
-    w2c_j2 = w2c_l9;
+    w2c_j2 = w2c_l6;
     w2c_i2 = (u32)(w2c_j2);
     w2c_i2 = i32_load(memory, (u64)(w2c_i2));
     w2c_i1 ^= w2c_i2;
     w2c_l11 = w2c_i1;
     i32_store(memory, (u64)(w2c_i0), w2c_i1);
-    w2c_j0 = w2c_l9;
+    w2c_j0 = w2c_l6;
     w2c_j1 = 4ull;
     w2c_j0 += w2c_j1;
-    w2c_l9 = w2c_j0;
-    w2c_j0 = w2c_l7;
+    w2c_l6 = w2c_j0;
+    w2c_j0 = w2c_p1;
     w2c_j1 = w2c_l3;
     w2c_j2 = 1ull;
     w2c_j1 += w2c_j2;
     w2c_l3 = w2c_j1;
     w2c_i0 = w2c_j0 != w2c_j1;
-    if (w2c_i0) {goto w2c_L10;}
+    if (w2c_i0) {goto w2c_L18;}
   w2c_j0 = w2c_l4;
-  w2c_j1 = 16ull;
+  w2c_j1 = 252ull;
   w2c_j0 += w2c_j1;
   w2c_i0 = (u32)(w2c_j0);
   w2c_j1 = w2c_l4;
-  w2c_j2 = 256ull;
+  w2c_j2 = 736ull;
   w2c_j1 += w2c_j2;
   w2c_i1 = (u32)(w2c_j1);
   w2c_j2 = 240ull;
   w2c_i2 = (u32)(w2c_j2);
   memory_copy(memory, memory, w2c_i0, w2c_i1, w2c_i2);
+  w2c_j0 = w2c_l4;
+  w2c_j1 = 12ull;
+  w2c_j0 += w2c_j1;
+  w2c_i0 = (u32)(w2c_j0);
+  w2c_j1 = w2c_l4;
+  w2c_j2 = 252ull;
+  w2c_j1 += w2c_j2;
+  w2c_i1 = (u32)(w2c_j1);
+  w2c_j2 = 240ull;
+  w2c_i2 = (u32)(w2c_j2);
+  memory_copy(memory, memory, w2c_i0, w2c_i1, w2c_i2);
+  w2c_j0 = w2c_l4;
+  w2c_i0 = (u32)(w2c_j0);
+  w2c_i1 = 0u;
+  i32_store8(memory, (u64)(w2c_i0) + 10, w2c_i1);
+  w2c_j0 = w2c_l4;
+  w2c_i0 = (u32)(w2c_j0);
+  w2c_i1 = 0u;
+  i32_store16(memory, (u64)(w2c_i0) + 8, w2c_i1);
+  w2c_i0 = 1u;
+  w2c_l11 = w2c_i0;
+  goto w2c_B1;
+  w2c_B3:;
+  UNREACHABLE;
+  w2c_B2:;
   w2c_i0 = 0u;
-  w2c_l13 = w2c_i0;
-  w2c_j0 = w2c_l4;
-  w2c_i0 = (u32)(w2c_j0);
-  w2c_i1 = 0u;
-  i32_store8(memory, (u64)(w2c_i0) + 12, w2c_i1);
-  w2c_j0 = w2c_l4;
-  w2c_i0 = (u32)(w2c_j0);
-  w2c_i1 = 0u;
-  i32_store16(memory, (u64)(w2c_i0) + 10, w2c_i1);
-  w2c_i0 = w2c_l12;
+  w2c_l12 = w2c_i0;
+  w2c_i0 = 0u;
   w2c_l11 = w2c_i0;
   w2c_B1:;
   w2c_j0 = w2c_p0;
   w2c_i0 = (u32)(w2c_j0);
-  w2c_i1 = w2c_l13;
-  i32_store8(memory, (u64)(w2c_i0), w2c_i1);
+  w2c_i1 = w2c_l11;
+  i32_store(memory, (u64)(w2c_i0), w2c_i1);
   w2c_j0 = w2c_p0;
   w2c_j1 = 4ull;
   w2c_j0 += w2c_j1;
   w2c_i0 = (u32)(w2c_j0);
   w2c_j1 = w2c_l4;
-  w2c_j2 = 16ull;
+  w2c_j2 = 12ull;
   w2c_j1 += w2c_j2;
   w2c_i1 = (u32)(w2c_j1);
   w2c_j2 = 240ull;
@@ -1374,7 +1619,7 @@ static void w2c_f4(struct instance *instance, u64 w2c_p0, u64 w2c_p1, u64 w2c_p2
   w2c_j1 = 244ull;
   w2c_j0 += w2c_j1;
   w2c_i0 = (u32)(w2c_j0);
-  w2c_i1 = w2c_l11;
+  w2c_i1 = w2c_l12;
   i32_store8(memory, (u64)(w2c_i0), w2c_i1);
   w2c_j0 = w2c_p0;
   w2c_j1 = 245ull;
@@ -1382,7 +1627,7 @@ static void w2c_f4(struct instance *instance, u64 w2c_p0, u64 w2c_p1, u64 w2c_p2
   w2c_i0 = (u32)(w2c_j0);
   w2c_j1 = w2c_l4;
   w2c_i1 = (u32)(w2c_j1);
-  w2c_i1 = i32_load16_u(memory, (u64)(w2c_i1) + 10u);
+  w2c_i1 = i32_load16_u(memory, (u64)(w2c_i1) + 8u);
   i32_store16(memory, (u64)(w2c_i0), w2c_i1);
   w2c_j0 = w2c_p0;
   w2c_j1 = 247ull;
@@ -1390,16 +1635,13 @@ static void w2c_f4(struct instance *instance, u64 w2c_p0, u64 w2c_p1, u64 w2c_p2
   w2c_i0 = (u32)(w2c_j0);
   w2c_j1 = w2c_l4;
   w2c_i1 = (u32)(w2c_j1);
-  w2c_i1 = i32_load8_u(memory, (u64)(w2c_i1) + 12u);
+  w2c_i1 = i32_load8_u(memory, (u64)(w2c_i1) + 10u);
   i32_store8(memory, (u64)(w2c_i0), w2c_i1);
+  w2c_B0:;
   w2c_j0 = w2c_l4;
-  w2c_j1 = 496ull;
+  w2c_j1 = 976ull;
   w2c_j0 += w2c_j1;
   instance->w2c_g0 = w2c_j0;
-  goto w2c_Bfunc;
-  w2c_B0:;
-  UNREACHABLE;
-  w2c_Bfunc:;
 }
 static void w2c_f5(struct instance *instance, u64 w2c_p0, u64 w2c_p1, u64 w2c_p2, u64 w2c_p3, u64 w2c_p4, u64 w2c_p5, u64 w2c_p6) {
   u32 w2c_l12 = 0, w2c_l13 = 0, w2c_l14 = 0;
@@ -5540,6 +5782,8 @@ static u32 w2c_f16(struct instance *instance, u64 w2c_p0, u64 w2c_p1, u64 w2c_p2
   w2c_j0 = w2c_l6;
   w2c_i0 = (u32)(w2c_j0);
   w2c_i0 = i32_load8_u(memory, (u64)(w2c_i0) + 100u);
+  w2c_i1 = 1u;
+  w2c_i0 = w2c_i0 != w2c_i1;
   if (w2c_i0) {goto w2c_B1;}
   w2c_j0 = w2c_l6;
   w2c_j1 = 348ull;
@@ -7714,11 +7958,11 @@ static u32 w2c_f18(struct instance *instance, u64 w2c_p0, u64 w2c_p1, u64 w2c_p2
   w2c_l6 = w2c_j0;
   instance->w2c_g0 = w2c_j0;
   w2c_j0 = w2c_l6;
-  w2c_l6 = w2c_j0;
+  w2c_l7 = w2c_j0;
   w2c_j1 = 16ull;
   w2c_i0 = (u64)((s64)w2c_j0 < (s64)w2c_j1);
   if (w2c_i0) {goto w2c_B0;}
-  w2c_j0 = w2c_l6;
+  w2c_j0 = w2c_l7;
   w2c_j1 = 36ull;
   w2c_j0 += w2c_j1;
   w2c_i0 = (u32)(w2c_j0);
@@ -7726,7 +7970,7 @@ static u32 w2c_f18(struct instance *instance, u64 w2c_p0, u64 w2c_p1, u64 w2c_p2
   w2c_j2 = 248ull;
   w2c_i2 = (u32)(w2c_j2);
   memory_fill(memory, w2c_i0, w2c_i1, w2c_i2);
-  w2c_j0 = w2c_l6;
+  w2c_j0 = w2c_l7;
   w2c_j1 = 36ull;
   w2c_j0 += w2c_j1;
   w2c_j1 = w2c_p0;
@@ -7734,28 +7978,30 @@ static u32 w2c_f18(struct instance *instance, u64 w2c_p0, u64 w2c_p1, u64 w2c_p2
   w2c_f4(instance, w2c_j0, w2c_j1, w2c_j2);
   w2c_i0 = 3u;
   w2c_l9 = w2c_i0;
-  w2c_j0 = w2c_l6;
+  w2c_j0 = w2c_l7;
   w2c_i0 = (u32)(w2c_j0);
   w2c_i0 = i32_load8_u(memory, (u64)(w2c_i0) + 36u);
+  w2c_i1 = 1u;
+  w2c_i0 = w2c_i0 != w2c_i1;
   if (w2c_i0) {goto w2c_B1;}
-  w2c_j0 = w2c_l6;
+  w2c_j0 = w2c_l7;
   w2c_j1 = 284ull;
   w2c_j0 += w2c_j1;
   w2c_i0 = (u32)(w2c_j0);
-  w2c_j1 = w2c_l6;
+  w2c_j1 = w2c_l7;
   w2c_j2 = 40ull;
   w2c_j1 += w2c_j2;
   w2c_i1 = (u32)(w2c_j1);
   w2c_j2 = 244ull;
   w2c_i2 = (u32)(w2c_j2);
   memory_copy(memory, memory, w2c_i0, w2c_i1, w2c_i2);
-  w2c_j0 = w2c_l6;
+  w2c_j0 = w2c_l7;
   w2c_i0 = (u32)(w2c_j0);
   w2c_j1 = 0ull;
   i64_store(memory, (u64)(w2c_i0) + 24, w2c_j1);
-  w2c_j0 = w2c_l6;
+  w2c_j0 = w2c_l7;
   w2c_i0 = (u32)(w2c_j0);
-  w2c_j1 = w2c_l6;
+  w2c_j1 = w2c_l7;
   w2c_j2 = 284ull;
   w2c_j1 += w2c_j2;
   i64_store(memory, (u64)(w2c_i0) + 16, w2c_j1);
@@ -7783,7 +8029,7 @@ static u32 w2c_f18(struct instance *instance, u64 w2c_p0, u64 w2c_p1, u64 w2c_p2
   w2c_j1 = w2c_p2;
   w2c_j2 = 8ull;
   w2c_j1 += w2c_j2;
-  w2c_p1 = w2c_j1;
+  w2c_p3 = w2c_j1;
   w2c_j0 -= w2c_j1;
   w2c_j1 = w2c_p5;
   w2c_i0 = w2c_j0 >= w2c_j1;
@@ -7791,9 +8037,9 @@ static u32 w2c_f18(struct instance *instance, u64 w2c_p0, u64 w2c_p1, u64 w2c_p2
   w2c_j0 = w2c_p5;
   w2c_j1 = 3ull;
   w2c_j0 &= w2c_j1;
-  w2c_l7 = w2c_j0;
-  w2c_j0 = 0ull;
   w2c_p0 = w2c_j0;
+  w2c_j0 = 0ull;
+  w2c_l6 = w2c_j0;
   w2c_j0 = w2c_p5;
   w2c_j1 = 4ull;
   w2c_i0 = w2c_j0 < w2c_j1;
@@ -7803,92 +8049,92 @@ static u32 w2c_f18(struct instance *instance, u64 w2c_p0, u64 w2c_p1, u64 w2c_p2
   w2c_j0 &= w2c_j1;
   w2c_l8 = w2c_j0;
   w2c_j0 = 0ull;
-  w2c_p0 = w2c_j0;
+  w2c_l6 = w2c_j0;
   w2c_L5: 
     w2c_j0 = w2c_p4;
-    w2c_j1 = w2c_p0;
+    w2c_j1 = w2c_l6;
     w2c_j0 += w2c_j1;
-    w2c_p1 = w2c_j0;
+    w2c_p3 = w2c_j0;
     w2c_i0 = (u32)(w2c_j0);
     w2c_j1 = w2c_p2;
-    w2c_j2 = w2c_p0;
+    w2c_j2 = w2c_l6;
     w2c_j1 += w2c_j2;
-    w2c_p3 = w2c_j1;
+    w2c_p1 = w2c_j1;
     w2c_j2 = 8ull;
     w2c_j1 += w2c_j2;
     w2c_i1 = (u32)(w2c_j1);
     w2c_i1 = i32_load8_u(memory, (u64)(w2c_i1));
     i32_store8(memory, (u64)(w2c_i0), w2c_i1);
-    w2c_j0 = w2c_p1;
+    w2c_j0 = w2c_p3;
     w2c_j1 = 1ull;
     w2c_j0 += w2c_j1;
     w2c_i0 = (u32)(w2c_j0);
-    w2c_j1 = w2c_p3;
+    w2c_j1 = w2c_p1;
     w2c_j2 = 9ull;
     w2c_j1 += w2c_j2;
     w2c_i1 = (u32)(w2c_j1);
     w2c_i1 = i32_load8_u(memory, (u64)(w2c_i1));
     i32_store8(memory, (u64)(w2c_i0), w2c_i1);
-    w2c_j0 = w2c_p1;
+    w2c_j0 = w2c_p3;
     w2c_j1 = 2ull;
     w2c_j0 += w2c_j1;
     w2c_i0 = (u32)(w2c_j0);
-    w2c_j1 = w2c_p3;
+    w2c_j1 = w2c_p1;
     w2c_j2 = 10ull;
     w2c_j1 += w2c_j2;
     w2c_i1 = (u32)(w2c_j1);
     w2c_i1 = i32_load8_u(memory, (u64)(w2c_i1));
     i32_store8(memory, (u64)(w2c_i0), w2c_i1);
-    w2c_j0 = w2c_p1;
+    w2c_j0 = w2c_p3;
     w2c_j1 = 3ull;
     w2c_j0 += w2c_j1;
     w2c_i0 = (u32)(w2c_j0);
-    w2c_j1 = w2c_p3;
+    w2c_j1 = w2c_p1;
     w2c_j2 = 11ull;
     w2c_j1 += w2c_j2;
     w2c_i1 = (u32)(w2c_j1);
     w2c_i1 = i32_load8_u(memory, (u64)(w2c_i1));
     i32_store8(memory, (u64)(w2c_i0), w2c_i1);
     w2c_j0 = w2c_l8;
-    w2c_j1 = w2c_p0;
+    w2c_j1 = w2c_l6;
     w2c_j2 = 4ull;
     w2c_j1 += w2c_j2;
-    w2c_p0 = w2c_j1;
+    w2c_l6 = w2c_j1;
     w2c_i0 = w2c_j0 != w2c_j1;
     if (w2c_i0) {goto w2c_L5;}
-  w2c_j0 = w2c_l7;
+  w2c_j0 = w2c_p0;
   w2c_i0 = !(w2c_j0);
   if (w2c_i0) {goto w2c_B2;}
   w2c_B4:;
   w2c_j0 = w2c_p4;
-  w2c_j1 = w2c_p0;
+  w2c_j1 = w2c_l6;
   w2c_j0 += w2c_j1;
-  w2c_p1 = w2c_j0;
-  w2c_j0 = w2c_p0;
+  w2c_p3 = w2c_j0;
+  w2c_j0 = w2c_l6;
   w2c_j1 = w2c_p2;
   w2c_j0 += w2c_j1;
   w2c_j1 = 8ull;
   w2c_j0 += w2c_j1;
-  w2c_p0 = w2c_j0;
+  w2c_l6 = w2c_j0;
   w2c_L6: 
-    w2c_j0 = w2c_p1;
+    w2c_j0 = w2c_p3;
     w2c_i0 = (u32)(w2c_j0);
-    w2c_j1 = w2c_p0;
+    w2c_j1 = w2c_l6;
     w2c_i1 = (u32)(w2c_j1);
     w2c_i1 = i32_load8_u(memory, (u64)(w2c_i1));
     i32_store8(memory, (u64)(w2c_i0), w2c_i1);
-    w2c_j0 = w2c_p1;
+    w2c_j0 = w2c_p3;
     w2c_j1 = 1ull;
     w2c_j0 += w2c_j1;
-    w2c_p1 = w2c_j0;
+    w2c_p3 = w2c_j0;
+    w2c_j0 = w2c_l6;
+    w2c_j1 = 1ull;
+    w2c_j0 += w2c_j1;
+    w2c_l6 = w2c_j0;
     w2c_j0 = w2c_p0;
-    w2c_j1 = 1ull;
-    w2c_j0 += w2c_j1;
-    w2c_p0 = w2c_j0;
-    w2c_j0 = w2c_l7;
     w2c_j1 = 18446744073709551615ull;
     w2c_j0 += w2c_j1;
-    w2c_l7 = w2c_j0;
+    w2c_p0 = w2c_j0;
     w2c_j1 = 0ull;
     w2c_i0 = w2c_j0 != w2c_j1;
     if (w2c_i0) {goto w2c_L6;}
@@ -7900,59 +8146,59 @@ static u32 w2c_f18(struct instance *instance, u64 w2c_p0, u64 w2c_p1, u64 w2c_p2
   if (w2c_i0) {goto w2c_B2;}
   w2c_j0 = w2c_p4;
   w2c_i0 = (u32)(w2c_j0);
-  w2c_j1 = w2c_p1;
+  w2c_j1 = w2c_p3;
   w2c_i1 = (u32)(w2c_j1);
   w2c_j2 = w2c_p5;
   w2c_i2 = (u32)(w2c_j2);
   memory_copy(memory, memory, w2c_i0, w2c_i1, w2c_i2);
   w2c_B2:;
-  w2c_j0 = w2c_l6;
+  w2c_j0 = w2c_l7;
   w2c_j1 = 8ull;
   w2c_j0 += w2c_j1;
-  w2c_j1 = w2c_l6;
+  w2c_j1 = w2c_l7;
   w2c_j2 = 16ull;
   w2c_j1 += w2c_j2;
   w2c_j2 = w2c_p2;
   w2c_i2 = (u32)(w2c_j2);
   w2c_j2 = i64_load(memory, (u64)(w2c_i2));
-  w2c_p1 = w2c_j2;
+  w2c_p3 = w2c_j2;
   w2c_j3 = 56ull;
   w2c_j2 <<= (w2c_j3 & 63);
-  w2c_j3 = w2c_p1;
+  w2c_j3 = w2c_p3;
   w2c_j4 = 65280ull;
   w2c_j3 &= w2c_j4;
   w2c_j4 = 40ull;
   w2c_j3 <<= (w2c_j4 & 63);
   w2c_j2 |= w2c_j3;
-  w2c_j3 = w2c_p1;
+  w2c_j3 = w2c_p3;
   w2c_j4 = 16711680ull;
   w2c_j3 &= w2c_j4;
   w2c_j4 = 24ull;
   w2c_j3 <<= (w2c_j4 & 63);
-  w2c_j4 = w2c_p1;
+  w2c_j4 = w2c_p3;
   w2c_j5 = 4278190080ull;
   w2c_j4 &= w2c_j5;
   w2c_j5 = 8ull;
   w2c_j4 <<= (w2c_j5 & 63);
   w2c_j3 |= w2c_j4;
   w2c_j2 |= w2c_j3;
-  w2c_j3 = w2c_p1;
+  w2c_j3 = w2c_p3;
   w2c_j4 = 8ull;
   w2c_j3 >>= (w2c_j4 & 63);
   w2c_j4 = 4278190080ull;
   w2c_j3 &= w2c_j4;
-  w2c_j4 = w2c_p1;
+  w2c_j4 = w2c_p3;
   w2c_j5 = 24ull;
   w2c_j4 >>= (w2c_j5 & 63);
   w2c_j5 = 16711680ull;
   w2c_j4 &= w2c_j5;
   w2c_j3 |= w2c_j4;
-  w2c_j4 = w2c_p1;
+  w2c_j4 = w2c_p3;
   w2c_j5 = 40ull;
   w2c_j4 >>= (w2c_j5 & 63);
   w2c_j5 = 65280ull;
   w2c_j4 &= w2c_j5;
-  w2c_j5 = w2c_p1;
+  w2c_j5 = w2c_p3;
   w2c_j6 = 56ull;
   w2c_j5 >>= (w2c_j6 & 63);
   w2c_j4 |= w2c_j5;
@@ -7968,14 +8214,14 @@ static u32 w2c_f18(struct instance *instance, u64 w2c_p0, u64 w2c_p1, u64 w2c_p2
   w2c_f3(instance, w2c_j0, w2c_j1, w2c_j2, w2c_j3);
   w2c_i0 = 5u;
   w2c_i1 = 4u;
-  w2c_j2 = w2c_l6;
+  w2c_j2 = w2c_l7;
   w2c_i2 = (u32)(w2c_j2);
   w2c_i2 = i32_load8_u(memory, (u64)(w2c_i2) + 9u);
   w2c_i3 = 255u;
   w2c_i2 &= w2c_i3;
   w2c_i0 = w2c_i2 ? w2c_i0 : w2c_i1;
   w2c_i1 = 0u;
-  w2c_j2 = w2c_l6;
+  w2c_j2 = w2c_l7;
   w2c_i2 = (u32)(w2c_j2);
   w2c_i2 = i32_load8_u(memory, (u64)(w2c_i2) + 8u);
   w2c_i3 = 1u;
@@ -7983,7 +8229,7 @@ static u32 w2c_f18(struct instance *instance, u64 w2c_p0, u64 w2c_p1, u64 w2c_p2
   w2c_i0 = w2c_i2 ? w2c_i0 : w2c_i1;
   w2c_l9 = w2c_i0;
   w2c_B1:;
-  w2c_j0 = w2c_l6;
+  w2c_j0 = w2c_l7;
   w2c_j1 = 528ull;
   w2c_j0 += w2c_j1;
   instance->w2c_g0 = w2c_j0;
@@ -8257,6 +8503,8 @@ static u32 w2c_f20(struct instance *instance, u64 w2c_p0, u64 w2c_p1, u64 w2c_p2
   w2c_j0 = w2c_l6;
   w2c_i0 = (u32)(w2c_j0);
   w2c_i0 = i32_load8_u(memory, (u64)(w2c_i0) + 20u);
+  w2c_i1 = 1u;
+  w2c_i0 = w2c_i0 != w2c_i1;
   if (w2c_i0) {goto w2c_B1;}
   w2c_j0 = w2c_l6;
   w2c_j1 = 268ull;
@@ -8492,11 +8740,11 @@ static u32 w2c_f21(struct instance *instance, u64 w2c_p0, u64 w2c_p1, u64 w2c_p2
   w2c_l7 = w2c_j0;
   instance->w2c_g0 = w2c_j0;
   w2c_j0 = w2c_l7;
-  w2c_l7 = w2c_j0;
+  w2c_l8 = w2c_j0;
   w2c_j1 = 16ull;
   w2c_i0 = (u64)((s64)w2c_j0 < (s64)w2c_j1);
   if (w2c_i0) {goto w2c_B0;}
-  w2c_j0 = w2c_l7;
+  w2c_j0 = w2c_l8;
   w2c_j1 = 36ull;
   w2c_j0 += w2c_j1;
   w2c_i0 = (u32)(w2c_j0);
@@ -8508,39 +8756,40 @@ static u32 w2c_f21(struct instance *instance, u64 w2c_p0, u64 w2c_p1, u64 w2c_p2
   w2c_i0 = (u32)(w2c_j0);
   w2c_j1 = 0ull;
   i64_store(memory, (u64)(w2c_i0), w2c_j1);
-  w2c_j0 = w2c_l7;
+  w2c_j0 = w2c_l8;
   w2c_j1 = 36ull;
   w2c_j0 += w2c_j1;
   w2c_j1 = w2c_p0;
   w2c_j2 = w2c_p1;
   w2c_f4(instance, w2c_j0, w2c_j1, w2c_j2);
-  w2c_j0 = w2c_l7;
+  w2c_j0 = w2c_l8;
   w2c_i0 = (u32)(w2c_j0);
   w2c_i0 = i32_load8_u(memory, (u64)(w2c_i0) + 36u);
-  w2c_i0 = !(w2c_i0);
+  w2c_i1 = 1u;
+  w2c_i0 = w2c_i0 == w2c_i1;
   if (w2c_i0) {goto w2c_B2;}
   w2c_i0 = 3u;
   w2c_l10 = w2c_i0;
   goto w2c_B1;
   w2c_B2:;
-  w2c_j0 = w2c_l7;
+  w2c_j0 = w2c_l8;
   w2c_j1 = 284ull;
   w2c_j0 += w2c_j1;
   w2c_i0 = (u32)(w2c_j0);
-  w2c_j1 = w2c_l7;
+  w2c_j1 = w2c_l8;
   w2c_j2 = 40ull;
   w2c_j1 += w2c_j2;
   w2c_i1 = (u32)(w2c_j1);
   w2c_j2 = 244ull;
   w2c_i2 = (u32)(w2c_j2);
   memory_copy(memory, memory, w2c_i0, w2c_i1, w2c_i2);
-  w2c_j0 = w2c_l7;
+  w2c_j0 = w2c_l8;
   w2c_i0 = (u32)(w2c_j0);
   w2c_j1 = 0ull;
   i64_store(memory, (u64)(w2c_i0) + 24, w2c_j1);
-  w2c_j0 = w2c_l7;
+  w2c_j0 = w2c_l8;
   w2c_i0 = (u32)(w2c_j0);
-  w2c_j1 = w2c_l7;
+  w2c_j1 = w2c_l8;
   w2c_j2 = 284ull;
   w2c_j1 += w2c_j2;
   i64_store(memory, (u64)(w2c_i0) + 16, w2c_j1);
@@ -8566,7 +8815,7 @@ static u32 w2c_f21(struct instance *instance, u64 w2c_p0, u64 w2c_p1, u64 w2c_p2
   w2c_j1 = w2c_p2;
   w2c_j2 = 8ull;
   w2c_j1 += w2c_j2;
-  w2c_p1 = w2c_j1;
+  w2c_p3 = w2c_j1;
   w2c_j0 -= w2c_j1;
   w2c_j1 = w2c_p5;
   w2c_i0 = w2c_j0 >= w2c_j1;
@@ -8574,9 +8823,9 @@ static u32 w2c_f21(struct instance *instance, u64 w2c_p0, u64 w2c_p1, u64 w2c_p2
   w2c_j0 = w2c_p5;
   w2c_j1 = 3ull;
   w2c_j0 &= w2c_j1;
-  w2c_l8 = w2c_j0;
-  w2c_j0 = 0ull;
   w2c_p0 = w2c_j0;
+  w2c_j0 = 0ull;
+  w2c_l7 = w2c_j0;
   w2c_j0 = w2c_p5;
   w2c_j1 = 4ull;
   w2c_i0 = w2c_j0 < w2c_j1;
@@ -8586,92 +8835,92 @@ static u32 w2c_f21(struct instance *instance, u64 w2c_p0, u64 w2c_p1, u64 w2c_p2
   w2c_j0 &= w2c_j1;
   w2c_l9 = w2c_j0;
   w2c_j0 = 0ull;
-  w2c_p0 = w2c_j0;
+  w2c_l7 = w2c_j0;
   w2c_L7: 
     w2c_j0 = w2c_p4;
-    w2c_j1 = w2c_p0;
+    w2c_j1 = w2c_l7;
     w2c_j0 += w2c_j1;
-    w2c_p1 = w2c_j0;
+    w2c_p3 = w2c_j0;
     w2c_i0 = (u32)(w2c_j0);
     w2c_j1 = w2c_p2;
-    w2c_j2 = w2c_p0;
+    w2c_j2 = w2c_l7;
     w2c_j1 += w2c_j2;
-    w2c_p3 = w2c_j1;
+    w2c_p1 = w2c_j1;
     w2c_j2 = 8ull;
     w2c_j1 += w2c_j2;
     w2c_i1 = (u32)(w2c_j1);
     w2c_i1 = i32_load8_u(memory, (u64)(w2c_i1));
     i32_store8(memory, (u64)(w2c_i0), w2c_i1);
-    w2c_j0 = w2c_p1;
+    w2c_j0 = w2c_p3;
     w2c_j1 = 1ull;
     w2c_j0 += w2c_j1;
     w2c_i0 = (u32)(w2c_j0);
-    w2c_j1 = w2c_p3;
+    w2c_j1 = w2c_p1;
     w2c_j2 = 9ull;
     w2c_j1 += w2c_j2;
     w2c_i1 = (u32)(w2c_j1);
     w2c_i1 = i32_load8_u(memory, (u64)(w2c_i1));
     i32_store8(memory, (u64)(w2c_i0), w2c_i1);
-    w2c_j0 = w2c_p1;
+    w2c_j0 = w2c_p3;
     w2c_j1 = 2ull;
     w2c_j0 += w2c_j1;
     w2c_i0 = (u32)(w2c_j0);
-    w2c_j1 = w2c_p3;
+    w2c_j1 = w2c_p1;
     w2c_j2 = 10ull;
     w2c_j1 += w2c_j2;
     w2c_i1 = (u32)(w2c_j1);
     w2c_i1 = i32_load8_u(memory, (u64)(w2c_i1));
     i32_store8(memory, (u64)(w2c_i0), w2c_i1);
-    w2c_j0 = w2c_p1;
+    w2c_j0 = w2c_p3;
     w2c_j1 = 3ull;
     w2c_j0 += w2c_j1;
     w2c_i0 = (u32)(w2c_j0);
-    w2c_j1 = w2c_p3;
+    w2c_j1 = w2c_p1;
     w2c_j2 = 11ull;
     w2c_j1 += w2c_j2;
     w2c_i1 = (u32)(w2c_j1);
     w2c_i1 = i32_load8_u(memory, (u64)(w2c_i1));
     i32_store8(memory, (u64)(w2c_i0), w2c_i1);
     w2c_j0 = w2c_l9;
-    w2c_j1 = w2c_p0;
+    w2c_j1 = w2c_l7;
     w2c_j2 = 4ull;
     w2c_j1 += w2c_j2;
-    w2c_p0 = w2c_j1;
+    w2c_l7 = w2c_j1;
     w2c_i0 = w2c_j0 != w2c_j1;
     if (w2c_i0) {goto w2c_L7;}
-  w2c_j0 = w2c_l8;
+  w2c_j0 = w2c_p0;
   w2c_i0 = !(w2c_j0);
   if (w2c_i0) {goto w2c_B4;}
   w2c_B6:;
   w2c_j0 = w2c_p4;
-  w2c_j1 = w2c_p0;
+  w2c_j1 = w2c_l7;
   w2c_j0 += w2c_j1;
-  w2c_p1 = w2c_j0;
-  w2c_j0 = w2c_p0;
+  w2c_p3 = w2c_j0;
+  w2c_j0 = w2c_l7;
   w2c_j1 = w2c_p2;
   w2c_j0 += w2c_j1;
   w2c_j1 = 8ull;
   w2c_j0 += w2c_j1;
-  w2c_p0 = w2c_j0;
+  w2c_l7 = w2c_j0;
   w2c_L8: 
-    w2c_j0 = w2c_p1;
+    w2c_j0 = w2c_p3;
     w2c_i0 = (u32)(w2c_j0);
-    w2c_j1 = w2c_p0;
+    w2c_j1 = w2c_l7;
     w2c_i1 = (u32)(w2c_j1);
     w2c_i1 = i32_load8_u(memory, (u64)(w2c_i1));
     i32_store8(memory, (u64)(w2c_i0), w2c_i1);
-    w2c_j0 = w2c_p1;
+    w2c_j0 = w2c_p3;
     w2c_j1 = 1ull;
     w2c_j0 += w2c_j1;
-    w2c_p1 = w2c_j0;
+    w2c_p3 = w2c_j0;
+    w2c_j0 = w2c_l7;
+    w2c_j1 = 1ull;
+    w2c_j0 += w2c_j1;
+    w2c_l7 = w2c_j0;
     w2c_j0 = w2c_p0;
-    w2c_j1 = 1ull;
-    w2c_j0 += w2c_j1;
-    w2c_p0 = w2c_j0;
-    w2c_j0 = w2c_l8;
     w2c_j1 = 18446744073709551615ull;
     w2c_j0 += w2c_j1;
-    w2c_l8 = w2c_j0;
+    w2c_p0 = w2c_j0;
     w2c_j1 = 0ull;
     w2c_i0 = w2c_j0 != w2c_j1;
     if (w2c_i0) {goto w2c_L8;}
@@ -8683,60 +8932,60 @@ static u32 w2c_f21(struct instance *instance, u64 w2c_p0, u64 w2c_p1, u64 w2c_p2
   if (w2c_i0) {goto w2c_B4;}
   w2c_j0 = w2c_p4;
   w2c_i0 = (u32)(w2c_j0);
-  w2c_j1 = w2c_p1;
+  w2c_j1 = w2c_p3;
   w2c_i1 = (u32)(w2c_j1);
   w2c_j2 = w2c_p5;
   w2c_i2 = (u32)(w2c_j2);
   memory_copy(memory, memory, w2c_i0, w2c_i1, w2c_i2);
   w2c_B4:;
-  w2c_j0 = w2c_l7;
+  w2c_j0 = w2c_l8;
   w2c_j1 = 8ull;
   w2c_j0 += w2c_j1;
   w2c_j1 = w2c_p5;
-  w2c_j2 = w2c_l7;
+  w2c_j2 = w2c_l8;
   w2c_j3 = 16ull;
   w2c_j2 += w2c_j3;
   w2c_j3 = w2c_p2;
   w2c_i3 = (u32)(w2c_j3);
   w2c_j3 = i64_load(memory, (u64)(w2c_i3));
-  w2c_p1 = w2c_j3;
+  w2c_p3 = w2c_j3;
   w2c_j4 = 56ull;
   w2c_j3 <<= (w2c_j4 & 63);
-  w2c_j4 = w2c_p1;
+  w2c_j4 = w2c_p3;
   w2c_j5 = 65280ull;
   w2c_j4 &= w2c_j5;
   w2c_j5 = 40ull;
   w2c_j4 <<= (w2c_j5 & 63);
   w2c_j3 |= w2c_j4;
-  w2c_j4 = w2c_p1;
+  w2c_j4 = w2c_p3;
   w2c_j5 = 16711680ull;
   w2c_j4 &= w2c_j5;
   w2c_j5 = 24ull;
   w2c_j4 <<= (w2c_j5 & 63);
-  w2c_j5 = w2c_p1;
+  w2c_j5 = w2c_p3;
   w2c_j6 = 4278190080ull;
   w2c_j5 &= w2c_j6;
   w2c_j6 = 8ull;
   w2c_j5 <<= (w2c_j6 & 63);
   w2c_j4 |= w2c_j5;
   w2c_j3 |= w2c_j4;
-  w2c_j4 = w2c_p1;
+  w2c_j4 = w2c_p3;
   w2c_j5 = 8ull;
   w2c_j4 >>= (w2c_j5 & 63);
   w2c_j5 = 4278190080ull;
   w2c_j4 &= w2c_j5;
-  w2c_j5 = w2c_p1;
+  w2c_j5 = w2c_p3;
   w2c_j6 = 24ull;
   w2c_j5 >>= (w2c_j6 & 63);
   w2c_j6 = 16711680ull;
   w2c_j5 &= w2c_j6;
   w2c_j4 |= w2c_j5;
-  w2c_j5 = w2c_p1;
+  w2c_j5 = w2c_p3;
   w2c_j6 = 40ull;
   w2c_j5 >>= (w2c_j6 & 63);
   w2c_j6 = 65280ull;
   w2c_j5 &= w2c_j6;
-  w2c_j6 = w2c_p1;
+  w2c_j6 = w2c_p3;
   w2c_j7 = 56ull;
   w2c_j6 >>= (w2c_j7 & 63);
   w2c_j5 |= w2c_j6;
@@ -8745,15 +8994,15 @@ static u32 w2c_f21(struct instance *instance, u64 w2c_p0, u64 w2c_p1, u64 w2c_p2
   w2c_j4 = w2c_p4;
   w2c_j5 = w2c_p5;
   w2c_j2 = w2c_f6(instance, w2c_j2, w2c_j3, w2c_j4, w2c_j5);
-  w2c_p1 = w2c_j2;
+  w2c_p3 = w2c_j2;
   w2c_j3 = 4294967295ull;
   w2c_j2 &= w2c_j3;
-  w2c_p3 = w2c_j2;
+  w2c_p1 = w2c_j2;
   w2c_j1 -= w2c_j2;
-  w2c_p0 = w2c_j1;
+  w2c_l7 = w2c_j1;
   w2c_j2 = 3ull;
   w2c_j1 >>= (w2c_j2 & 63);
-  w2c_j2 = w2c_p1;
+  w2c_j2 = w2c_p3;
   w2c_j3 = 32ull;
   w2c_j2 >>= (w2c_j3 & 63);
   w2c_j3 = 2790873510ull;
@@ -8766,51 +9015,51 @@ static u32 w2c_f21(struct instance *instance, u64 w2c_p0, u64 w2c_p1, u64 w2c_p2
   w2c_j2 += w2c_j3;
   w2c_i2 = (u32)(w2c_j2);
   w2c_j2 = i64_load(memory, (u64)(w2c_i2));
-  w2c_p1 = w2c_j2;
+  w2c_p3 = w2c_j2;
   w2c_j3 = 56ull;
   w2c_j2 <<= (w2c_j3 & 63);
-  w2c_j3 = w2c_p1;
+  w2c_j3 = w2c_p3;
   w2c_j4 = 65280ull;
   w2c_j3 &= w2c_j4;
   w2c_j4 = 40ull;
   w2c_j3 <<= (w2c_j4 & 63);
   w2c_j2 |= w2c_j3;
-  w2c_j3 = w2c_p1;
+  w2c_j3 = w2c_p3;
   w2c_j4 = 16711680ull;
   w2c_j3 &= w2c_j4;
   w2c_j4 = 24ull;
   w2c_j3 <<= (w2c_j4 & 63);
-  w2c_j4 = w2c_p1;
+  w2c_j4 = w2c_p3;
   w2c_j5 = 4278190080ull;
   w2c_j4 &= w2c_j5;
   w2c_j5 = 8ull;
   w2c_j4 <<= (w2c_j5 & 63);
   w2c_j3 |= w2c_j4;
   w2c_j2 |= w2c_j3;
-  w2c_j3 = w2c_p1;
+  w2c_j3 = w2c_p3;
   w2c_j4 = 8ull;
   w2c_j3 >>= (w2c_j4 & 63);
   w2c_j4 = 4278190080ull;
   w2c_j3 &= w2c_j4;
-  w2c_j4 = w2c_p1;
+  w2c_j4 = w2c_p3;
   w2c_j5 = 24ull;
   w2c_j4 >>= (w2c_j5 & 63);
   w2c_j5 = 16711680ull;
   w2c_j4 &= w2c_j5;
   w2c_j3 |= w2c_j4;
-  w2c_j4 = w2c_p1;
+  w2c_j4 = w2c_p3;
   w2c_j5 = 40ull;
   w2c_j4 >>= (w2c_j5 & 63);
   w2c_j5 = 65280ull;
   w2c_j4 &= w2c_j5;
-  w2c_j5 = w2c_p1;
+  w2c_j5 = w2c_p3;
   w2c_j6 = 56ull;
   w2c_j5 >>= (w2c_j6 & 63);
   w2c_j4 |= w2c_j5;
   w2c_j3 |= w2c_j4;
   w2c_j2 |= w2c_j3;
   w2c_j3 = 18446744073709551615ull;
-  w2c_j4 = w2c_p0;
+  w2c_j4 = w2c_l7;
   w2c_j5 = 3ull;
   w2c_j4 <<= (w2c_j5 & 63);
   w2c_j3 <<= (w2c_j4 & 63);
@@ -8821,7 +9070,7 @@ static u32 w2c_f21(struct instance *instance, u64 w2c_p0, u64 w2c_p1, u64 w2c_p2
   w2c_j2 = w2c_p4;
   w2c_j3 = w2c_p5;
   w2c_f3(instance, w2c_j0, w2c_j1, w2c_j2, w2c_j3);
-  w2c_j0 = w2c_l7;
+  w2c_j0 = w2c_l8;
   w2c_i0 = (u32)(w2c_j0);
   w2c_i0 = i32_load8_u(memory, (u64)(w2c_i0) + 8u);
   w2c_i1 = 255u;
@@ -8829,13 +9078,13 @@ static u32 w2c_f21(struct instance *instance, u64 w2c_p0, u64 w2c_p1, u64 w2c_p2
   if (w2c_i0) {goto w2c_B9;}
   w2c_j0 = w2c_p6;
   w2c_i0 = (u32)(w2c_j0);
-  w2c_j1 = w2c_p3;
+  w2c_j1 = w2c_p1;
   i64_store(memory, (u64)(w2c_i0), w2c_j1);
   w2c_i0 = 0u;
   w2c_l10 = w2c_i0;
   goto w2c_B1;
   w2c_B9:;
-  w2c_j0 = w2c_l7;
+  w2c_j0 = w2c_l8;
   w2c_i0 = (u32)(w2c_j0);
   w2c_i0 = i32_load8_u(memory, (u64)(w2c_i0) + 9u);
   w2c_i1 = 255u;
@@ -8849,7 +9098,7 @@ static u32 w2c_f21(struct instance *instance, u64 w2c_p0, u64 w2c_p1, u64 w2c_p2
   w2c_i0 = 4u;
   w2c_l10 = w2c_i0;
   w2c_B1:;
-  w2c_j0 = w2c_l7;
+  w2c_j0 = w2c_l8;
   w2c_j1 = 528ull;
   w2c_j0 += w2c_j1;
   instance->w2c_g0 = w2c_j0;
@@ -10815,12 +11064,12 @@ static u32 w2c_f35(struct instance *instance, u32 w2c_p0, u64 w2c_p1, u64 w2c_p2
   w2c_Bfunc:;
   return w2c_i0;
 }
-static u32 w2c_keywrap_check_keks(struct instance *instance, u64 w2c_p0, u64 w2c_p1) {
-  u32 w2c_l2 = 0;
+static u32 w2c_keywrap_check_keks(struct instance *instance, u64 w2c_p0, u64 w2c_p1, u64 w2c_p2, u64 w2c_p3) {
+  u32 w2c_l4 = 0;
   const struct memory memory = instance->w2c_memory;
   (void)memory;
   u32 w2c_i0;
-  u64 w2c_j0, w2c_j1;
+  u64 w2c_j0, w2c_j1, w2c_j2, w2c_j3;
   w2c_i0 = w2c_f0(instance);
   w2c_i0 = !(w2c_i0);
   if (w2c_i0) {goto w2c_B0;}
@@ -10829,14 +11078,394 @@ static u32 w2c_keywrap_check_keks(struct instance *instance, u64 w2c_p0, u64 w2c
   w2c_B0:;
   w2c_j0 = w2c_p0;
   w2c_j1 = w2c_p1;
-  w2c_i0 = w2c_f37(instance, w2c_j0, w2c_j1);
-  w2c_l2 = w2c_i0;
+  w2c_j2 = w2c_p2;
+  w2c_j3 = w2c_p3;
+  w2c_i0 = w2c_f37(instance, w2c_j0, w2c_j1, w2c_j2, w2c_j3);
+  w2c_l4 = w2c_i0;
   w2c_f1(instance);
-  w2c_i0 = w2c_l2;
+  w2c_i0 = w2c_l4;
   return w2c_i0;
 }
-static u32 w2c_f37(struct instance *instance, u64 w2c_p0, u64 w2c_p1) {
-  u32 w2c_l2 = 0;
+static u32 w2c_f37(struct instance *instance, u64 w2c_p0, u64 w2c_p1, u64 w2c_p2, u64 w2c_p3) {
+  u32 w2c_l4 = 0;
+  const struct memory memory = instance->w2c_memory;
+  (void)memory;
+  u32 w2c_i0, w2c_i3;
+  u64 w2c_j0, w2c_j1, w2c_j2, w2c_j3;
+  w2c_j0 = instance->w2c_g0;
+  w2c_j1 = 16ull;
+  w2c_i0 = (u64)((s64)w2c_j0 < (s64)w2c_j1);
+  if (w2c_i0) {goto w2c_B0;}
+  w2c_i0 = 3u;
+  w2c_l4 = w2c_i0;
+  w2c_j0 = w2c_p1;
+  w2c_j1 = 183ull;
+  w2c_i0 = (u64)((s64)w2c_j0 > (s64)w2c_j1);
+  if (w2c_i0) {goto w2c_B3;}
+  w2c_j0 = w2c_p1;
+  w2c_j1 = 32ull;
+  w2c_i0 = w2c_j0 > w2c_j1;
+  if (w2c_i0) {goto w2c_B1;}
+  w2c_j0 = 1ull;
+  w2c_j1 = w2c_p1;
+  w2c_j0 <<= (w2c_j1 & 63);
+  w2c_j1 = 4311810048ull;
+  w2c_j0 &= w2c_j1;
+  w2c_j1 = 0ull;
+  w2c_i0 = w2c_j0 != w2c_j1;
+  if (w2c_i0) {goto w2c_B2;}
+  goto w2c_B1;
+  w2c_B3:;
+  w2c_j0 = w2c_p1;
+  w2c_j1 = 184ull;
+  w2c_i0 = w2c_j0 == w2c_j1;
+  if (w2c_i0) {goto w2c_B4;}
+  w2c_j0 = w2c_p1;
+  w2c_j1 = 248ull;
+  w2c_i0 = w2c_j0 == w2c_j1;
+  if (w2c_i0) {goto w2c_B4;}
+  w2c_j0 = w2c_p1;
+  w2c_j1 = 216ull;
+  w2c_i0 = w2c_j0 != w2c_j1;
+  if (w2c_i0) {goto w2c_B1;}
+  w2c_B4:;
+  w2c_j0 = w2c_p0;
+  w2c_j1 = 4096ull;
+  w2c_j2 = 0ull;
+  w2c_j3 = w2c_p0;
+  w2c_i3 = !(w2c_j3);
+  w2c_j1 = w2c_i3 ? w2c_j1 : w2c_j2;
+  w2c_j0 += w2c_j1;
+  w2c_i0 = (u32)(w2c_j0);
+  w2c_j0 = i64_load(memory, (u64)(w2c_i0));
+  w2c_j1 = 5423823929002190187ull;
+  w2c_i0 = w2c_j0 != w2c_j1;
+  if (w2c_i0) {goto w2c_B1;}
+  w2c_B2:;
+  w2c_j0 = w2c_p3;
+  w2c_j1 = 183ull;
+  w2c_i0 = (u64)((s64)w2c_j0 > (s64)w2c_j1);
+  if (w2c_i0) {goto w2c_B6;}
+  w2c_j0 = w2c_p3;
+  w2c_j1 = 32ull;
+  w2c_i0 = w2c_j0 > w2c_j1;
+  if (w2c_i0) {goto w2c_B1;}
+  w2c_j0 = 1ull;
+  w2c_j1 = w2c_p3;
+  w2c_j0 <<= (w2c_j1 & 63);
+  w2c_j1 = 4311810048ull;
+  w2c_j0 &= w2c_j1;
+  w2c_j1 = 0ull;
+  w2c_i0 = w2c_j0 != w2c_j1;
+  if (w2c_i0) {goto w2c_B5;}
+  goto w2c_B1;
+  w2c_B6:;
+  w2c_j0 = w2c_p3;
+  w2c_j1 = 184ull;
+  w2c_i0 = w2c_j0 == w2c_j1;
+  if (w2c_i0) {goto w2c_B7;}
+  w2c_j0 = w2c_p3;
+  w2c_j1 = 248ull;
+  w2c_i0 = w2c_j0 == w2c_j1;
+  if (w2c_i0) {goto w2c_B7;}
+  w2c_j0 = w2c_p3;
+  w2c_j1 = 216ull;
+  w2c_i0 = w2c_j0 != w2c_j1;
+  if (w2c_i0) {goto w2c_B1;}
+  w2c_B7:;
+  w2c_j0 = w2c_p2;
+  w2c_j1 = 4096ull;
+  w2c_j2 = 0ull;
+  w2c_j3 = w2c_p2;
+  w2c_i3 = !(w2c_j3);
+  w2c_j1 = w2c_i3 ? w2c_j1 : w2c_j2;
+  w2c_j0 += w2c_j1;
+  w2c_i0 = (u32)(w2c_j0);
+  w2c_j0 = i64_load(memory, (u64)(w2c_i0));
+  w2c_j1 = 5423823929002190187ull;
+  w2c_i0 = w2c_j0 != w2c_j1;
+  if (w2c_i0) {goto w2c_B1;}
+  w2c_B5:;
+  w2c_i0 = 0u;
+  w2c_l4 = w2c_i0;
+  w2c_B1:;
+  w2c_i0 = w2c_l4;
+  goto w2c_Bfunc;
+  w2c_B0:;
+  UNREACHABLE;
+  w2c_Bfunc:;
+  return w2c_i0;
+}
+static u32 w2c_keywrap_check_kind(struct instance *instance, u64 w2c_p0, u64 w2c_p1, u64 w2c_p2, u64 w2c_p3) {
+  u32 w2c_l4 = 0;
+  const struct memory memory = instance->w2c_memory;
+  (void)memory;
+  u32 w2c_i0;
+  u64 w2c_j0, w2c_j1, w2c_j2, w2c_j3;
+  w2c_i0 = w2c_f0(instance);
+  w2c_i0 = !(w2c_i0);
+  if (w2c_i0) {goto w2c_B0;}
+  w2c_f2(instance);
+  UNREACHABLE;
+  w2c_B0:;
+  w2c_j0 = w2c_p0;
+  w2c_j1 = w2c_p1;
+  w2c_j2 = w2c_p2;
+  w2c_j3 = w2c_p3;
+  w2c_i0 = w2c_f39(instance, w2c_j0, w2c_j1, w2c_j2, w2c_j3);
+  w2c_l4 = w2c_i0;
+  w2c_f1(instance);
+  w2c_i0 = w2c_l4;
+  return w2c_i0;
+}
+static u32 w2c_f39(struct instance *instance, u64 w2c_p0, u64 w2c_p1, u64 w2c_p2, u64 w2c_p3) {
+  u32 w2c_l4 = 0;
+  const struct memory memory = instance->w2c_memory;
+  (void)memory;
+  u32 w2c_i0, w2c_i1, w2c_i2, w2c_i3;
+  u64 w2c_j0, w2c_j1, w2c_j2, w2c_j3;
+  w2c_j0 = instance->w2c_g0;
+  w2c_j1 = 16ull;
+  w2c_i0 = (u64)((s64)w2c_j0 < (s64)w2c_j1);
+  if (w2c_i0) {goto w2c_B0;}
+  w2c_i0 = 3u;
+  w2c_l4 = w2c_i0;
+  w2c_j0 = w2c_p1;
+  w2c_j1 = 183ull;
+  w2c_i0 = (u64)((s64)w2c_j0 > (s64)w2c_j1);
+  if (w2c_i0) {goto w2c_B3;}
+  w2c_j0 = w2c_p1;
+  w2c_j1 = 32ull;
+  w2c_i0 = w2c_j0 > w2c_j1;
+  if (w2c_i0) {goto w2c_B1;}
+  w2c_j0 = 1ull;
+  w2c_j1 = w2c_p1;
+  w2c_j0 <<= (w2c_j1 & 63);
+  w2c_j1 = 4311810048ull;
+  w2c_j0 &= w2c_j1;
+  w2c_j1 = 0ull;
+  w2c_i0 = w2c_j0 != w2c_j1;
+  if (w2c_i0) {goto w2c_B2;}
+  goto w2c_B1;
+  w2c_B3:;
+  w2c_j0 = w2c_p1;
+  w2c_j1 = 184ull;
+  w2c_i0 = w2c_j0 == w2c_j1;
+  if (w2c_i0) {goto w2c_B4;}
+  w2c_j0 = w2c_p1;
+  w2c_j1 = 248ull;
+  w2c_i0 = w2c_j0 == w2c_j1;
+  if (w2c_i0) {goto w2c_B4;}
+  w2c_j0 = w2c_p1;
+  w2c_j1 = 216ull;
+  w2c_i0 = w2c_j0 != w2c_j1;
+  if (w2c_i0) {goto w2c_B1;}
+  w2c_B4:;
+  w2c_j0 = w2c_p0;
+  w2c_j1 = 4096ull;
+  w2c_j2 = 0ull;
+  w2c_j3 = w2c_p0;
+  w2c_i3 = !(w2c_j3);
+  w2c_j1 = w2c_i3 ? w2c_j1 : w2c_j2;
+  w2c_j0 += w2c_j1;
+  w2c_i0 = (u32)(w2c_j0);
+  w2c_j0 = i64_load(memory, (u64)(w2c_i0));
+  w2c_j1 = 5423823929002190187ull;
+  w2c_i0 = w2c_j0 != w2c_j1;
+  if (w2c_i0) {goto w2c_B1;}
+  w2c_B2:;
+  w2c_i0 = 5u;
+  w2c_l4 = w2c_i0;
+  w2c_j0 = w2c_p3;
+  w2c_j1 = 7ull;
+  w2c_j0 &= w2c_j1;
+  w2c_j1 = 0ull;
+  w2c_i0 = w2c_j0 != w2c_j1;
+  if (w2c_i0) {goto w2c_B1;}
+  w2c_j0 = w2c_p3;
+  w2c_j1 = 18446744073709551600ull;
+  w2c_j0 += w2c_j1;
+  w2c_j1 = 1048568ull;
+  w2c_i0 = w2c_j0 > w2c_j1;
+  if (w2c_i0) {goto w2c_B1;}
+  w2c_i0 = 0u;
+  w2c_i1 = 4u;
+  w2c_j2 = w2c_p3;
+  w2c_j3 = 18446744073709551608ull;
+  w2c_j2 += w2c_j3;
+  w2c_j3 = w2c_p2;
+  w2c_i2 = w2c_j2 == w2c_j3;
+  w2c_i0 = w2c_i2 ? w2c_i0 : w2c_i1;
+  w2c_l4 = w2c_i0;
+  w2c_B1:;
+  w2c_i0 = w2c_l4;
+  goto w2c_Bfunc;
+  w2c_B0:;
+  UNREACHABLE;
+  w2c_Bfunc:;
+  return w2c_i0;
+}
+static u32 w2c_keywrap_check_kind_many(struct instance *instance, u64 w2c_p0, u64 w2c_p1, u64 w2c_p2, u64 w2c_p3, u64 w2c_p4, u64 w2c_p5, u64 w2c_p6) {
+  u32 w2c_l7 = 0;
+  const struct memory memory = instance->w2c_memory;
+  (void)memory;
+  u32 w2c_i0;
+  u64 w2c_j0, w2c_j1, w2c_j2, w2c_j3, w2c_j4, w2c_j5, w2c_j6;
+  w2c_i0 = w2c_f0(instance);
+  w2c_i0 = !(w2c_i0);
+  if (w2c_i0) {goto w2c_B0;}
+  w2c_f2(instance);
+  UNREACHABLE;
+  w2c_B0:;
+  w2c_j0 = w2c_p0;
+  w2c_j1 = w2c_p1;
+  w2c_j2 = w2c_p2;
+  w2c_j3 = w2c_p3;
+  w2c_j4 = w2c_p4;
+  w2c_j5 = w2c_p5;
+  w2c_j6 = w2c_p6;
+  w2c_i0 = w2c_f41(instance, w2c_j0, w2c_j1, w2c_j2, w2c_j3, w2c_j4, w2c_j5, w2c_j6);
+  w2c_l7 = w2c_i0;
+  w2c_f1(instance);
+  w2c_i0 = w2c_l7;
+  return w2c_i0;
+}
+static u32 w2c_f41(struct instance *instance, u64 w2c_p0, u64 w2c_p1, u64 w2c_p2, u64 w2c_p3, u64 w2c_p4, u64 w2c_p5, u64 w2c_p6) {
+  u32 w2c_l7 = 0;
+  const struct memory memory = instance->w2c_memory;
+  (void)memory;
+  u32 w2c_i0, w2c_i1, w2c_i2, w2c_i3;
+  u64 w2c_j0, w2c_j1, w2c_j2, w2c_j3;
+  w2c_j0 = instance->w2c_g0;
+  w2c_j1 = 16ull;
+  w2c_i0 = (u64)((s64)w2c_j0 < (s64)w2c_j1);
+  if (w2c_i0) {goto w2c_B0;}
+  w2c_i0 = 3u;
+  w2c_l7 = w2c_i0;
+  w2c_j0 = w2c_p1;
+  w2c_j1 = 183ull;
+  w2c_i0 = (u64)((s64)w2c_j0 > (s64)w2c_j1);
+  if (w2c_i0) {goto w2c_B3;}
+  w2c_j0 = w2c_p1;
+  w2c_j1 = 32ull;
+  w2c_i0 = w2c_j0 > w2c_j1;
+  if (w2c_i0) {goto w2c_B1;}
+  w2c_j0 = 1ull;
+  w2c_j1 = w2c_p1;
+  w2c_j0 <<= (w2c_j1 & 63);
+  w2c_j1 = 4311810048ull;
+  w2c_j0 &= w2c_j1;
+  w2c_j1 = 0ull;
+  w2c_i0 = w2c_j0 != w2c_j1;
+  if (w2c_i0) {goto w2c_B2;}
+  goto w2c_B1;
+  w2c_B3:;
+  w2c_j0 = w2c_p1;
+  w2c_j1 = 184ull;
+  w2c_i0 = w2c_j0 == w2c_j1;
+  if (w2c_i0) {goto w2c_B4;}
+  w2c_j0 = w2c_p1;
+  w2c_j1 = 248ull;
+  w2c_i0 = w2c_j0 == w2c_j1;
+  if (w2c_i0) {goto w2c_B4;}
+  w2c_j0 = w2c_p1;
+  w2c_j1 = 216ull;
+  w2c_i0 = w2c_j0 != w2c_j1;
+  if (w2c_i0) {goto w2c_B1;}
+  w2c_B4:;
+  w2c_j0 = w2c_p0;
+  w2c_j1 = 4096ull;
+  w2c_j2 = 0ull;
+  w2c_j3 = w2c_p0;
+  w2c_i3 = !(w2c_j3);
+  w2c_j1 = w2c_i3 ? w2c_j1 : w2c_j2;
+  w2c_j0 += w2c_j1;
+  w2c_i0 = (u32)(w2c_j0);
+  w2c_j0 = i64_load(memory, (u64)(w2c_i0));
+  w2c_j1 = 5423823929002190187ull;
+  w2c_i0 = w2c_j0 != w2c_j1;
+  if (w2c_i0) {goto w2c_B1;}
+  w2c_B2:;
+  w2c_i0 = 4u;
+  w2c_l7 = w2c_i0;
+  w2c_j0 = w2c_p6;
+  w2c_i0 = !(w2c_j0);
+  if (w2c_i0) {goto w2c_B1;}
+  w2c_j0 = w2c_p2;
+  w2c_j1 = w2c_p2;
+  w2c_j2 = w2c_p6;
+  w2c_j1 = DIV_U(w2c_j1, w2c_j2);
+  w2c_p1 = w2c_j1;
+  w2c_j2 = w2c_p6;
+  w2c_j1 *= w2c_j2;
+  w2c_j0 -= w2c_j1;
+  w2c_j1 = 0ull;
+  w2c_i0 = w2c_j0 != w2c_j1;
+  if (w2c_i0) {goto w2c_B1;}
+  w2c_i0 = 0u;
+  w2c_i1 = 4u;
+  w2c_j2 = w2c_p1;
+  w2c_j3 = 18446744073709551600ull;
+  w2c_j2 += w2c_j3;
+  w2c_j3 = 1048569ull;
+  w2c_i2 = w2c_j2 < w2c_j3;
+  w2c_i0 = w2c_i2 ? w2c_i0 : w2c_i1;
+  w2c_i1 = 4u;
+  w2c_j2 = w2c_p1;
+  w2c_j3 = 7ull;
+  w2c_j2 &= w2c_j3;
+  w2c_i2 = !(w2c_j2);
+  w2c_i0 = w2c_i2 ? w2c_i0 : w2c_i1;
+  w2c_i1 = 4u;
+  w2c_j2 = w2c_p1;
+  w2c_j3 = 18446744073709551608ull;
+  w2c_j2 += w2c_j3;
+  w2c_j3 = w2c_p3;
+  w2c_i2 = w2c_j2 == w2c_j3;
+  w2c_i0 = w2c_i2 ? w2c_i0 : w2c_i1;
+  w2c_i1 = 4u;
+  w2c_j2 = w2c_p4;
+  w2c_j3 = w2c_p6;
+  w2c_i2 = w2c_j2 == w2c_j3;
+  w2c_i0 = w2c_i2 ? w2c_i0 : w2c_i1;
+  w2c_i1 = 4u;
+  w2c_j2 = w2c_p5;
+  w2c_j3 = w2c_p6;
+  w2c_i2 = w2c_j2 == w2c_j3;
+  w2c_i0 = w2c_i2 ? w2c_i0 : w2c_i1;
+  w2c_l7 = w2c_i0;
+  w2c_B1:;
+  w2c_i0 = w2c_l7;
+  goto w2c_Bfunc;
+  w2c_B0:;
+  UNREACHABLE;
+  w2c_Bfunc:;
+  return w2c_i0;
+}
+static u32 w2c_keywrap_check_padded(struct instance *instance, u64 w2c_p0, u64 w2c_p1, u64 w2c_p2, u64 w2c_p3) {
+  u32 w2c_l4 = 0;
+  const struct memory memory = instance->w2c_memory;
+  (void)memory;
+  u32 w2c_i0;
+  u64 w2c_j0, w2c_j1, w2c_j2, w2c_j3;
+  w2c_i0 = w2c_f0(instance);
+  w2c_i0 = !(w2c_i0);
+  if (w2c_i0) {goto w2c_B0;}
+  w2c_f2(instance);
+  UNREACHABLE;
+  w2c_B0:;
+  w2c_j0 = w2c_p0;
+  w2c_j1 = w2c_p1;
+  w2c_j2 = w2c_p2;
+  w2c_j3 = w2c_p3;
+  w2c_i0 = w2c_f43(instance, w2c_j0, w2c_j1, w2c_j2, w2c_j3);
+  w2c_l4 = w2c_i0;
+  w2c_f1(instance);
+  w2c_i0 = w2c_l4;
+  return w2c_i0;
+}
+static u32 w2c_f43(struct instance *instance, u64 w2c_p0, u64 w2c_p1, u64 w2c_p2, u64 w2c_p3) {
+  u32 w2c_l4 = 0;
   const struct memory memory = instance->w2c_memory;
   (void)memory;
   u32 w2c_i0, w2c_i1, w2c_i2, w2c_i3;
@@ -10846,118 +11475,79 @@ static u32 w2c_f37(struct instance *instance, u64 w2c_p0, u64 w2c_p1) {
   w2c_i0 = (u64)((s64)w2c_j0 < (s64)w2c_j1);
   if (w2c_i0) {goto w2c_B0;}
   w2c_i0 = 3u;
-  w2c_l2 = w2c_i0;
-  w2c_j0 = w2c_p0;
+  w2c_l4 = w2c_i0;
+  w2c_j0 = w2c_p1;
+  w2c_j1 = 183ull;
+  w2c_i0 = (u64)((s64)w2c_j0 > (s64)w2c_j1);
+  if (w2c_i0) {goto w2c_B3;}
+  w2c_j0 = w2c_p1;
   w2c_j1 = 32ull;
   w2c_i0 = w2c_j0 > w2c_j1;
   if (w2c_i0) {goto w2c_B1;}
   w2c_j0 = 1ull;
-  w2c_j1 = w2c_p0;
-  w2c_j0 <<= (w2c_j1 & 63);
-  w2c_j1 = 4311810048ull;
-  w2c_j0 &= w2c_j1;
-  w2c_j1 = 0ull;
-  w2c_i0 = w2c_j0 == w2c_j1;
-  if (w2c_i0) {goto w2c_B1;}
-  w2c_i0 = 0u;
-  w2c_i1 = 0u;
-  w2c_i2 = 3u;
-  w2c_j3 = w2c_p1;
-  w2c_j4 = 18446744073709551607ull;
-  w2c_j3 &= w2c_j4;
-  w2c_j4 = 16ull;
-  w2c_i3 = w2c_j3 == w2c_j4;
-  w2c_i1 = w2c_i3 ? w2c_i1 : w2c_i2;
-  w2c_j2 = w2c_p1;
-  w2c_j3 = 32ull;
-  w2c_i2 = w2c_j2 == w2c_j3;
-  w2c_i0 = w2c_i2 ? w2c_i0 : w2c_i1;
-  w2c_l2 = w2c_i0;
-  w2c_B1:;
-  w2c_i0 = w2c_l2;
-  goto w2c_Bfunc;
-  w2c_B0:;
-  UNREACHABLE;
-  w2c_Bfunc:;
-  return w2c_i0;
-}
-static u32 w2c_keywrap_check_kind(struct instance *instance, u64 w2c_p0, u64 w2c_p1, u64 w2c_p2) {
-  u32 w2c_l3 = 0;
-  const struct memory memory = instance->w2c_memory;
-  (void)memory;
-  u32 w2c_i0;
-  u64 w2c_j0, w2c_j1, w2c_j2;
-  w2c_i0 = w2c_f0(instance);
-  w2c_i0 = !(w2c_i0);
-  if (w2c_i0) {goto w2c_B0;}
-  w2c_f2(instance);
-  UNREACHABLE;
-  w2c_B0:;
-  w2c_j0 = w2c_p0;
   w2c_j1 = w2c_p1;
-  w2c_j2 = w2c_p2;
-  w2c_i0 = w2c_f39(instance, w2c_j0, w2c_j1, w2c_j2);
-  w2c_l3 = w2c_i0;
-  w2c_f1(instance);
-  w2c_i0 = w2c_l3;
-  return w2c_i0;
-}
-static u32 w2c_f39(struct instance *instance, u64 w2c_p0, u64 w2c_p1, u64 w2c_p2) {
-  u32 w2c_l3 = 0;
-  const struct memory memory = instance->w2c_memory;
-  (void)memory;
-  u32 w2c_i0, w2c_i1, w2c_i2;
-  u64 w2c_j0, w2c_j1, w2c_j2, w2c_j3;
-  w2c_j0 = instance->w2c_g0;
-  w2c_j1 = 16ull;
-  w2c_i0 = (u64)((s64)w2c_j0 < (s64)w2c_j1);
-  if (w2c_i0) {goto w2c_B0;}
-  w2c_i0 = 3u;
-  w2c_l3 = w2c_i0;
-  w2c_j0 = w2c_p0;
-  w2c_j1 = 32ull;
-  w2c_i0 = w2c_j0 > w2c_j1;
-  if (w2c_i0) {goto w2c_B1;}
-  w2c_j0 = 1ull;
-  w2c_j1 = w2c_p0;
   w2c_j0 <<= (w2c_j1 & 63);
   w2c_j1 = 4311810048ull;
-  w2c_j0 &= w2c_j1;
-  w2c_j1 = 0ull;
-  w2c_i0 = w2c_j0 == w2c_j1;
-  if (w2c_i0) {goto w2c_B1;}
-  w2c_i0 = 5u;
-  w2c_l3 = w2c_i0;
-  w2c_j0 = w2c_p2;
-  w2c_j1 = 7ull;
   w2c_j0 &= w2c_j1;
   w2c_j1 = 0ull;
   w2c_i0 = w2c_j0 != w2c_j1;
+  if (w2c_i0) {goto w2c_B2;}
+  goto w2c_B1;
+  w2c_B3:;
+  w2c_j0 = w2c_p1;
+  w2c_j1 = 184ull;
+  w2c_i0 = w2c_j0 == w2c_j1;
+  if (w2c_i0) {goto w2c_B4;}
+  w2c_j0 = w2c_p1;
+  w2c_j1 = 248ull;
+  w2c_i0 = w2c_j0 == w2c_j1;
+  if (w2c_i0) {goto w2c_B4;}
+  w2c_j0 = w2c_p1;
+  w2c_j1 = 216ull;
+  w2c_i0 = w2c_j0 != w2c_j1;
   if (w2c_i0) {goto w2c_B1;}
-  w2c_j0 = w2c_p2;
-  w2c_j1 = 18446744073709551600ull;
+  w2c_B4:;
+  w2c_j0 = w2c_p0;
+  w2c_j1 = 4096ull;
+  w2c_j2 = 0ull;
+  w2c_j3 = w2c_p0;
+  w2c_i3 = !(w2c_j3);
+  w2c_j1 = w2c_i3 ? w2c_j1 : w2c_j2;
   w2c_j0 += w2c_j1;
-  w2c_j1 = 1048568ull;
+  w2c_i0 = (u32)(w2c_j0);
+  w2c_j0 = i64_load(memory, (u64)(w2c_i0));
+  w2c_j1 = 5423823929002190187ull;
+  w2c_i0 = w2c_j0 != w2c_j1;
+  if (w2c_i0) {goto w2c_B1;}
+  w2c_B2:;
+  w2c_i0 = 4u;
+  w2c_l4 = w2c_i0;
+  w2c_j0 = w2c_p2;
+  w2c_j1 = 18446744073709551615ull;
+  w2c_j0 += w2c_j1;
+  w2c_j1 = 1048575ull;
   w2c_i0 = w2c_j0 > w2c_j1;
   if (w2c_i0) {goto w2c_B1;}
   w2c_i0 = 0u;
   w2c_i1 = 4u;
-  w2c_j2 = w2c_p2;
-  w2c_j3 = 18446744073709551608ull;
-  w2c_j2 += w2c_j3;
-  w2c_j3 = w2c_p1;
+  w2c_j2 = w2c_p3;
+  w2c_j3 = w2c_p2;
+  w2c_j4 = 15ull;
+  w2c_j3 += w2c_j4;
+  w2c_j4 = 4194296ull;
+  w2c_j3 &= w2c_j4;
   w2c_i2 = w2c_j2 == w2c_j3;
   w2c_i0 = w2c_i2 ? w2c_i0 : w2c_i1;
-  w2c_l3 = w2c_i0;
+  w2c_l4 = w2c_i0;
   w2c_B1:;
-  w2c_i0 = w2c_l3;
+  w2c_i0 = w2c_l4;
   goto w2c_Bfunc;
   w2c_B0:;
   UNREACHABLE;
   w2c_Bfunc:;
   return w2c_i0;
 }
-static u32 w2c_keywrap_check_kind_many(struct instance *instance, u64 w2c_p0, u64 w2c_p1, u64 w2c_p2, u64 w2c_p3, u64 w2c_p4, u64 w2c_p5) {
+static u32 w2c_keywrap_check_plain(struct instance *instance, u64 w2c_p0, u64 w2c_p1, u64 w2c_p2, u64 w2c_p3, u64 w2c_p4, u64 w2c_p5) {
   u32 w2c_l6 = 0;
   const struct memory memory = instance->w2c_memory;
   (void)memory;
@@ -10975,189 +11565,14 @@ static u32 w2c_keywrap_check_kind_many(struct instance *instance, u64 w2c_p0, u6
   w2c_j3 = w2c_p3;
   w2c_j4 = w2c_p4;
   w2c_j5 = w2c_p5;
-  w2c_i0 = w2c_f41(instance, w2c_j0, w2c_j1, w2c_j2, w2c_j3, w2c_j4, w2c_j5);
+  w2c_i0 = w2c_f45(instance, w2c_j0, w2c_j1, w2c_j2, w2c_j3, w2c_j4, w2c_j5);
   w2c_l6 = w2c_i0;
   w2c_f1(instance);
   w2c_i0 = w2c_l6;
   return w2c_i0;
 }
-static u32 w2c_f41(struct instance *instance, u64 w2c_p0, u64 w2c_p1, u64 w2c_p2, u64 w2c_p3, u64 w2c_p4, u64 w2c_p5) {
+static u32 w2c_f45(struct instance *instance, u64 w2c_p0, u64 w2c_p1, u64 w2c_p2, u64 w2c_p3, u64 w2c_p4, u64 w2c_p5) {
   u32 w2c_l6 = 0;
-  const struct memory memory = instance->w2c_memory;
-  (void)memory;
-  u32 w2c_i0, w2c_i1, w2c_i2;
-  u64 w2c_j0, w2c_j1, w2c_j2, w2c_j3;
-  w2c_j0 = instance->w2c_g0;
-  w2c_j1 = 16ull;
-  w2c_i0 = (u64)((s64)w2c_j0 < (s64)w2c_j1);
-  if (w2c_i0) {goto w2c_B0;}
-  w2c_i0 = 3u;
-  w2c_l6 = w2c_i0;
-  w2c_j0 = w2c_p0;
-  w2c_j1 = 32ull;
-  w2c_i0 = w2c_j0 > w2c_j1;
-  if (w2c_i0) {goto w2c_B1;}
-  w2c_j0 = 1ull;
-  w2c_j1 = w2c_p0;
-  w2c_j0 <<= (w2c_j1 & 63);
-  w2c_j1 = 4311810048ull;
-  w2c_j0 &= w2c_j1;
-  w2c_j1 = 0ull;
-  w2c_i0 = w2c_j0 == w2c_j1;
-  if (w2c_i0) {goto w2c_B1;}
-  w2c_i0 = 4u;
-  w2c_l6 = w2c_i0;
-  w2c_j0 = w2c_p5;
-  w2c_i0 = !(w2c_j0);
-  if (w2c_i0) {goto w2c_B1;}
-  w2c_j0 = w2c_p1;
-  w2c_j1 = w2c_p1;
-  w2c_j2 = w2c_p5;
-  w2c_j1 = DIV_U(w2c_j1, w2c_j2);
-  w2c_p0 = w2c_j1;
-  w2c_j2 = w2c_p5;
-  w2c_j1 *= w2c_j2;
-  w2c_j0 -= w2c_j1;
-  w2c_j1 = 0ull;
-  w2c_i0 = w2c_j0 != w2c_j1;
-  if (w2c_i0) {goto w2c_B1;}
-  w2c_i0 = 0u;
-  w2c_i1 = 4u;
-  w2c_j2 = w2c_p0;
-  w2c_j3 = 18446744073709551600ull;
-  w2c_j2 += w2c_j3;
-  w2c_j3 = 1048569ull;
-  w2c_i2 = w2c_j2 < w2c_j3;
-  w2c_i0 = w2c_i2 ? w2c_i0 : w2c_i1;
-  w2c_i1 = 4u;
-  w2c_j2 = w2c_p0;
-  w2c_j3 = 7ull;
-  w2c_j2 &= w2c_j3;
-  w2c_i2 = !(w2c_j2);
-  w2c_i0 = w2c_i2 ? w2c_i0 : w2c_i1;
-  w2c_i1 = 4u;
-  w2c_j2 = w2c_p0;
-  w2c_j3 = 18446744073709551608ull;
-  w2c_j2 += w2c_j3;
-  w2c_j3 = w2c_p2;
-  w2c_i2 = w2c_j2 == w2c_j3;
-  w2c_i0 = w2c_i2 ? w2c_i0 : w2c_i1;
-  w2c_i1 = 4u;
-  w2c_j2 = w2c_p3;
-  w2c_j3 = w2c_p5;
-  w2c_i2 = w2c_j2 == w2c_j3;
-  w2c_i0 = w2c_i2 ? w2c_i0 : w2c_i1;
-  w2c_i1 = 4u;
-  w2c_j2 = w2c_p4;
-  w2c_j3 = w2c_p5;
-  w2c_i2 = w2c_j2 == w2c_j3;
-  w2c_i0 = w2c_i2 ? w2c_i0 : w2c_i1;
-  w2c_l6 = w2c_i0;
-  w2c_B1:;
-  w2c_i0 = w2c_l6;
-  goto w2c_Bfunc;
-  w2c_B0:;
-  UNREACHABLE;
-  w2c_Bfunc:;
-  return w2c_i0;
-}
-static u32 w2c_keywrap_check_padded(struct instance *instance, u64 w2c_p0, u64 w2c_p1, u64 w2c_p2) {
-  u32 w2c_l3 = 0;
-  const struct memory memory = instance->w2c_memory;
-  (void)memory;
-  u32 w2c_i0;
-  u64 w2c_j0, w2c_j1, w2c_j2;
-  w2c_i0 = w2c_f0(instance);
-  w2c_i0 = !(w2c_i0);
-  if (w2c_i0) {goto w2c_B0;}
-  w2c_f2(instance);
-  UNREACHABLE;
-  w2c_B0:;
-  w2c_j0 = w2c_p0;
-  w2c_j1 = w2c_p1;
-  w2c_j2 = w2c_p2;
-  w2c_i0 = w2c_f43(instance, w2c_j0, w2c_j1, w2c_j2);
-  w2c_l3 = w2c_i0;
-  w2c_f1(instance);
-  w2c_i0 = w2c_l3;
-  return w2c_i0;
-}
-static u32 w2c_f43(struct instance *instance, u64 w2c_p0, u64 w2c_p1, u64 w2c_p2) {
-  u32 w2c_l3 = 0;
-  const struct memory memory = instance->w2c_memory;
-  (void)memory;
-  u32 w2c_i0, w2c_i1, w2c_i2;
-  u64 w2c_j0, w2c_j1, w2c_j2, w2c_j3, w2c_j4;
-  w2c_j0 = instance->w2c_g0;
-  w2c_j1 = 16ull;
-  w2c_i0 = (u64)((s64)w2c_j0 < (s64)w2c_j1);
-  if (w2c_i0) {goto w2c_B0;}
-  w2c_i0 = 3u;
-  w2c_l3 = w2c_i0;
-  w2c_j0 = w2c_p0;
-  w2c_j1 = 32ull;
-  w2c_i0 = w2c_j0 > w2c_j1;
-  if (w2c_i0) {goto w2c_B1;}
-  w2c_j0 = 1ull;
-  w2c_j1 = w2c_p0;
-  w2c_j0 <<= (w2c_j1 & 63);
-  w2c_j1 = 4311810048ull;
-  w2c_j0 &= w2c_j1;
-  w2c_j1 = 0ull;
-  w2c_i0 = w2c_j0 == w2c_j1;
-  if (w2c_i0) {goto w2c_B1;}
-  w2c_i0 = 4u;
-  w2c_l3 = w2c_i0;
-  w2c_j0 = w2c_p1;
-  w2c_j1 = 18446744073709551615ull;
-  w2c_j0 += w2c_j1;
-  w2c_j1 = 1048575ull;
-  w2c_i0 = w2c_j0 > w2c_j1;
-  if (w2c_i0) {goto w2c_B1;}
-  w2c_i0 = 0u;
-  w2c_i1 = 4u;
-  w2c_j2 = w2c_p2;
-  w2c_j3 = w2c_p1;
-  w2c_j4 = 15ull;
-  w2c_j3 += w2c_j4;
-  w2c_j4 = 4194296ull;
-  w2c_j3 &= w2c_j4;
-  w2c_i2 = w2c_j2 == w2c_j3;
-  w2c_i0 = w2c_i2 ? w2c_i0 : w2c_i1;
-  w2c_l3 = w2c_i0;
-  w2c_B1:;
-  w2c_i0 = w2c_l3;
-  goto w2c_Bfunc;
-  w2c_B0:;
-  UNREACHABLE;
-  w2c_Bfunc:;
-  return w2c_i0;
-}
-static u32 w2c_keywrap_check_plain(struct instance *instance, u64 w2c_p0, u64 w2c_p1, u64 w2c_p2, u64 w2c_p3, u64 w2c_p4) {
-  u32 w2c_l5 = 0;
-  const struct memory memory = instance->w2c_memory;
-  (void)memory;
-  u32 w2c_i0;
-  u64 w2c_j0, w2c_j1, w2c_j2, w2c_j3, w2c_j4;
-  w2c_i0 = w2c_f0(instance);
-  w2c_i0 = !(w2c_i0);
-  if (w2c_i0) {goto w2c_B0;}
-  w2c_f2(instance);
-  UNREACHABLE;
-  w2c_B0:;
-  w2c_j0 = w2c_p0;
-  w2c_j1 = w2c_p1;
-  w2c_j2 = w2c_p2;
-  w2c_j3 = w2c_p3;
-  w2c_j4 = w2c_p4;
-  w2c_i0 = w2c_f45(instance, w2c_j0, w2c_j1, w2c_j2, w2c_j3, w2c_j4);
-  w2c_l5 = w2c_i0;
-  w2c_f1(instance);
-  w2c_i0 = w2c_l5;
-  return w2c_i0;
-}
-static u32 w2c_f45(struct instance *instance, u64 w2c_p0, u64 w2c_p1, u64 w2c_p2, u64 w2c_p3, u64 w2c_p4) {
-  u32 w2c_l5 = 0;
   const struct memory memory = instance->w2c_memory;
   (void)memory;
   u32 w2c_i0, w2c_i1, w2c_i2, w2c_i3;
@@ -11167,15 +11582,15 @@ static u32 w2c_f45(struct instance *instance, u64 w2c_p0, u64 w2c_p1, u64 w2c_p2
   w2c_i0 = (u64)((s64)w2c_j0 < (s64)w2c_j1);
   if (w2c_i0) {goto w2c_B0;}
   w2c_i0 = 2u;
-  w2c_l5 = w2c_i0;
-  w2c_j0 = w2c_p2;
+  w2c_l6 = w2c_i0;
+  w2c_j0 = w2c_p3;
   w2c_j1 = 8ull;
   w2c_i0 = w2c_j0 != w2c_j1;
   if (w2c_i0) {goto w2c_B1;}
-  w2c_j0 = w2c_p1;
+  w2c_j0 = w2c_p2;
   w2c_j1 = 4096ull;
   w2c_j2 = 0ull;
-  w2c_j3 = w2c_p1;
+  w2c_j3 = w2c_p2;
   w2c_i3 = !(w2c_j3);
   w2c_j1 = w2c_i3 ? w2c_j1 : w2c_j2;
   w2c_j0 += w2c_j1;
@@ -11185,96 +11600,11 @@ static u32 w2c_f45(struct instance *instance, u64 w2c_p0, u64 w2c_p1, u64 w2c_p2
   w2c_i0 = w2c_i0 == w2c_i1;
   if (w2c_i0) {goto w2c_B1;}
   w2c_i0 = 3u;
-  w2c_l5 = w2c_i0;
-  w2c_j0 = w2c_p0;
-  w2c_j1 = 32ull;
-  w2c_i0 = w2c_j0 > w2c_j1;
-  if (w2c_i0) {goto w2c_B1;}
-  w2c_j0 = 1ull;
-  w2c_j1 = w2c_p0;
-  w2c_j0 <<= (w2c_j1 & 63);
-  w2c_j1 = 4311810048ull;
-  w2c_j0 &= w2c_j1;
-  w2c_j1 = 0ull;
-  w2c_i0 = w2c_j0 == w2c_j1;
-  if (w2c_i0) {goto w2c_B1;}
-  w2c_i0 = 4u;
-  w2c_l5 = w2c_i0;
-  w2c_j0 = w2c_p3;
-  w2c_j1 = 7ull;
-  w2c_j0 &= w2c_j1;
-  w2c_j1 = 0ull;
-  w2c_i0 = w2c_j0 != w2c_j1;
-  if (w2c_i0) {goto w2c_B1;}
-  w2c_j0 = w2c_p3;
-  w2c_j1 = 18446744073709551600ull;
-  w2c_j0 += w2c_j1;
-  w2c_j1 = 1048560ull;
-  w2c_i0 = w2c_j0 > w2c_j1;
-  if (w2c_i0) {goto w2c_B1;}
-  w2c_i0 = 0u;
-  w2c_i1 = 4u;
-  w2c_j2 = w2c_p4;
-  w2c_j3 = w2c_p3;
-  w2c_j4 = 15ull;
-  w2c_j3 += w2c_j4;
-  w2c_j4 = 4194296ull;
-  w2c_j3 &= w2c_j4;
-  w2c_i2 = w2c_j2 == w2c_j3;
-  w2c_i0 = w2c_i2 ? w2c_i0 : w2c_i1;
-  w2c_l5 = w2c_i0;
-  w2c_B1:;
-  w2c_i0 = w2c_l5;
-  goto w2c_Bfunc;
-  w2c_B0:;
-  UNREACHABLE;
-  w2c_Bfunc:;
-  return w2c_i0;
-}
-static u32 w2c_keywrap_check_rewrap_in_place(struct instance *instance, u64 w2c_p0, u64 w2c_p1, u32 w2c_p2) {
-  const struct memory memory = instance->w2c_memory;
-  (void)memory;
-  u32 w2c_i0, w2c_i2;
-  u64 w2c_j0, w2c_j1;
-  w2c_i0 = w2c_f0(instance);
-  w2c_i0 = !(w2c_i0);
-  if (w2c_i0) {goto w2c_B0;}
-  w2c_f2(instance);
-  UNREACHABLE;
-  w2c_B0:;
-  w2c_j0 = w2c_p0;
-  w2c_j1 = w2c_p1;
-  w2c_i2 = w2c_p2;
-  w2c_i0 = w2c_f47(instance, w2c_j0, w2c_j1, w2c_i2);
-  w2c_p2 = w2c_i0;
-  w2c_f1(instance);
-  w2c_i0 = w2c_p2;
-  return w2c_i0;
-}
-static u32 w2c_f47(struct instance *instance, u64 w2c_p0, u64 w2c_p1, u32 w2c_p2) {
-  u32 w2c_l3 = 0;
-  const struct memory memory = instance->w2c_memory;
-  (void)memory;
-  u32 w2c_i0, w2c_i1, w2c_i2, w2c_i3;
-  u64 w2c_j0, w2c_j1;
-  w2c_j0 = instance->w2c_g0;
-  w2c_j1 = 16ull;
-  w2c_i0 = (u64)((s64)w2c_j0 < (s64)w2c_j1);
-  if (w2c_i0) {goto w2c_B0;}
-  w2c_i0 = 3u;
-  w2c_l3 = w2c_i0;
-  w2c_j0 = w2c_p0;
-  w2c_j1 = 32ull;
-  w2c_i0 = w2c_j0 > w2c_j1;
-  if (w2c_i0) {goto w2c_B1;}
-  w2c_j0 = 1ull;
-  w2c_j1 = w2c_p0;
-  w2c_j0 <<= (w2c_j1 & 63);
-  w2c_j1 = 4311810048ull;
-  w2c_j0 &= w2c_j1;
-  w2c_j1 = 0ull;
-  w2c_i0 = w2c_j0 == w2c_j1;
-  if (w2c_i0) {goto w2c_B1;}
+  w2c_l6 = w2c_i0;
+  w2c_j0 = w2c_p1;
+  w2c_j1 = 183ull;
+  w2c_i0 = (u64)((s64)w2c_j0 > (s64)w2c_j1);
+  if (w2c_i0) {goto w2c_B3;}
   w2c_j0 = w2c_p1;
   w2c_j1 = 32ull;
   w2c_i0 = w2c_j0 > w2c_j1;
@@ -11285,28 +11615,530 @@ static u32 w2c_f47(struct instance *instance, u64 w2c_p0, u64 w2c_p1, u32 w2c_p2
   w2c_j1 = 4311810048ull;
   w2c_j0 &= w2c_j1;
   w2c_j1 = 0ull;
+  w2c_i0 = w2c_j0 != w2c_j1;
+  if (w2c_i0) {goto w2c_B2;}
+  goto w2c_B1;
+  w2c_B3:;
+  w2c_j0 = w2c_p1;
+  w2c_j1 = 184ull;
   w2c_i0 = w2c_j0 == w2c_j1;
+  if (w2c_i0) {goto w2c_B4;}
+  w2c_j0 = w2c_p1;
+  w2c_j1 = 248ull;
+  w2c_i0 = w2c_j0 == w2c_j1;
+  if (w2c_i0) {goto w2c_B4;}
+  w2c_j0 = w2c_p1;
+  w2c_j1 = 216ull;
+  w2c_i0 = w2c_j0 != w2c_j1;
+  if (w2c_i0) {goto w2c_B1;}
+  w2c_B4:;
+  w2c_j0 = w2c_p0;
+  w2c_j1 = 4096ull;
+  w2c_j2 = 0ull;
+  w2c_j3 = w2c_p0;
+  w2c_i3 = !(w2c_j3);
+  w2c_j1 = w2c_i3 ? w2c_j1 : w2c_j2;
+  w2c_j0 += w2c_j1;
+  w2c_i0 = (u32)(w2c_j0);
+  w2c_j0 = i64_load(memory, (u64)(w2c_i0));
+  w2c_j1 = 5423823929002190187ull;
+  w2c_i0 = w2c_j0 != w2c_j1;
+  if (w2c_i0) {goto w2c_B1;}
+  w2c_B2:;
+  w2c_i0 = 4u;
+  w2c_l6 = w2c_i0;
+  w2c_j0 = w2c_p4;
+  w2c_j1 = 7ull;
+  w2c_j0 &= w2c_j1;
+  w2c_j1 = 0ull;
+  w2c_i0 = w2c_j0 != w2c_j1;
+  if (w2c_i0) {goto w2c_B1;}
+  w2c_j0 = w2c_p4;
+  w2c_j1 = 18446744073709551600ull;
+  w2c_j0 += w2c_j1;
+  w2c_j1 = 1048560ull;
+  w2c_i0 = w2c_j0 > w2c_j1;
   if (w2c_i0) {goto w2c_B1;}
   w2c_i0 = 0u;
   w2c_i1 = 4u;
-  w2c_i2 = w2c_p2;
-  w2c_i3 = 4u;
-  w2c_i2 = w2c_i2 < w2c_i3;
+  w2c_j2 = w2c_p5;
+  w2c_j3 = w2c_p4;
+  w2c_j4 = 15ull;
+  w2c_j3 += w2c_j4;
+  w2c_j4 = 4194296ull;
+  w2c_j3 &= w2c_j4;
+  w2c_i2 = w2c_j2 == w2c_j3;
   w2c_i0 = w2c_i2 ? w2c_i0 : w2c_i1;
-  w2c_l3 = w2c_i0;
+  w2c_l6 = w2c_i0;
   w2c_B1:;
-  w2c_i0 = w2c_l3;
+  w2c_i0 = w2c_l6;
   goto w2c_Bfunc;
   w2c_B0:;
   UNREACHABLE;
   w2c_Bfunc:;
   return w2c_i0;
 }
-static u32 w2c_keywrap_check_rewrap_many(struct instance *instance, u64 w2c_p0, u64 w2c_p1, u64 w2c_p2, u32 w2c_p3, u64 w2c_p4) {
+static u32 w2c_keywrap_check_rewrap_in_place(struct instance *instance, u64 w2c_p0, u64 w2c_p1, u64 w2c_p2, u64 w2c_p3, u32 w2c_p4) {
+  const struct memory memory = instance->w2c_memory;
+  (void)memory;
+  u32 w2c_i0, w2c_i4;
+  u64 w2c_j0, w2c_j1, w2c_j2, w2c_j3;
+  w2c_i0 = w2c_f0(instance);
+  w2c_i0 = !(w2c_i0);
+  if (w2c_i0) {goto w2c_B0;}
+  w2c_f2(instance);
+  UNREACHABLE;
+  w2c_B0:;
+  w2c_j0 = w2c_p0;
+  w2c_j1 = w2c_p1;
+  w2c_j2 = w2c_p2;
+  w2c_j3 = w2c_p3;
+  w2c_i4 = w2c_p4;
+  w2c_i0 = w2c_f47(instance, w2c_j0, w2c_j1, w2c_j2, w2c_j3, w2c_i4);
+  w2c_p4 = w2c_i0;
+  w2c_f1(instance);
+  w2c_i0 = w2c_p4;
+  return w2c_i0;
+}
+static u32 w2c_f47(struct instance *instance, u64 w2c_p0, u64 w2c_p1, u64 w2c_p2, u64 w2c_p3, u32 w2c_p4) {
+  u32 w2c_l5 = 0;
+  const struct memory memory = instance->w2c_memory;
+  (void)memory;
+  u32 w2c_i0, w2c_i1, w2c_i2, w2c_i3;
+  u64 w2c_j0, w2c_j1, w2c_j2, w2c_j3;
+  w2c_j0 = instance->w2c_g0;
+  w2c_j1 = 16ull;
+  w2c_i0 = (u64)((s64)w2c_j0 < (s64)w2c_j1);
+  if (w2c_i0) {goto w2c_B0;}
+  w2c_i0 = 3u;
+  w2c_l5 = w2c_i0;
+  w2c_j0 = w2c_p1;
+  w2c_j1 = 183ull;
+  w2c_i0 = (u64)((s64)w2c_j0 > (s64)w2c_j1);
+  if (w2c_i0) {goto w2c_B3;}
+  w2c_j0 = w2c_p1;
+  w2c_j1 = 32ull;
+  w2c_i0 = w2c_j0 > w2c_j1;
+  if (w2c_i0) {goto w2c_B1;}
+  w2c_j0 = 1ull;
+  w2c_j1 = w2c_p1;
+  w2c_j0 <<= (w2c_j1 & 63);
+  w2c_j1 = 4311810048ull;
+  w2c_j0 &= w2c_j1;
+  w2c_j1 = 0ull;
+  w2c_i0 = w2c_j0 != w2c_j1;
+  if (w2c_i0) {goto w2c_B2;}
+  goto w2c_B1;
+  w2c_B3:;
+  w2c_j0 = w2c_p1;
+  w2c_j1 = 184ull;
+  w2c_i0 = w2c_j0 == w2c_j1;
+  if (w2c_i0) {goto w2c_B4;}
+  w2c_j0 = w2c_p1;
+  w2c_j1 = 248ull;
+  w2c_i0 = w2c_j0 == w2c_j1;
+  if (w2c_i0) {goto w2c_B4;}
+  w2c_j0 = w2c_p1;
+  w2c_j1 = 216ull;
+  w2c_i0 = w2c_j0 != w2c_j1;
+  if (w2c_i0) {goto w2c_B1;}
+  w2c_B4:;
+  w2c_j0 = w2c_p0;
+  w2c_j1 = 4096ull;
+  w2c_j2 = 0ull;
+  w2c_j3 = w2c_p0;
+  w2c_i3 = !(w2c_j3);
+  w2c_j1 = w2c_i3 ? w2c_j1 : w2c_j2;
+  w2c_j0 += w2c_j1;
+  w2c_i0 = (u32)(w2c_j0);
+  w2c_j0 = i64_load(memory, (u64)(w2c_i0));
+  w2c_j1 = 5423823929002190187ull;
+  w2c_i0 = w2c_j0 != w2c_j1;
+  if (w2c_i0) {goto w2c_B1;}
+  w2c_B2:;
+  w2c_j0 = w2c_p3;
+  w2c_j1 = 183ull;
+  w2c_i0 = (u64)((s64)w2c_j0 > (s64)w2c_j1);
+  if (w2c_i0) {goto w2c_B6;}
+  w2c_j0 = w2c_p3;
+  w2c_j1 = 32ull;
+  w2c_i0 = w2c_j0 > w2c_j1;
+  if (w2c_i0) {goto w2c_B1;}
+  w2c_j0 = 1ull;
+  w2c_j1 = w2c_p3;
+  w2c_j0 <<= (w2c_j1 & 63);
+  w2c_j1 = 4311810048ull;
+  w2c_j0 &= w2c_j1;
+  w2c_j1 = 0ull;
+  w2c_i0 = w2c_j0 != w2c_j1;
+  if (w2c_i0) {goto w2c_B5;}
+  goto w2c_B1;
+  w2c_B6:;
+  w2c_j0 = w2c_p3;
+  w2c_j1 = 184ull;
+  w2c_i0 = w2c_j0 == w2c_j1;
+  if (w2c_i0) {goto w2c_B7;}
+  w2c_j0 = w2c_p3;
+  w2c_j1 = 248ull;
+  w2c_i0 = w2c_j0 == w2c_j1;
+  if (w2c_i0) {goto w2c_B7;}
+  w2c_j0 = w2c_p3;
+  w2c_j1 = 216ull;
+  w2c_i0 = w2c_j0 != w2c_j1;
+  if (w2c_i0) {goto w2c_B1;}
+  w2c_B7:;
+  w2c_j0 = w2c_p2;
+  w2c_j1 = 4096ull;
+  w2c_j2 = 0ull;
+  w2c_j3 = w2c_p2;
+  w2c_i3 = !(w2c_j3);
+  w2c_j1 = w2c_i3 ? w2c_j1 : w2c_j2;
+  w2c_j0 += w2c_j1;
+  w2c_i0 = (u32)(w2c_j0);
+  w2c_j0 = i64_load(memory, (u64)(w2c_i0));
+  w2c_j1 = 5423823929002190187ull;
+  w2c_i0 = w2c_j0 != w2c_j1;
+  if (w2c_i0) {goto w2c_B1;}
+  w2c_B5:;
+  w2c_i0 = 0u;
+  w2c_i1 = 4u;
+  w2c_i2 = w2c_p4;
+  w2c_i3 = 4u;
+  w2c_i2 = w2c_i2 < w2c_i3;
+  w2c_i0 = w2c_i2 ? w2c_i0 : w2c_i1;
+  w2c_l5 = w2c_i0;
+  w2c_B1:;
+  w2c_i0 = w2c_l5;
+  goto w2c_Bfunc;
+  w2c_B0:;
+  UNREACHABLE;
+  w2c_Bfunc:;
+  return w2c_i0;
+}
+static u32 w2c_keywrap_check_rewrap_many(struct instance *instance, u64 w2c_p0, u64 w2c_p1, u64 w2c_p2, u64 w2c_p3, u64 w2c_p4, u32 w2c_p5, u64 w2c_p6) {
+  const struct memory memory = instance->w2c_memory;
+  (void)memory;
+  u32 w2c_i0, w2c_i5;
+  u64 w2c_j0, w2c_j1, w2c_j2, w2c_j3, w2c_j4, w2c_j6;
+  w2c_i0 = w2c_f0(instance);
+  w2c_i0 = !(w2c_i0);
+  if (w2c_i0) {goto w2c_B0;}
+  w2c_f2(instance);
+  UNREACHABLE;
+  w2c_B0:;
+  w2c_j0 = w2c_p0;
+  w2c_j1 = w2c_p1;
+  w2c_j2 = w2c_p2;
+  w2c_j3 = w2c_p3;
+  w2c_j4 = w2c_p4;
+  w2c_i5 = w2c_p5;
+  w2c_j6 = w2c_p6;
+  w2c_i0 = w2c_f49(instance, w2c_j0, w2c_j1, w2c_j2, w2c_j3, w2c_j4, w2c_i5, w2c_j6);
+  w2c_p5 = w2c_i0;
+  w2c_f1(instance);
+  w2c_i0 = w2c_p5;
+  return w2c_i0;
+}
+static u32 w2c_f49(struct instance *instance, u64 w2c_p0, u64 w2c_p1, u64 w2c_p2, u64 w2c_p3, u64 w2c_p4, u32 w2c_p5, u64 w2c_p6) {
+  u32 w2c_l7 = 0, w2c_l8 = 0;
+  const struct memory memory = instance->w2c_memory;
+  (void)memory;
+  u32 w2c_i0, w2c_i1, w2c_i3;
+  u64 w2c_j0, w2c_j1, w2c_j2, w2c_j3;
+  w2c_j0 = instance->w2c_g0;
+  w2c_j1 = 16ull;
+  w2c_i0 = (u64)((s64)w2c_j0 < (s64)w2c_j1);
+  if (w2c_i0) {goto w2c_B0;}
+  w2c_i0 = 3u;
+  w2c_l7 = w2c_i0;
+  w2c_j0 = w2c_p1;
+  w2c_j1 = 183ull;
+  w2c_i0 = (u64)((s64)w2c_j0 > (s64)w2c_j1);
+  if (w2c_i0) {goto w2c_B3;}
+  w2c_j0 = w2c_p1;
+  w2c_j1 = 32ull;
+  w2c_i0 = w2c_j0 > w2c_j1;
+  if (w2c_i0) {goto w2c_B1;}
+  w2c_j0 = 1ull;
+  w2c_j1 = w2c_p1;
+  w2c_j0 <<= (w2c_j1 & 63);
+  w2c_j1 = 4311810048ull;
+  w2c_j0 &= w2c_j1;
+  w2c_j1 = 0ull;
+  w2c_i0 = w2c_j0 != w2c_j1;
+  if (w2c_i0) {goto w2c_B2;}
+  goto w2c_B1;
+  w2c_B3:;
+  w2c_j0 = w2c_p1;
+  w2c_j1 = 184ull;
+  w2c_i0 = w2c_j0 == w2c_j1;
+  if (w2c_i0) {goto w2c_B4;}
+  w2c_j0 = w2c_p1;
+  w2c_j1 = 248ull;
+  w2c_i0 = w2c_j0 == w2c_j1;
+  if (w2c_i0) {goto w2c_B4;}
+  w2c_j0 = w2c_p1;
+  w2c_j1 = 216ull;
+  w2c_i0 = w2c_j0 != w2c_j1;
+  if (w2c_i0) {goto w2c_B1;}
+  w2c_B4:;
+  w2c_j0 = w2c_p0;
+  w2c_j1 = 4096ull;
+  w2c_j2 = 0ull;
+  w2c_j3 = w2c_p0;
+  w2c_i3 = !(w2c_j3);
+  w2c_j1 = w2c_i3 ? w2c_j1 : w2c_j2;
+  w2c_j0 += w2c_j1;
+  w2c_i0 = (u32)(w2c_j0);
+  w2c_j0 = i64_load(memory, (u64)(w2c_i0));
+  w2c_j1 = 5423823929002190187ull;
+  w2c_i0 = w2c_j0 != w2c_j1;
+  if (w2c_i0) {goto w2c_B1;}
+  w2c_B2:;
+  w2c_j0 = w2c_p3;
+  w2c_j1 = 183ull;
+  w2c_i0 = (u64)((s64)w2c_j0 > (s64)w2c_j1);
+  if (w2c_i0) {goto w2c_B6;}
+  w2c_j0 = w2c_p3;
+  w2c_j1 = 32ull;
+  w2c_i0 = w2c_j0 > w2c_j1;
+  if (w2c_i0) {goto w2c_B1;}
+  w2c_j0 = 1ull;
+  w2c_j1 = w2c_p3;
+  w2c_j0 <<= (w2c_j1 & 63);
+  w2c_j1 = 4311810048ull;
+  w2c_j0 &= w2c_j1;
+  w2c_j1 = 0ull;
+  w2c_i0 = w2c_j0 != w2c_j1;
+  if (w2c_i0) {goto w2c_B5;}
+  goto w2c_B1;
+  w2c_B6:;
+  w2c_j0 = w2c_p3;
+  w2c_j1 = 184ull;
+  w2c_i0 = w2c_j0 == w2c_j1;
+  if (w2c_i0) {goto w2c_B7;}
+  w2c_j0 = w2c_p3;
+  w2c_j1 = 248ull;
+  w2c_i0 = w2c_j0 == w2c_j1;
+  if (w2c_i0) {goto w2c_B7;}
+  w2c_j0 = w2c_p3;
+  w2c_j1 = 216ull;
+  w2c_i0 = w2c_j0 != w2c_j1;
+  if (w2c_i0) {goto w2c_B1;}
+  w2c_B7:;
+  w2c_j0 = w2c_p2;
+  w2c_j1 = 4096ull;
+  w2c_j2 = 0ull;
+  w2c_j3 = w2c_p2;
+  w2c_i3 = !(w2c_j3);
+  w2c_j1 = w2c_i3 ? w2c_j1 : w2c_j2;
+  w2c_j0 += w2c_j1;
+  w2c_i0 = (u32)(w2c_j0);
+  w2c_j0 = i64_load(memory, (u64)(w2c_i0));
+  w2c_j1 = 5423823929002190187ull;
+  w2c_i0 = w2c_j0 != w2c_j1;
+  if (w2c_i0) {goto w2c_B1;}
+  w2c_B5:;
+  w2c_i0 = 4u;
+  w2c_l7 = w2c_i0;
+  w2c_j0 = w2c_p6;
+  w2c_i0 = !(w2c_j0);
+  if (w2c_i0) {goto w2c_B1;}
+  w2c_j0 = w2c_p4;
+  w2c_j1 = w2c_p4;
+  w2c_j2 = w2c_p6;
+  w2c_j1 = DIV_U(w2c_j1, w2c_j2);
+  w2c_p1 = w2c_j1;
+  w2c_j2 = w2c_p6;
+  w2c_j1 *= w2c_j2;
+  w2c_j0 -= w2c_j1;
+  w2c_j1 = 0ull;
+  w2c_i0 = w2c_j0 != w2c_j1;
+  if (w2c_i0) {goto w2c_B1;}
+  w2c_i0 = w2c_p5;
+  w2c_i1 = 12u;
+  w2c_i0 = w2c_i0 > w2c_i1;
+  if (w2c_i0) {goto w2c_B1;}
+  w2c_i0 = 1u;
+  w2c_i1 = w2c_p5;
+  w2c_i0 <<= (w2c_i1 & 31);
+  w2c_l8 = w2c_i0;
+  w2c_i1 = 1285u;
+  w2c_i0 &= w2c_i1;
+  if (w2c_i0) {goto w2c_B10;}
+  w2c_i0 = w2c_l8;
+  w2c_i1 = 2570u;
+  w2c_i0 &= w2c_i1;
+  if (w2c_i0) {goto w2c_B11;}
+  w2c_i0 = 1u;
+  w2c_i1 = w2c_p5;
+  w2c_i0 <<= (w2c_i1 & 31);
+  w2c_i1 = 4112u;
+  w2c_i0 &= w2c_i1;
+  w2c_i0 = !(w2c_i0);
+  if (w2c_i0) {goto w2c_B1;}
+  w2c_j0 = w2c_p1;
+  w2c_j1 = 7ull;
+  w2c_j0 &= w2c_j1;
+  w2c_j1 = 0ull;
+  w2c_i0 = w2c_j0 != w2c_j1;
+  if (w2c_i0) {goto w2c_B1;}
+  w2c_j0 = w2c_p1;
+  w2c_j1 = 18446744073709551600ull;
+  w2c_j0 += w2c_j1;
+  w2c_j1 = 1048569ull;
+  w2c_i0 = w2c_j0 < w2c_j1;
+  if (w2c_i0) {goto w2c_B8;}
+  goto w2c_B1;
+  w2c_B11:;
+  w2c_j0 = w2c_p1;
+  w2c_j1 = 18446744073709551600ull;
+  w2c_j0 += w2c_j1;
+  w2c_j1 = 1048569ull;
+  w2c_i0 = w2c_j0 < w2c_j1;
+  w2c_p5 = w2c_i0;
+  goto w2c_B9;
+  w2c_B10:;
+  w2c_j0 = w2c_p1;
+  w2c_j1 = 18446744073709551592ull;
+  w2c_j0 += w2c_j1;
+  w2c_j1 = 1048561ull;
+  w2c_i0 = w2c_j0 < w2c_j1;
+  w2c_p5 = w2c_i0;
+  w2c_B9:;
+  w2c_j0 = w2c_p1;
+  w2c_j1 = 7ull;
+  w2c_j0 &= w2c_j1;
+  w2c_j1 = 0ull;
+  w2c_i0 = w2c_j0 != w2c_j1;
+  if (w2c_i0) {goto w2c_B1;}
+  w2c_i0 = w2c_p5;
+  w2c_i0 = !(w2c_i0);
+  if (w2c_i0) {goto w2c_B1;}
+  w2c_B8:;
+  w2c_i0 = 0u;
+  w2c_l7 = w2c_i0;
+  w2c_B1:;
+  w2c_i0 = w2c_l7;
+  goto w2c_Bfunc;
+  w2c_B0:;
+  UNREACHABLE;
+  w2c_Bfunc:;
+  return w2c_i0;
+}
+static u32 w2c_keywrap_check_room(struct instance *instance, u64 w2c_p0, u64 w2c_p1, u64 w2c_p2, u64 w2c_p3) {
+  u32 w2c_l4 = 0;
+  const struct memory memory = instance->w2c_memory;
+  (void)memory;
+  u32 w2c_i0;
+  u64 w2c_j0, w2c_j1, w2c_j2, w2c_j3;
+  w2c_i0 = w2c_f0(instance);
+  w2c_i0 = !(w2c_i0);
+  if (w2c_i0) {goto w2c_B0;}
+  w2c_f2(instance);
+  UNREACHABLE;
+  w2c_B0:;
+  w2c_j0 = w2c_p0;
+  w2c_j1 = w2c_p1;
+  w2c_j2 = w2c_p2;
+  w2c_j3 = w2c_p3;
+  w2c_i0 = w2c_f51(instance, w2c_j0, w2c_j1, w2c_j2, w2c_j3);
+  w2c_l4 = w2c_i0;
+  w2c_f1(instance);
+  w2c_i0 = w2c_l4;
+  return w2c_i0;
+}
+static u32 w2c_f51(struct instance *instance, u64 w2c_p0, u64 w2c_p1, u64 w2c_p2, u64 w2c_p3) {
+  u32 w2c_l4 = 0;
+  const struct memory memory = instance->w2c_memory;
+  (void)memory;
+  u32 w2c_i0, w2c_i1, w2c_i2, w2c_i3;
+  u64 w2c_j0, w2c_j1, w2c_j2, w2c_j3;
+  w2c_j0 = instance->w2c_g0;
+  w2c_j1 = 16ull;
+  w2c_i0 = (u64)((s64)w2c_j0 < (s64)w2c_j1);
+  if (w2c_i0) {goto w2c_B0;}
+  w2c_i0 = 3u;
+  w2c_l4 = w2c_i0;
+  w2c_j0 = w2c_p1;
+  w2c_j1 = 183ull;
+  w2c_i0 = (u64)((s64)w2c_j0 > (s64)w2c_j1);
+  if (w2c_i0) {goto w2c_B3;}
+  w2c_j0 = w2c_p1;
+  w2c_j1 = 32ull;
+  w2c_i0 = w2c_j0 > w2c_j1;
+  if (w2c_i0) {goto w2c_B1;}
+  w2c_j0 = 1ull;
+  w2c_j1 = w2c_p1;
+  w2c_j0 <<= (w2c_j1 & 63);
+  w2c_j1 = 4311810048ull;
+  w2c_j0 &= w2c_j1;
+  w2c_j1 = 0ull;
+  w2c_i0 = w2c_j0 != w2c_j1;
+  if (w2c_i0) {goto w2c_B2;}
+  goto w2c_B1;
+  w2c_B3:;
+  w2c_j0 = w2c_p1;
+  w2c_j1 = 184ull;
+  w2c_i0 = w2c_j0 == w2c_j1;
+  if (w2c_i0) {goto w2c_B4;}
+  w2c_j0 = w2c_p1;
+  w2c_j1 = 248ull;
+  w2c_i0 = w2c_j0 == w2c_j1;
+  if (w2c_i0) {goto w2c_B4;}
+  w2c_j0 = w2c_p1;
+  w2c_j1 = 216ull;
+  w2c_i0 = w2c_j0 != w2c_j1;
+  if (w2c_i0) {goto w2c_B1;}
+  w2c_B4:;
+  w2c_j0 = w2c_p0;
+  w2c_j1 = 4096ull;
+  w2c_j2 = 0ull;
+  w2c_j3 = w2c_p0;
+  w2c_i3 = !(w2c_j3);
+  w2c_j1 = w2c_i3 ? w2c_j1 : w2c_j2;
+  w2c_j0 += w2c_j1;
+  w2c_i0 = (u32)(w2c_j0);
+  w2c_j0 = i64_load(memory, (u64)(w2c_i0));
+  w2c_j1 = 5423823929002190187ull;
+  w2c_i0 = w2c_j0 != w2c_j1;
+  if (w2c_i0) {goto w2c_B1;}
+  w2c_B2:;
+  w2c_i0 = 0u;
+  w2c_i1 = 4u;
+  w2c_j2 = w2c_p3;
+  w2c_j3 = 18446744073709551600ull;
+  w2c_j2 += w2c_j3;
+  w2c_j3 = 1048569ull;
+  w2c_i2 = w2c_j2 < w2c_j3;
+  w2c_i0 = w2c_i2 ? w2c_i0 : w2c_i1;
+  w2c_i1 = 4u;
+  w2c_j2 = w2c_p3;
+  w2c_j3 = 7ull;
+  w2c_j2 &= w2c_j3;
+  w2c_i2 = !(w2c_j2);
+  w2c_i0 = w2c_i2 ? w2c_i0 : w2c_i1;
+  w2c_i1 = 4u;
+  w2c_j2 = w2c_p3;
+  w2c_j3 = 18446744073709551608ull;
+  w2c_j2 += w2c_j3;
+  w2c_j3 = w2c_p2;
+  w2c_i2 = w2c_j2 == w2c_j3;
+  w2c_i0 = w2c_i2 ? w2c_i0 : w2c_i1;
+  w2c_l4 = w2c_i0;
+  w2c_B1:;
+  w2c_i0 = w2c_l4;
+  goto w2c_Bfunc;
+  w2c_B0:;
+  UNREACHABLE;
+  w2c_Bfunc:;
+  return w2c_i0;
+}
+static u32 w2c_keywrap_check_unwrap_many(struct instance *instance, u64 w2c_p0, u64 w2c_p1, u64 w2c_p2, u32 w2c_p3, u64 w2c_p4, u64 w2c_p5) {
   const struct memory memory = instance->w2c_memory;
   (void)memory;
   u32 w2c_i0, w2c_i3;
-  u64 w2c_j0, w2c_j1, w2c_j2, w2c_j4;
+  u64 w2c_j0, w2c_j1, w2c_j2, w2c_j4, w2c_j5;
   w2c_i0 = w2c_f0(instance);
   w2c_i0 = !(w2c_i0);
   if (w2c_i0) {goto w2c_B0;}
@@ -11318,234 +12150,15 @@ static u32 w2c_keywrap_check_rewrap_many(struct instance *instance, u64 w2c_p0, 
   w2c_j2 = w2c_p2;
   w2c_i3 = w2c_p3;
   w2c_j4 = w2c_p4;
-  w2c_i0 = w2c_f49(instance, w2c_j0, w2c_j1, w2c_j2, w2c_i3, w2c_j4);
+  w2c_j5 = w2c_p5;
+  w2c_i0 = w2c_f53(instance, w2c_j0, w2c_j1, w2c_j2, w2c_i3, w2c_j4, w2c_j5);
   w2c_p3 = w2c_i0;
   w2c_f1(instance);
   w2c_i0 = w2c_p3;
   return w2c_i0;
 }
-static u32 w2c_f49(struct instance *instance, u64 w2c_p0, u64 w2c_p1, u64 w2c_p2, u32 w2c_p3, u64 w2c_p4) {
-  u32 w2c_l5 = 0, w2c_l6 = 0;
-  const struct memory memory = instance->w2c_memory;
-  (void)memory;
-  u32 w2c_i0, w2c_i1;
-  u64 w2c_j0, w2c_j1, w2c_j2;
-  w2c_j0 = instance->w2c_g0;
-  w2c_j1 = 16ull;
-  w2c_i0 = (u64)((s64)w2c_j0 < (s64)w2c_j1);
-  if (w2c_i0) {goto w2c_B0;}
-  w2c_i0 = 3u;
-  w2c_l5 = w2c_i0;
-  w2c_j0 = w2c_p0;
-  w2c_j1 = 32ull;
-  w2c_i0 = w2c_j0 > w2c_j1;
-  if (w2c_i0) {goto w2c_B1;}
-  w2c_j0 = 1ull;
-  w2c_j1 = w2c_p0;
-  w2c_j0 <<= (w2c_j1 & 63);
-  w2c_j1 = 4311810048ull;
-  w2c_j0 &= w2c_j1;
-  w2c_j1 = 0ull;
-  w2c_i0 = w2c_j0 == w2c_j1;
-  if (w2c_i0) {goto w2c_B1;}
-  w2c_j0 = w2c_p1;
-  w2c_j1 = 32ull;
-  w2c_i0 = w2c_j0 > w2c_j1;
-  if (w2c_i0) {goto w2c_B1;}
-  w2c_j0 = 1ull;
-  w2c_j1 = w2c_p1;
-  w2c_j0 <<= (w2c_j1 & 63);
-  w2c_j1 = 4311810048ull;
-  w2c_j0 &= w2c_j1;
-  w2c_j1 = 0ull;
-  w2c_i0 = w2c_j0 == w2c_j1;
-  if (w2c_i0) {goto w2c_B1;}
-  w2c_i0 = 4u;
-  w2c_l5 = w2c_i0;
-  w2c_j0 = w2c_p4;
-  w2c_i0 = !(w2c_j0);
-  if (w2c_i0) {goto w2c_B1;}
-  w2c_j0 = w2c_p2;
-  w2c_j1 = w2c_p2;
-  w2c_j2 = w2c_p4;
-  w2c_j1 = DIV_U(w2c_j1, w2c_j2);
-  w2c_p0 = w2c_j1;
-  w2c_j2 = w2c_p4;
-  w2c_j1 *= w2c_j2;
-  w2c_j0 -= w2c_j1;
-  w2c_j1 = 0ull;
-  w2c_i0 = w2c_j0 != w2c_j1;
-  if (w2c_i0) {goto w2c_B1;}
-  w2c_i0 = w2c_p3;
-  w2c_i1 = 12u;
-  w2c_i0 = w2c_i0 > w2c_i1;
-  if (w2c_i0) {goto w2c_B1;}
-  w2c_i0 = 1u;
-  w2c_i1 = w2c_p3;
-  w2c_i0 <<= (w2c_i1 & 31);
-  w2c_l6 = w2c_i0;
-  w2c_i1 = 1285u;
-  w2c_i0 &= w2c_i1;
-  if (w2c_i0) {goto w2c_B4;}
-  w2c_i0 = w2c_l6;
-  w2c_i1 = 2570u;
-  w2c_i0 &= w2c_i1;
-  if (w2c_i0) {goto w2c_B5;}
-  w2c_i0 = 1u;
-  w2c_i1 = w2c_p3;
-  w2c_i0 <<= (w2c_i1 & 31);
-  w2c_i1 = 4112u;
-  w2c_i0 &= w2c_i1;
-  w2c_i0 = !(w2c_i0);
-  if (w2c_i0) {goto w2c_B1;}
-  w2c_j0 = w2c_p0;
-  w2c_j1 = 7ull;
-  w2c_j0 &= w2c_j1;
-  w2c_j1 = 0ull;
-  w2c_i0 = w2c_j0 != w2c_j1;
-  if (w2c_i0) {goto w2c_B1;}
-  w2c_j0 = w2c_p0;
-  w2c_j1 = 18446744073709551600ull;
-  w2c_j0 += w2c_j1;
-  w2c_j1 = 1048569ull;
-  w2c_i0 = w2c_j0 < w2c_j1;
-  if (w2c_i0) {goto w2c_B2;}
-  goto w2c_B1;
-  w2c_B5:;
-  w2c_j0 = w2c_p0;
-  w2c_j1 = 18446744073709551600ull;
-  w2c_j0 += w2c_j1;
-  w2c_j1 = 1048569ull;
-  w2c_i0 = w2c_j0 < w2c_j1;
-  w2c_p3 = w2c_i0;
-  goto w2c_B3;
-  w2c_B4:;
-  w2c_j0 = w2c_p0;
-  w2c_j1 = 18446744073709551592ull;
-  w2c_j0 += w2c_j1;
-  w2c_j1 = 1048561ull;
-  w2c_i0 = w2c_j0 < w2c_j1;
-  w2c_p3 = w2c_i0;
-  w2c_B3:;
-  w2c_j0 = w2c_p0;
-  w2c_j1 = 7ull;
-  w2c_j0 &= w2c_j1;
-  w2c_j1 = 0ull;
-  w2c_i0 = w2c_j0 != w2c_j1;
-  if (w2c_i0) {goto w2c_B1;}
-  w2c_i0 = w2c_p3;
-  w2c_i0 = !(w2c_i0);
-  if (w2c_i0) {goto w2c_B1;}
-  w2c_B2:;
-  w2c_i0 = 0u;
-  w2c_l5 = w2c_i0;
-  w2c_B1:;
-  w2c_i0 = w2c_l5;
-  goto w2c_Bfunc;
-  w2c_B0:;
-  UNREACHABLE;
-  w2c_Bfunc:;
-  return w2c_i0;
-}
-static u32 w2c_keywrap_check_room(struct instance *instance, u64 w2c_p0, u64 w2c_p1, u64 w2c_p2) {
-  u32 w2c_l3 = 0;
-  const struct memory memory = instance->w2c_memory;
-  (void)memory;
-  u32 w2c_i0;
-  u64 w2c_j0, w2c_j1, w2c_j2;
-  w2c_i0 = w2c_f0(instance);
-  w2c_i0 = !(w2c_i0);
-  if (w2c_i0) {goto w2c_B0;}
-  w2c_f2(instance);
-  UNREACHABLE;
-  w2c_B0:;
-  w2c_j0 = w2c_p0;
-  w2c_j1 = w2c_p1;
-  w2c_j2 = w2c_p2;
-  w2c_i0 = w2c_f51(instance, w2c_j0, w2c_j1, w2c_j2);
-  w2c_l3 = w2c_i0;
-  w2c_f1(instance);
-  w2c_i0 = w2c_l3;
-  return w2c_i0;
-}
-static u32 w2c_f51(struct instance *instance, u64 w2c_p0, u64 w2c_p1, u64 w2c_p2) {
-  u32 w2c_l3 = 0;
-  const struct memory memory = instance->w2c_memory;
-  (void)memory;
-  u32 w2c_i0, w2c_i1, w2c_i2;
-  u64 w2c_j0, w2c_j1, w2c_j2, w2c_j3;
-  w2c_j0 = instance->w2c_g0;
-  w2c_j1 = 16ull;
-  w2c_i0 = (u64)((s64)w2c_j0 < (s64)w2c_j1);
-  if (w2c_i0) {goto w2c_B0;}
-  w2c_i0 = 3u;
-  w2c_l3 = w2c_i0;
-  w2c_j0 = w2c_p0;
-  w2c_j1 = 32ull;
-  w2c_i0 = w2c_j0 > w2c_j1;
-  if (w2c_i0) {goto w2c_B1;}
-  w2c_j0 = 1ull;
-  w2c_j1 = w2c_p0;
-  w2c_j0 <<= (w2c_j1 & 63);
-  w2c_j1 = 4311810048ull;
-  w2c_j0 &= w2c_j1;
-  w2c_j1 = 0ull;
-  w2c_i0 = w2c_j0 == w2c_j1;
-  if (w2c_i0) {goto w2c_B1;}
-  w2c_i0 = 0u;
-  w2c_i1 = 4u;
-  w2c_j2 = w2c_p2;
-  w2c_j3 = 18446744073709551600ull;
-  w2c_j2 += w2c_j3;
-  w2c_j3 = 1048569ull;
-  w2c_i2 = w2c_j2 < w2c_j3;
-  w2c_i0 = w2c_i2 ? w2c_i0 : w2c_i1;
-  w2c_i1 = 4u;
-  w2c_j2 = w2c_p2;
-  w2c_j3 = 7ull;
-  w2c_j2 &= w2c_j3;
-  w2c_i2 = !(w2c_j2);
-  w2c_i0 = w2c_i2 ? w2c_i0 : w2c_i1;
-  w2c_i1 = 4u;
-  w2c_j2 = w2c_p2;
-  w2c_j3 = 18446744073709551608ull;
-  w2c_j2 += w2c_j3;
-  w2c_j3 = w2c_p1;
-  w2c_i2 = w2c_j2 == w2c_j3;
-  w2c_i0 = w2c_i2 ? w2c_i0 : w2c_i1;
-  w2c_l3 = w2c_i0;
-  w2c_B1:;
-  w2c_i0 = w2c_l3;
-  goto w2c_Bfunc;
-  w2c_B0:;
-  UNREACHABLE;
-  w2c_Bfunc:;
-  return w2c_i0;
-}
-static u32 w2c_keywrap_check_unwrap_many(struct instance *instance, u64 w2c_p0, u64 w2c_p1, u32 w2c_p2, u64 w2c_p3, u64 w2c_p4) {
-  const struct memory memory = instance->w2c_memory;
-  (void)memory;
-  u32 w2c_i0, w2c_i2;
-  u64 w2c_j0, w2c_j1, w2c_j3, w2c_j4;
-  w2c_i0 = w2c_f0(instance);
-  w2c_i0 = !(w2c_i0);
-  if (w2c_i0) {goto w2c_B0;}
-  w2c_f2(instance);
-  UNREACHABLE;
-  w2c_B0:;
-  w2c_j0 = w2c_p0;
-  w2c_j1 = w2c_p1;
-  w2c_i2 = w2c_p2;
-  w2c_j3 = w2c_p3;
-  w2c_j4 = w2c_p4;
-  w2c_i0 = w2c_f53(instance, w2c_j0, w2c_j1, w2c_i2, w2c_j3, w2c_j4);
-  w2c_p2 = w2c_i0;
-  w2c_f1(instance);
-  w2c_i0 = w2c_p2;
-  return w2c_i0;
-}
-static u32 w2c_f53(struct instance *instance, u64 w2c_p0, u64 w2c_p1, u32 w2c_p2, u64 w2c_p3, u64 w2c_p4) {
-  u32 w2c_l5 = 0, w2c_l6 = 0;
+static u32 w2c_f53(struct instance *instance, u64 w2c_p0, u64 w2c_p1, u64 w2c_p2, u32 w2c_p3, u64 w2c_p4, u64 w2c_p5) {
+  u32 w2c_l6 = 0, w2c_l7 = 0;
   const struct memory memory = instance->w2c_memory;
   (void)memory;
   u32 w2c_i0, w2c_i1, w2c_i2, w2c_i3, w2c_i4;
@@ -11555,86 +12168,118 @@ static u32 w2c_f53(struct instance *instance, u64 w2c_p0, u64 w2c_p1, u32 w2c_p2
   w2c_i0 = (u64)((s64)w2c_j0 < (s64)w2c_j1);
   if (w2c_i0) {goto w2c_B0;}
   w2c_i0 = 3u;
-  w2c_l5 = w2c_i0;
-  w2c_j0 = w2c_p0;
+  w2c_l6 = w2c_i0;
+  w2c_j0 = w2c_p1;
+  w2c_j1 = 183ull;
+  w2c_i0 = (u64)((s64)w2c_j0 > (s64)w2c_j1);
+  if (w2c_i0) {goto w2c_B3;}
+  w2c_j0 = w2c_p1;
   w2c_j1 = 32ull;
   w2c_i0 = w2c_j0 > w2c_j1;
   if (w2c_i0) {goto w2c_B1;}
   w2c_j0 = 1ull;
-  w2c_j1 = w2c_p0;
+  w2c_j1 = w2c_p1;
   w2c_j0 <<= (w2c_j1 & 63);
   w2c_j1 = 4311810048ull;
   w2c_j0 &= w2c_j1;
   w2c_j1 = 0ull;
+  w2c_i0 = w2c_j0 != w2c_j1;
+  if (w2c_i0) {goto w2c_B2;}
+  goto w2c_B1;
+  w2c_B3:;
+  w2c_j0 = w2c_p1;
+  w2c_j1 = 184ull;
   w2c_i0 = w2c_j0 == w2c_j1;
+  if (w2c_i0) {goto w2c_B4;}
+  w2c_j0 = w2c_p1;
+  w2c_j1 = 248ull;
+  w2c_i0 = w2c_j0 == w2c_j1;
+  if (w2c_i0) {goto w2c_B4;}
+  w2c_j0 = w2c_p1;
+  w2c_j1 = 216ull;
+  w2c_i0 = w2c_j0 != w2c_j1;
   if (w2c_i0) {goto w2c_B1;}
+  w2c_B4:;
+  w2c_j0 = w2c_p0;
+  w2c_j1 = 4096ull;
+  w2c_j2 = 0ull;
+  w2c_j3 = w2c_p0;
+  w2c_i3 = !(w2c_j3);
+  w2c_j1 = w2c_i3 ? w2c_j1 : w2c_j2;
+  w2c_j0 += w2c_j1;
+  w2c_i0 = (u32)(w2c_j0);
+  w2c_j0 = i64_load(memory, (u64)(w2c_i0));
+  w2c_j1 = 5423823929002190187ull;
+  w2c_i0 = w2c_j0 != w2c_j1;
+  if (w2c_i0) {goto w2c_B1;}
+  w2c_B2:;
   w2c_i0 = 4u;
-  w2c_l5 = w2c_i0;
-  w2c_j0 = w2c_p4;
+  w2c_l6 = w2c_i0;
+  w2c_j0 = w2c_p5;
   w2c_i0 = !(w2c_j0);
   if (w2c_i0) {goto w2c_B1;}
-  w2c_j0 = w2c_p1;
-  w2c_j1 = w2c_p1;
-  w2c_j2 = w2c_p4;
+  w2c_j0 = w2c_p2;
+  w2c_j1 = w2c_p2;
+  w2c_j2 = w2c_p5;
   w2c_j1 = DIV_U(w2c_j1, w2c_j2);
-  w2c_p0 = w2c_j1;
-  w2c_j2 = w2c_p4;
+  w2c_p1 = w2c_j1;
+  w2c_j2 = w2c_p5;
   w2c_j1 *= w2c_j2;
   w2c_j0 -= w2c_j1;
   w2c_j1 = 0ull;
   w2c_i0 = w2c_j0 != w2c_j1;
   if (w2c_i0) {goto w2c_B1;}
   w2c_i0 = 1u;
-  w2c_l6 = w2c_i0;
-  w2c_i0 = w2c_p2;
+  w2c_l7 = w2c_i0;
+  w2c_i0 = w2c_p3;
   switch (w2c_i0) {
-    case 0: goto w2c_B2;
-    case 1: goto w2c_B3;
+    case 0: goto w2c_B5;
+    case 1: goto w2c_B6;
     default: goto w2c_B1;
   }
-  w2c_B3:;
+  w2c_B6:;
   w2c_i0 = 0u;
-  w2c_l6 = w2c_i0;
-  w2c_B2:;
-  w2c_j0 = w2c_p3;
-  w2c_j1 = w2c_p4;
+  w2c_l7 = w2c_i0;
+  w2c_B5:;
+  w2c_j0 = w2c_p4;
+  w2c_j1 = w2c_p5;
   w2c_i0 = w2c_j0 != w2c_j1;
   if (w2c_i0) {goto w2c_B1;}
   w2c_i0 = 0u;
   w2c_i1 = 4u;
-  w2c_j2 = w2c_p0;
+  w2c_j2 = w2c_p1;
   w2c_j3 = 18446744073709551592ull;
   w2c_j2 += w2c_j3;
   w2c_j3 = 1048561ull;
   w2c_i2 = w2c_j2 < w2c_j3;
-  w2c_j3 = w2c_p0;
+  w2c_j3 = w2c_p1;
   w2c_j4 = 18446744073709551600ull;
   w2c_j3 += w2c_j4;
   w2c_j4 = 1048569ull;
   w2c_i3 = w2c_j3 < w2c_j4;
-  w2c_i4 = w2c_l6;
+  w2c_i4 = w2c_l7;
   w2c_i2 = w2c_i4 ? w2c_i2 : w2c_i3;
   w2c_i0 = w2c_i2 ? w2c_i0 : w2c_i1;
   w2c_i1 = 4u;
-  w2c_j2 = w2c_p0;
+  w2c_j2 = w2c_p1;
   w2c_j3 = 7ull;
   w2c_j2 &= w2c_j3;
   w2c_i2 = !(w2c_j2);
   w2c_i0 = w2c_i2 ? w2c_i0 : w2c_i1;
-  w2c_l5 = w2c_i0;
+  w2c_l6 = w2c_i0;
   w2c_B1:;
-  w2c_i0 = w2c_l5;
+  w2c_i0 = w2c_l6;
   goto w2c_Bfunc;
   w2c_B0:;
   UNREACHABLE;
   w2c_Bfunc:;
   return w2c_i0;
 }
-static u32 w2c_keywrap_check_wrap_many(struct instance *instance, u64 w2c_p0, u64 w2c_p1, u64 w2c_p2, u32 w2c_p3, u64 w2c_p4) {
+static u32 w2c_keywrap_check_wrap_many(struct instance *instance, u64 w2c_p0, u64 w2c_p1, u64 w2c_p2, u64 w2c_p3, u32 w2c_p4, u64 w2c_p5) {
   const struct memory memory = instance->w2c_memory;
   (void)memory;
-  u32 w2c_i0, w2c_i3;
-  u64 w2c_j0, w2c_j1, w2c_j2, w2c_j4;
+  u32 w2c_i0, w2c_i4;
+  u64 w2c_j0, w2c_j1, w2c_j2, w2c_j3, w2c_j5;
   w2c_i0 = w2c_f0(instance);
   w2c_i0 = !(w2c_i0);
   if (w2c_i0) {goto w2c_B0;}
@@ -11644,103 +12289,136 @@ static u32 w2c_keywrap_check_wrap_many(struct instance *instance, u64 w2c_p0, u6
   w2c_j0 = w2c_p0;
   w2c_j1 = w2c_p1;
   w2c_j2 = w2c_p2;
-  w2c_i3 = w2c_p3;
-  w2c_j4 = w2c_p4;
-  w2c_i0 = w2c_f55(instance, w2c_j0, w2c_j1, w2c_j2, w2c_i3, w2c_j4);
-  w2c_p3 = w2c_i0;
+  w2c_j3 = w2c_p3;
+  w2c_i4 = w2c_p4;
+  w2c_j5 = w2c_p5;
+  w2c_i0 = w2c_f55(instance, w2c_j0, w2c_j1, w2c_j2, w2c_j3, w2c_i4, w2c_j5);
+  w2c_p4 = w2c_i0;
   w2c_f1(instance);
-  w2c_i0 = w2c_p3;
+  w2c_i0 = w2c_p4;
   return w2c_i0;
 }
-static u32 w2c_f55(struct instance *instance, u64 w2c_p0, u64 w2c_p1, u64 w2c_p2, u32 w2c_p3, u64 w2c_p4) {
-  u32 w2c_l5 = 0;
+static u32 w2c_f55(struct instance *instance, u64 w2c_p0, u64 w2c_p1, u64 w2c_p2, u64 w2c_p3, u32 w2c_p4, u64 w2c_p5) {
+  u32 w2c_l6 = 0;
   const struct memory memory = instance->w2c_memory;
   (void)memory;
-  u32 w2c_i0;
-  u64 w2c_j0, w2c_j1, w2c_j2;
+  u32 w2c_i0, w2c_i3;
+  u64 w2c_j0, w2c_j1, w2c_j2, w2c_j3;
   w2c_j0 = instance->w2c_g0;
   w2c_j1 = 16ull;
   w2c_i0 = (u64)((s64)w2c_j0 < (s64)w2c_j1);
   if (w2c_i0) {goto w2c_B0;}
   w2c_i0 = 3u;
-  w2c_l5 = w2c_i0;
-  w2c_j0 = w2c_p0;
+  w2c_l6 = w2c_i0;
+  w2c_j0 = w2c_p1;
+  w2c_j1 = 183ull;
+  w2c_i0 = (u64)((s64)w2c_j0 > (s64)w2c_j1);
+  if (w2c_i0) {goto w2c_B3;}
+  w2c_j0 = w2c_p1;
   w2c_j1 = 32ull;
   w2c_i0 = w2c_j0 > w2c_j1;
   if (w2c_i0) {goto w2c_B1;}
   w2c_j0 = 1ull;
-  w2c_j1 = w2c_p0;
+  w2c_j1 = w2c_p1;
   w2c_j0 <<= (w2c_j1 & 63);
   w2c_j1 = 4311810048ull;
   w2c_j0 &= w2c_j1;
   w2c_j1 = 0ull;
+  w2c_i0 = w2c_j0 != w2c_j1;
+  if (w2c_i0) {goto w2c_B2;}
+  goto w2c_B1;
+  w2c_B3:;
+  w2c_j0 = w2c_p1;
+  w2c_j1 = 184ull;
   w2c_i0 = w2c_j0 == w2c_j1;
+  if (w2c_i0) {goto w2c_B4;}
+  w2c_j0 = w2c_p1;
+  w2c_j1 = 248ull;
+  w2c_i0 = w2c_j0 == w2c_j1;
+  if (w2c_i0) {goto w2c_B4;}
+  w2c_j0 = w2c_p1;
+  w2c_j1 = 216ull;
+  w2c_i0 = w2c_j0 != w2c_j1;
   if (w2c_i0) {goto w2c_B1;}
+  w2c_B4:;
+  w2c_j0 = w2c_p0;
+  w2c_j1 = 4096ull;
+  w2c_j2 = 0ull;
+  w2c_j3 = w2c_p0;
+  w2c_i3 = !(w2c_j3);
+  w2c_j1 = w2c_i3 ? w2c_j1 : w2c_j2;
+  w2c_j0 += w2c_j1;
+  w2c_i0 = (u32)(w2c_j0);
+  w2c_j0 = i64_load(memory, (u64)(w2c_i0));
+  w2c_j1 = 5423823929002190187ull;
+  w2c_i0 = w2c_j0 != w2c_j1;
+  if (w2c_i0) {goto w2c_B1;}
+  w2c_B2:;
   w2c_i0 = 4u;
-  w2c_l5 = w2c_i0;
-  w2c_j0 = w2c_p4;
+  w2c_l6 = w2c_i0;
+  w2c_j0 = w2c_p5;
   w2c_i0 = !(w2c_j0);
   if (w2c_i0) {goto w2c_B1;}
-  w2c_j0 = w2c_p1;
-  w2c_j1 = w2c_p1;
-  w2c_j2 = w2c_p4;
+  w2c_j0 = w2c_p2;
+  w2c_j1 = w2c_p2;
+  w2c_j2 = w2c_p5;
   w2c_j1 = DIV_U(w2c_j1, w2c_j2);
-  w2c_p0 = w2c_j1;
-  w2c_j2 = w2c_p4;
+  w2c_p1 = w2c_j1;
+  w2c_j2 = w2c_p5;
   w2c_j1 *= w2c_j2;
   w2c_j0 -= w2c_j1;
   w2c_j1 = 0ull;
   w2c_i0 = w2c_j0 != w2c_j1;
   if (w2c_i0) {goto w2c_B1;}
-  w2c_i0 = w2c_p3;
+  w2c_i0 = w2c_p4;
   switch (w2c_i0) {
-    case 0: goto w2c_B3;
+    case 0: goto w2c_B6;
     case 1: goto w2c_B1;
-    case 2: goto w2c_B4;
+    case 2: goto w2c_B7;
     default: goto w2c_B1;
   }
-  w2c_B4:;
-  w2c_j0 = w2c_p2;
+  w2c_B7:;
+  w2c_j0 = w2c_p3;
   w2c_j1 = 18446744073709551615ull;
   w2c_j0 += w2c_j1;
   w2c_j1 = 1048576ull;
   w2c_i0 = w2c_j0 >= w2c_j1;
   if (w2c_i0) {goto w2c_B1;}
-  w2c_j0 = w2c_p0;
-  w2c_j1 = w2c_p2;
+  w2c_j0 = w2c_p1;
+  w2c_j1 = w2c_p3;
   w2c_j2 = 15ull;
   w2c_j1 += w2c_j2;
   w2c_j2 = 4194296ull;
   w2c_j1 &= w2c_j2;
   w2c_i0 = w2c_j0 == w2c_j1;
-  if (w2c_i0) {goto w2c_B2;}
+  if (w2c_i0) {goto w2c_B5;}
   goto w2c_B1;
-  w2c_B3:;
-  w2c_j0 = w2c_p2;
+  w2c_B6:;
+  w2c_j0 = w2c_p3;
   w2c_j1 = 7ull;
   w2c_j0 &= w2c_j1;
   w2c_j1 = 0ull;
   w2c_i0 = w2c_j0 != w2c_j1;
   if (w2c_i0) {goto w2c_B1;}
-  w2c_j0 = w2c_p2;
+  w2c_j0 = w2c_p3;
   w2c_j1 = 18446744073709551600ull;
   w2c_j0 += w2c_j1;
   w2c_j1 = 1048561ull;
   w2c_i0 = w2c_j0 >= w2c_j1;
   if (w2c_i0) {goto w2c_B1;}
-  w2c_j0 = w2c_p0;
-  w2c_j1 = w2c_p2;
+  w2c_j0 = w2c_p1;
+  w2c_j1 = w2c_p3;
   w2c_j2 = 15ull;
   w2c_j1 += w2c_j2;
   w2c_j2 = 4194296ull;
   w2c_j1 &= w2c_j2;
   w2c_i0 = w2c_j0 != w2c_j1;
   if (w2c_i0) {goto w2c_B1;}
-  w2c_B2:;
+  w2c_B5:;
   w2c_i0 = 0u;
-  w2c_l5 = w2c_i0;
+  w2c_l6 = w2c_i0;
   w2c_B1:;
-  w2c_i0 = w2c_l5;
+  w2c_i0 = w2c_l6;
   goto w2c_Bfunc;
   w2c_B0:;
   UNREACHABLE;
@@ -13152,6 +13830,689 @@ static u32 w2c_f69(struct instance *instance, u64 w2c_p0, u64 w2c_p1, u64 w2c_p2
   return w2c_i0;
 }
 #ifndef KEYWRAP_STEPS_ONLY
+static void w2c_keywrap_kek_clear(struct instance *instance, u64 w2c_p0, u64 w2c_p1) {
+  const struct memory memory = instance->w2c_memory;
+  (void)memory;
+  u32 w2c_i0;
+  u64 w2c_j0, w2c_j1;
+  w2c_i0 = w2c_f0(instance);
+  w2c_i0 = !(w2c_i0);
+  if (w2c_i0) {goto w2c_B0;}
+  w2c_f2(instance);
+  UNREACHABLE;
+  w2c_B0:;
+  w2c_j0 = w2c_p0;
+  w2c_j1 = w2c_p1;
+  w2c_f71(instance, w2c_j0, w2c_j1);
+  w2c_f1(instance);
+}
+static void w2c_f71(struct instance *instance, u64 w2c_p0, u64 w2c_p1) {
+  u32 w2c_l2 = 0;
+  const struct memory memory = instance->w2c_memory;
+  (void)memory;
+  u32 w2c_i0, w2c_i1, w2c_i2, w2c_i3;
+  u64 w2c_j0, w2c_j1, w2c_j2, w2c_j3;
+  w2c_j0 = instance->w2c_g0;
+  w2c_j1 = 16ull;
+  w2c_i0 = (u64)((s64)w2c_j0 < (s64)w2c_j1);
+  if (w2c_i0) {goto w2c_B0;}
+  w2c_j0 = w2c_p1;
+  w2c_i0 = !(w2c_j0);
+  if (w2c_i0) {goto w2c_B1;}
+  w2c_j0 = w2c_p0;
+  w2c_j1 = 4096ull;
+  w2c_j2 = 0ull;
+  w2c_j3 = w2c_p0;
+  w2c_i3 = !(w2c_j3);
+  w2c_j1 = w2c_i3 ? w2c_j1 : w2c_j2;
+  w2c_j0 += w2c_j1;
+  w2c_p0 = w2c_j0;
+  w2c_j0 = w2c_p1;
+  w2c_j1 = 18446744073709551615ull;
+  w2c_j0 += w2c_j1;
+  w2c_p1 = w2c_j0;
+  w2c_i0 = !(w2c_j0);
+  w2c_l2 = w2c_i0;
+  if (w2c_i0) {goto w2c_B2;}
+  w2c_i0 = w2c_l2;
+  if (w2c_i0) {goto w2c_B2;}
+  w2c_j0 = w2c_p0;
+  w2c_i0 = (u32)(w2c_j0);
+  w2c_i1 = 0u;
+  w2c_j2 = w2c_p1;
+  w2c_i2 = (u32)(w2c_j2);
+  memory_fill(memory, w2c_i0, w2c_i1, w2c_i2);
+  w2c_B2:;
+  w2c_j0 = w2c_p0;
+  w2c_j1 = w2c_p1;
+  w2c_j0 += w2c_j1;
+  w2c_i0 = (u32)(w2c_j0);
+  w2c_i1 = 0u;
+  i32_store8(memory, (u64)(w2c_i0), w2c_i1);
+  w2c_B1:;
+  goto w2c_Bfunc;
+  w2c_B0:;
+  UNREACHABLE;
+  w2c_Bfunc:;
+}
+static u32 w2c_keywrap_kek_init(struct instance *instance, u64 w2c_p0, u64 w2c_p1, u64 w2c_p2, u64 w2c_p3) {
+  u32 w2c_l4 = 0;
+  const struct memory memory = instance->w2c_memory;
+  (void)memory;
+  u32 w2c_i0;
+  u64 w2c_j0, w2c_j1, w2c_j2, w2c_j3;
+  w2c_i0 = w2c_f0(instance);
+  w2c_i0 = !(w2c_i0);
+  if (w2c_i0) {goto w2c_B0;}
+  w2c_f2(instance);
+  UNREACHABLE;
+  w2c_B0:;
+  w2c_j0 = w2c_p0;
+  w2c_j1 = w2c_p1;
+  w2c_j2 = w2c_p2;
+  w2c_j3 = w2c_p3;
+  w2c_i0 = w2c_f73(instance, w2c_j0, w2c_j1, w2c_j2, w2c_j3);
+  w2c_l4 = w2c_i0;
+  w2c_f1(instance);
+  w2c_i0 = w2c_l4;
+  return w2c_i0;
+}
+static u32 w2c_f73(struct instance *instance, u64 w2c_p0, u64 w2c_p1, u64 w2c_p2, u64 w2c_p3) {
+  u32 w2c_l9 = 0, w2c_l10 = 0, w2c_l11 = 0, w2c_l12 = 0;
+  u64 w2c_l4 = 0, w2c_l5 = 0, w2c_l6 = 0, w2c_l7 = 0, w2c_l8 = 0;
+  const struct memory memory = instance->w2c_memory;
+  (void)memory;
+  u32 w2c_i0, w2c_i1, w2c_i2, w2c_i3, w2c_i4;
+  u64 w2c_j0, w2c_j1, w2c_j2, w2c_j3, w2c_j4;
+  w2c_j0 = instance->w2c_g0;
+  w2c_j1 = 240ull;
+  w2c_j0 -= w2c_j1;
+  w2c_l4 = w2c_j0;
+  instance->w2c_g0 = w2c_j0;
+  w2c_j0 = w2c_l4;
+  w2c_l5 = w2c_j0;
+  w2c_j1 = 16ull;
+  w2c_i0 = (u64)((s64)w2c_j0 < (s64)w2c_j1);
+  if (w2c_i0) {goto w2c_B0;}
+  w2c_i0 = 3u;
+  w2c_l9 = w2c_i0;
+  w2c_j0 = w2c_p1;
+  w2c_j1 = 32ull;
+  w2c_i0 = w2c_j0 > w2c_j1;
+  if (w2c_i0) {goto w2c_B1;}
+  w2c_j0 = 1ull;
+  w2c_j1 = w2c_p1;
+  w2c_j0 <<= (w2c_j1 & 63);
+  w2c_j1 = 4311810048ull;
+  w2c_j0 &= w2c_j1;
+  w2c_j1 = 0ull;
+  w2c_i0 = w2c_j0 == w2c_j1;
+  if (w2c_i0) {goto w2c_B1;}
+  w2c_i0 = 4u;
+  w2c_l9 = w2c_i0;
+  w2c_j0 = w2c_p3;
+  w2c_j1 = w2c_p1;
+  w2c_j2 = 2ull;
+  w2c_j1 <<= (w2c_j2 & 63);
+  w2c_j2 = 120ull;
+  w2c_j1 += w2c_j2;
+  w2c_i0 = w2c_j0 != w2c_j1;
+  if (w2c_i0) {goto w2c_B1;}
+  w2c_i0 = 0u;
+  w2c_l10 = w2c_i0;
+  w2c_j0 = w2c_l5;
+  w2c_i0 = (u32)(w2c_j0);
+  w2c_i1 = 0u;
+  w2c_j2 = 240ull;
+  w2c_i2 = (u32)(w2c_j2);
+  memory_fill(memory, w2c_i0, w2c_i1, w2c_i2);
+  w2c_j0 = w2c_p1;
+  w2c_j1 = 18446744073709551600ull;
+  w2c_j0 += w2c_j1;
+  w2c_p1 = w2c_j0;
+  w2c_j1 = 16ull;
+  w2c_i0 = w2c_j0 > w2c_j1;
+  if (w2c_i0) {goto w2c_B1;}
+  w2c_j0 = 4ull;
+  w2c_l4 = w2c_j0;
+  w2c_i0 = 1u;
+  w2c_l11 = w2c_i0;
+  w2c_i0 = 0u;
+  w2c_l12 = w2c_i0;
+  w2c_j0 = w2c_p1;
+  w2c_i0 = (u32)(w2c_j0);
+  switch (w2c_i0) {
+    case 0: goto w2c_B2;
+    case 1: goto w2c_B1;
+    case 2: goto w2c_B1;
+    case 3: goto w2c_B1;
+    case 4: goto w2c_B1;
+    case 5: goto w2c_B1;
+    case 6: goto w2c_B1;
+    case 7: goto w2c_B1;
+    case 8: goto w2c_B4;
+    case 9: goto w2c_B1;
+    case 10: goto w2c_B1;
+    case 11: goto w2c_B1;
+    case 12: goto w2c_B1;
+    case 13: goto w2c_B1;
+    case 14: goto w2c_B1;
+    case 15: goto w2c_B1;
+    case 16: goto w2c_B3;
+    default: goto w2c_B2;
+  }
+  w2c_B4:;
+  w2c_j0 = 6ull;
+  w2c_l4 = w2c_j0;
+  w2c_i0 = 1u;
+  w2c_l12 = w2c_i0;
+  w2c_i0 = 0u;
+  w2c_l10 = w2c_i0;
+  w2c_i0 = 0u;
+  w2c_l11 = w2c_i0;
+  goto w2c_B2;
+  w2c_B3:;
+  w2c_j0 = 8ull;
+  w2c_l4 = w2c_j0;
+  w2c_i0 = 0u;
+  w2c_l11 = w2c_i0;
+  w2c_i0 = 1u;
+  w2c_l10 = w2c_i0;
+  w2c_i0 = 0u;
+  w2c_l12 = w2c_i0;
+  w2c_B2:;
+  w2c_j0 = w2c_p3;
+  w2c_j1 = 18446744073709551608ull;
+  w2c_j0 += w2c_j1;
+  w2c_j1 = w2c_l4;
+  w2c_j2 = 4ull;
+  w2c_j1 <<= (w2c_j2 & 63);
+  w2c_j2 = 112ull;
+  w2c_j1 += w2c_j2;
+  w2c_i0 = w2c_j0 != w2c_j1;
+  if (w2c_i0) {goto w2c_B1;}
+  w2c_j0 = 4096ull;
+  w2c_j1 = 0ull;
+  w2c_j2 = w2c_p2;
+  w2c_i2 = !(w2c_j2);
+  w2c_j0 = w2c_i2 ? w2c_j0 : w2c_j1;
+  w2c_p3 = w2c_j0;
+  w2c_j0 = w2c_l4;
+  w2c_j1 = 2ull;
+  w2c_j0 <<= (w2c_j1 & 63);
+  w2c_l6 = w2c_j0;
+  w2c_j0 = w2c_l5;
+  w2c_i0 = (u32)(w2c_j0);
+  w2c_j1 = w2c_p0;
+  w2c_j2 = 4096ull;
+  w2c_j3 = 0ull;
+  w2c_j4 = w2c_p0;
+  w2c_i4 = !(w2c_j4);
+  w2c_j2 = w2c_i4 ? w2c_j2 : w2c_j3;
+  w2c_j1 += w2c_j2;
+  w2c_p1 = w2c_j1;
+  w2c_i1 = (u32)(w2c_j1);
+  w2c_i1 = i32_load(memory, (u64)(w2c_i1));
+  w2c_l9 = w2c_i1;
+  w2c_i2 = 16711935u;
+  w2c_i1 &= w2c_i2;
+  w2c_i2 = 8u;
+  w2c_i1 = I32_ROTR(w2c_i1, w2c_i2);
+  w2c_i2 = w2c_l9;
+  w2c_i3 = 24u;
+  w2c_i2 = I32_ROTR(w2c_i2, w2c_i3);
+  w2c_i3 = 16711935u;
+  w2c_i2 &= w2c_i3;
+  w2c_i1 |= w2c_i2;
+  i32_store(memory, (u64)(w2c_i0), w2c_i1);
+  w2c_j0 = w2c_l5;
+  w2c_i0 = (u32)(w2c_j0);
+  w2c_j1 = w2c_p1;
+  w2c_j2 = 4ull;
+  w2c_j1 += w2c_j2;
+  w2c_i1 = (u32)(w2c_j1);
+  w2c_i1 = i32_load(memory, (u64)(w2c_i1));
+  w2c_l9 = w2c_i1;
+  w2c_i2 = 16711935u;
+  w2c_i1 &= w2c_i2;
+  w2c_i2 = 8u;
+  w2c_i1 = I32_ROTR(w2c_i1, w2c_i2);
+  w2c_i2 = w2c_l9;
+  w2c_i3 = 24u;
+  w2c_i2 = I32_ROTR(w2c_i2, w2c_i3);
+  w2c_i3 = 16711935u;
+  w2c_i2 &= w2c_i3;
+  w2c_i1 |= w2c_i2;
+  i32_store(memory, (u64)(w2c_i0) + 4, w2c_i1);
+  w2c_j0 = w2c_l5;
+  w2c_i0 = (u32)(w2c_j0);
+  w2c_j1 = w2c_p1;
+  w2c_j2 = 8ull;
+  w2c_j1 += w2c_j2;
+  w2c_i1 = (u32)(w2c_j1);
+  w2c_i1 = i32_load(memory, (u64)(w2c_i1));
+  w2c_l9 = w2c_i1;
+  w2c_i2 = 16711935u;
+  w2c_i1 &= w2c_i2;
+  w2c_i2 = 8u;
+  w2c_i1 = I32_ROTR(w2c_i1, w2c_i2);
+  w2c_i2 = w2c_l9;
+  w2c_i3 = 24u;
+  w2c_i2 = I32_ROTR(w2c_i2, w2c_i3);
+  w2c_i3 = 16711935u;
+  w2c_i2 &= w2c_i3;
+  w2c_i1 |= w2c_i2;
+  i32_store(memory, (u64)(w2c_i0) + 8, w2c_i1);
+  w2c_j0 = w2c_l5;
+  w2c_i0 = (u32)(w2c_j0);
+  w2c_j1 = w2c_p1;
+  w2c_j2 = 12ull;
+  w2c_j1 += w2c_j2;
+  w2c_i1 = (u32)(w2c_j1);
+  w2c_i1 = i32_load(memory, (u64)(w2c_i1));
+  w2c_l9 = w2c_i1;
+  w2c_i2 = 16711935u;
+  w2c_i1 &= w2c_i2;
+  w2c_i2 = 8u;
+  w2c_i1 = I32_ROTR(w2c_i1, w2c_i2);
+  w2c_i2 = w2c_l9;
+  w2c_i3 = 24u;
+  w2c_i2 = I32_ROTR(w2c_i2, w2c_i3);
+  w2c_i3 = 16711935u;
+  w2c_i2 &= w2c_i3;
+  w2c_i1 |= w2c_i2;
+  i32_store(memory, (u64)(w2c_i0) + 12, w2c_i1);
+  w2c_i0 = w2c_l11;
+  if (w2c_i0) {goto w2c_B5;}
+  w2c_j0 = w2c_l5;
+  w2c_i0 = (u32)(w2c_j0);
+  w2c_j1 = w2c_p1;
+  w2c_j2 = 16ull;
+  w2c_j1 += w2c_j2;
+  w2c_i1 = (u32)(w2c_j1);
+  w2c_i1 = i32_load(memory, (u64)(w2c_i1));
+  w2c_l9 = w2c_i1;
+  w2c_i2 = 16711935u;
+  w2c_i1 &= w2c_i2;
+  w2c_i2 = 8u;
+  w2c_i1 = I32_ROTR(w2c_i1, w2c_i2);
+  w2c_i2 = w2c_l9;
+  w2c_i3 = 24u;
+  w2c_i2 = I32_ROTR(w2c_i2, w2c_i3);
+  w2c_i3 = 16711935u;
+  w2c_i2 &= w2c_i3;
+  w2c_i1 |= w2c_i2;
+  i32_store(memory, (u64)(w2c_i0) + 16, w2c_i1);
+  w2c_j0 = w2c_l5;
+  w2c_i0 = (u32)(w2c_j0);
+  w2c_j1 = w2c_p1;
+  w2c_j2 = 20ull;
+  w2c_j1 += w2c_j2;
+  w2c_i1 = (u32)(w2c_j1);
+  w2c_i1 = i32_load(memory, (u64)(w2c_i1));
+  w2c_l9 = w2c_i1;
+  w2c_i2 = 16711935u;
+  w2c_i1 &= w2c_i2;
+  w2c_i2 = 8u;
+  w2c_i1 = I32_ROTR(w2c_i1, w2c_i2);
+  w2c_i2 = w2c_l9;
+  w2c_i3 = 24u;
+  w2c_i2 = I32_ROTR(w2c_i2, w2c_i3);
+  w2c_i3 = 16711935u;
+  w2c_i2 &= w2c_i3;
+  w2c_i1 |= w2c_i2;
+  i32_store(memory, (u64)(w2c_i0) + 20, w2c_i1);
+  w2c_i0 = w2c_l12;
+  if (w2c_i0) {goto w2c_B5;}
+  w2c_j0 = w2c_l5;
+  w2c_i0 = (u32)(w2c_j0);
+  w2c_j1 = w2c_p1;
+  w2c_j2 = 24ull;
+  w2c_j1 += w2c_j2;
+  w2c_i1 = (u32)(w2c_j1);
+  w2c_i1 = i32_load(memory, (u64)(w2c_i1));
+  w2c_l9 = w2c_i1;
+  w2c_i2 = 16711935u;
+  w2c_i1 &= w2c_i2;
+  w2c_i2 = 8u;
+  w2c_i1 = I32_ROTR(w2c_i1, w2c_i2);
+  w2c_i2 = w2c_l9;
+  w2c_i3 = 24u;
+  w2c_i2 = I32_ROTR(w2c_i2, w2c_i3);
+  w2c_i3 = 16711935u;
+  w2c_i2 &= w2c_i3;
+  w2c_i1 |= w2c_i2;
+  i32_store(memory, (u64)(w2c_i0) + 24, w2c_i1);
+  w2c_j0 = w2c_l5;
+  w2c_i0 = (u32)(w2c_j0);
+  w2c_j1 = w2c_p1;
+  w2c_j2 = 28ull;
+  w2c_j1 += w2c_j2;
+  w2c_i1 = (u32)(w2c_j1);
+  w2c_i1 = i32_load(memory, (u64)(w2c_i1));
+  w2c_l9 = w2c_i1;
+  w2c_i2 = 16711935u;
+  w2c_i1 &= w2c_i2;
+  w2c_i2 = 8u;
+  w2c_i1 = I32_ROTR(w2c_i1, w2c_i2);
+  w2c_i2 = w2c_l9;
+  w2c_i3 = 24u;
+  w2c_i2 = I32_ROTR(w2c_i2, w2c_i3);
+  w2c_i3 = 16711935u;
+  w2c_i2 &= w2c_i3;
+  w2c_i1 |= w2c_i2;
+  i32_store(memory, (u64)(w2c_i0) + 28, w2c_i1);
+  w2c_B5:;
+  w2c_j0 = w2c_p2;
+  w2c_j1 = w2c_p3;
+  w2c_j0 += w2c_j1;
+  w2c_l7 = w2c_j0;
+  w2c_j0 = w2c_l4;
+  w2c_j1 = 3ull;
+  w2c_j0 *= w2c_j1;
+  w2c_j1 = 28ull;
+  w2c_j0 += w2c_j1;
+  w2c_p2 = w2c_j0;
+  w2c_j0 = w2c_l5;
+  w2c_j1 = w2c_l6;
+  w2c_j0 += w2c_j1;
+  w2c_j1 = 18446744073709551612ull;
+  w2c_j0 += w2c_j1;
+  w2c_i0 = (u32)(w2c_j0);
+  w2c_i0 = i32_load(memory, (u64)(w2c_i0));
+  w2c_l9 = w2c_i0;
+  w2c_j0 = w2c_l5;
+  w2c_p3 = w2c_j0;
+  w2c_j0 = w2c_l4;
+  w2c_p1 = w2c_j0;
+  w2c_L6: 
+    w2c_j0 = w2c_l4;
+    w2c_j1 = w2c_p1;
+    w2c_j2 = w2c_l4;
+    w2c_j1 = DIV_U(w2c_j1, w2c_j2);
+    w2c_p0 = w2c_j1;
+    w2c_j0 *= w2c_j1;
+    w2c_j1 = w2c_p1;
+    w2c_i0 = w2c_j0 != w2c_j1;
+    if (w2c_i0) {goto w2c_B8;}
+    w2c_i0 = w2c_l9;
+    w2c_i1 = 8u;
+    w2c_i0 = I32_ROTL(w2c_i0, w2c_i1);
+    w2c_l9 = w2c_i0;
+    w2c_i1 = 16u;
+    w2c_i0 >>= (w2c_i1 & 31);
+    w2c_j0 = (u64)(w2c_i0);
+    w2c_j1 = 255ull;
+    w2c_j0 &= w2c_j1;
+    w2c_j1 = 65576ull;
+    w2c_j0 += w2c_j1;
+    w2c_i0 = (u32)(w2c_j0);
+    w2c_i0 = constant_i32_load8_u((u64)(w2c_i0));
+    w2c_i1 = 8u;
+    w2c_i0 <<= (w2c_i1 & 31);
+    w2c_i1 = w2c_l9;
+    w2c_j1 = (u64)(w2c_i1);
+    w2c_l8 = w2c_j1;
+    w2c_j2 = 24ull;
+    w2c_j1 >>= (w2c_j2 & 63);
+    w2c_i1 = (u32)(w2c_j1);
+    w2c_i1 = constant_i32_load8_u((u64)(w2c_i1) + 65576u);
+    w2c_i0 |= w2c_i1;
+    w2c_i1 = w2c_l9;
+    w2c_i2 = 8u;
+    w2c_i1 >>= (w2c_i2 & 31);
+    w2c_j1 = (u64)(w2c_i1);
+    w2c_j2 = 255ull;
+    w2c_j1 &= w2c_j2;
+    w2c_j2 = 65576ull;
+    w2c_j1 += w2c_j2;
+    w2c_i1 = (u32)(w2c_j1);
+    w2c_i1 = constant_i32_load8_u((u64)(w2c_i1));
+    w2c_i2 = 16u;
+    w2c_i1 <<= (w2c_i2 & 31);
+    w2c_i0 |= w2c_i1;
+    w2c_j1 = w2c_l8;
+    w2c_j2 = 255ull;
+    w2c_j1 &= w2c_j2;
+    w2c_i1 = (u32)(w2c_j1);
+    w2c_i1 = constant_i32_load8_u((u64)(w2c_i1) + 65576u);
+    w2c_i2 = 24u;
+    w2c_i1 <<= (w2c_i2 & 31);
+    w2c_i0 |= w2c_i1;
+    w2c_l9 = w2c_i0;
+    w2c_i1 = 16711935u;
+    w2c_i0 &= w2c_i1;
+    w2c_i1 = 8u;
+    w2c_i0 = I32_ROTR(w2c_i0, w2c_i1);
+    w2c_i1 = w2c_l9;
+    w2c_i2 = 24u;
+    w2c_i1 = I32_ROTR(w2c_i1, w2c_i2);
+    w2c_i2 = 16711935u;
+    w2c_i1 &= w2c_i2;
+    w2c_i0 |= w2c_i1;
+    w2c_j1 = w2c_p0;
+    w2c_j2 = 2ull;
+    w2c_j1 <<= (w2c_j2 & 63);
+    w2c_j2 = 65532ull;
+    w2c_j1 += w2c_j2;
+    w2c_i1 = (u32)(w2c_j1);
+    w2c_i1 = i32_load(memory, (u64)(w2c_i1));
+    w2c_i0 ^= w2c_i1;
+    w2c_l9 = w2c_i0;
+    goto w2c_B7;
+    w2c_B8:;
+    w2c_i0 = w2c_l10;
+    w2c_i1 = 1u;
+    w2c_i0 ^= w2c_i1;
+    w2c_j1 = w2c_p1;
+    w2c_j2 = 7ull;
+    w2c_j1 &= w2c_j2;
+    w2c_j2 = 4ull;
+    w2c_i1 = w2c_j1 != w2c_j2;
+    w2c_i0 |= w2c_i1;
+    if (w2c_i0) {goto w2c_B7;}
+    w2c_i0 = w2c_l9;
+    w2c_i1 = 16u;
+    w2c_i0 >>= (w2c_i1 & 31);
+    w2c_j0 = (u64)(w2c_i0);
+    w2c_j1 = 255ull;
+    w2c_j0 &= w2c_j1;
+    w2c_j1 = 65576ull;
+    w2c_j0 += w2c_j1;
+    w2c_i0 = (u32)(w2c_j0);
+    w2c_i0 = constant_i32_load8_u((u64)(w2c_i0));
+    w2c_i1 = 8u;
+    w2c_i0 <<= (w2c_i1 & 31);
+    w2c_i1 = w2c_l9;
+    w2c_j1 = (u64)(w2c_i1);
+    w2c_p0 = w2c_j1;
+    w2c_j2 = 24ull;
+    w2c_j1 >>= (w2c_j2 & 63);
+    w2c_i1 = (u32)(w2c_j1);
+    w2c_i1 = constant_i32_load8_u((u64)(w2c_i1) + 65576u);
+    w2c_i0 |= w2c_i1;
+    w2c_i1 = w2c_l9;
+    w2c_i2 = 8u;
+    w2c_i1 >>= (w2c_i2 & 31);
+    w2c_j1 = (u64)(w2c_i1);
+    w2c_j2 = 255ull;
+    w2c_j1 &= w2c_j2;
+    w2c_j2 = 65576ull;
+    w2c_j1 += w2c_j2;
+    w2c_i1 = (u32)(w2c_j1);
+    w2c_i1 = constant_i32_load8_u((u64)(w2c_i1));
+    w2c_i2 = 16u;
+    w2c_i1 <<= (w2c_i2 & 31);
+    w2c_i0 |= w2c_i1;
+    w2c_j1 = w2c_p0;
+    w2c_j2 = 255ull;
+    w2c_j1 &= w2c_j2;
+    w2c_i1 = (u32)(w2c_j1);
+    w2c_i1 = constant_i32_load8_u((u64)(w2c_i1) + 65576u);
+    w2c_i2 = 24u;
+    w2c_i1 <<= (w2c_i2 & 31);
+    w2c_i0 |= w2c_i1;
+    w2c_l9 = w2c_i0;
+    w2c_i1 = 16711935u;
+    w2c_i0 &= w2c_i1;
+    w2c_i1 = 8u;
+    w2c_i0 = I32_ROTR(w2c_i0, w2c_i1);
+    w2c_i1 = w2c_l9;
+    w2c_i2 = 24u;
+    w2c_i1 = I32_ROTR(w2c_i1, w2c_i2);
+    w2c_i2 = 16711935u;
+    w2c_i1 &= w2c_i2;
+    w2c_i0 |= w2c_i1;
+    w2c_l9 = w2c_i0;
+    w2c_B7:;
+    w2c_j0 = w2c_p3;
+    w2c_j1 = w2c_l6;
+    w2c_j0 += w2c_j1;
+    w2c_i0 = (u32)(w2c_j0);
+    w2c_i1 = w2c_l9;
+    w2c_j2 = w2c_p3;
+    w2c_i2 = (u32)(w2c_j2);
+    w2c_i2 = i32_load(memory, (u64)(w2c_i2));
+    w2c_i1 ^= w2c_i2;
+    w2c_l9 = w2c_i1;
+    i32_store(memory, (u64)(w2c_i0), w2c_i1);
+    w2c_j0 = w2c_p3;
+    w2c_j1 = 4ull;
+    w2c_j0 += w2c_j1;
+    w2c_p3 = w2c_j0;
+    w2c_j0 = w2c_p1;
+    w2c_j1 = 1ull;
+    w2c_j0 += w2c_j1;
+    w2c_p1 = w2c_j0;
+    w2c_j0 = w2c_p2;
+    w2c_j1 = 18446744073709551615ull;
+    w2c_j0 += w2c_j1;
+    w2c_p2 = w2c_j0;
+    w2c_j1 = 0ull;
+    w2c_i0 = w2c_j0 != w2c_j1;
+    if (w2c_i0) {goto w2c_L6;}
+  w2c_j0 = w2c_l4;
+  w2c_j1 = 4ull;
+  w2c_j0 <<= (w2c_j1 & 63);
+  w2c_p2 = w2c_j0;
+  w2c_j0 = 18446744073709551504ull;
+  w2c_p1 = w2c_j0;
+  w2c_L9: 
+    w2c_j0 = w2c_l7;
+    w2c_j1 = w2c_p1;
+    w2c_j0 += w2c_j1;
+    w2c_p3 = w2c_j0;
+    w2c_j1 = 120ull;
+    w2c_j0 += w2c_j1;
+    w2c_i0 = (u32)(w2c_j0);
+    w2c_j1 = w2c_l5;
+    w2c_j2 = w2c_p1;
+    w2c_j1 += w2c_j2;
+    w2c_l4 = w2c_j1;
+    w2c_j2 = 112ull;
+    w2c_j1 += w2c_j2;
+    w2c_i1 = (u32)(w2c_j1);
+    w2c_i1 = i32_load(memory, (u64)(w2c_i1));
+    w2c_l9 = w2c_i1;
+    w2c_i2 = 16711935u;
+    w2c_i1 &= w2c_i2;
+    w2c_i2 = 8u;
+    w2c_i1 = I32_ROTR(w2c_i1, w2c_i2);
+    w2c_i2 = w2c_l9;
+    w2c_i3 = 24u;
+    w2c_i2 = I32_ROTR(w2c_i2, w2c_i3);
+    w2c_i3 = 16711935u;
+    w2c_i2 &= w2c_i3;
+    w2c_i1 |= w2c_i2;
+    i32_store(memory, (u64)(w2c_i0), w2c_i1);
+    w2c_j0 = w2c_p3;
+    w2c_j1 = 124ull;
+    w2c_j0 += w2c_j1;
+    w2c_i0 = (u32)(w2c_j0);
+    w2c_j1 = w2c_l4;
+    w2c_j2 = 116ull;
+    w2c_j1 += w2c_j2;
+    w2c_i1 = (u32)(w2c_j1);
+    w2c_i1 = i32_load(memory, (u64)(w2c_i1));
+    w2c_l9 = w2c_i1;
+    w2c_i2 = 16711935u;
+    w2c_i1 &= w2c_i2;
+    w2c_i2 = 8u;
+    w2c_i1 = I32_ROTR(w2c_i1, w2c_i2);
+    w2c_i2 = w2c_l9;
+    w2c_i3 = 24u;
+    w2c_i2 = I32_ROTR(w2c_i2, w2c_i3);
+    w2c_i3 = 16711935u;
+    w2c_i2 &= w2c_i3;
+    w2c_i1 |= w2c_i2;
+    i32_store(memory, (u64)(w2c_i0), w2c_i1);
+    w2c_j0 = w2c_p3;
+    w2c_j1 = 128ull;
+    w2c_j0 += w2c_j1;
+    w2c_i0 = (u32)(w2c_j0);
+    w2c_j1 = w2c_l4;
+    w2c_j2 = 120ull;
+    w2c_j1 += w2c_j2;
+    w2c_i1 = (u32)(w2c_j1);
+    w2c_i1 = i32_load(memory, (u64)(w2c_i1));
+    w2c_l9 = w2c_i1;
+    w2c_i2 = 16711935u;
+    w2c_i1 &= w2c_i2;
+    w2c_i2 = 8u;
+    w2c_i1 = I32_ROTR(w2c_i1, w2c_i2);
+    w2c_i2 = w2c_l9;
+    w2c_i3 = 24u;
+    w2c_i2 = I32_ROTR(w2c_i2, w2c_i3);
+    w2c_i3 = 16711935u;
+    w2c_i2 &= w2c_i3;
+    w2c_i1 |= w2c_i2;
+    i32_store(memory, (u64)(w2c_i0), w2c_i1);
+    w2c_j0 = w2c_p3;
+    w2c_j1 = 132ull;
+    w2c_j0 += w2c_j1;
+    w2c_i0 = (u32)(w2c_j0);
+    w2c_j1 = w2c_l4;
+    w2c_j2 = 124ull;
+    w2c_j1 += w2c_j2;
+    w2c_i1 = (u32)(w2c_j1);
+    w2c_i1 = i32_load(memory, (u64)(w2c_i1));
+    w2c_l9 = w2c_i1;
+    w2c_i2 = 16711935u;
+    w2c_i1 &= w2c_i2;
+    w2c_i2 = 8u;
+    w2c_i1 = I32_ROTR(w2c_i1, w2c_i2);
+    w2c_i2 = w2c_l9;
+    w2c_i3 = 24u;
+    w2c_i2 = I32_ROTR(w2c_i2, w2c_i3);
+    w2c_i3 = 16711935u;
+    w2c_i2 &= w2c_i3;
+    w2c_i1 |= w2c_i2;
+    i32_store(memory, (u64)(w2c_i0), w2c_i1);
+    w2c_j0 = w2c_p2;
+    w2c_j1 = w2c_p1;
+    w2c_j2 = 16ull;
+    w2c_j1 += w2c_j2;
+    w2c_p1 = w2c_j1;
+    w2c_i0 = w2c_j0 != w2c_j1;
+    if (w2c_i0) {goto w2c_L9;}
+  w2c_j0 = w2c_l7;
+  w2c_i0 = (u32)(w2c_j0);
+  w2c_j1 = 5423823929002190187ull;
+  i64_store(memory, (u64)(w2c_i0), w2c_j1);
+  w2c_i0 = 0u;
+  w2c_l9 = w2c_i0;
+  w2c_B1:;
+  w2c_j0 = w2c_l5;
+  w2c_j1 = 240ull;
+  w2c_j0 += w2c_j1;
+  instance->w2c_g0 = w2c_j0;
+  w2c_i0 = w2c_l9;
+  goto w2c_Bfunc;
+  w2c_B0:;
+  UNREACHABLE;
+  w2c_Bfunc:;
+  return w2c_i0;
+}
 static u32 w2c_keywrap_kind(struct instance *instance, u64 w2c_p0, u64 w2c_p1, u64 w2c_p2, u64 w2c_p3, u64 w2c_p4, u64 w2c_p5, u64 w2c_p6, u64 w2c_p7) {
   u32 w2c_l8 = 0;
   const struct memory memory = instance->w2c_memory;
@@ -13172,13 +14533,13 @@ static u32 w2c_keywrap_kind(struct instance *instance, u64 w2c_p0, u64 w2c_p1, u
   w2c_j5 = w2c_p5;
   w2c_j6 = w2c_p6;
   w2c_j7 = w2c_p7;
-  w2c_i0 = w2c_f71(instance, w2c_j0, w2c_j1, w2c_j2, w2c_j3, w2c_j4, w2c_j5, w2c_j6, w2c_j7);
+  w2c_i0 = w2c_f75(instance, w2c_j0, w2c_j1, w2c_j2, w2c_j3, w2c_j4, w2c_j5, w2c_j6, w2c_j7);
   w2c_l8 = w2c_i0;
   w2c_f1(instance);
   w2c_i0 = w2c_l8;
   return w2c_i0;
 }
-static u32 w2c_f71(struct instance *instance, u64 w2c_p0, u64 w2c_p1, u64 w2c_p2, u64 w2c_p3, u64 w2c_p4, u64 w2c_p5, u64 w2c_p6, u64 w2c_p7) {
+static u32 w2c_f75(struct instance *instance, u64 w2c_p0, u64 w2c_p1, u64 w2c_p2, u64 w2c_p3, u64 w2c_p4, u64 w2c_p5, u64 w2c_p6, u64 w2c_p7) {
   u32 w2c_l9 = 0, w2c_l10 = 0;
   u64 w2c_l8 = 0;
   const struct memory memory = instance->w2c_memory;
@@ -13229,6 +14590,8 @@ static u32 w2c_f71(struct instance *instance, u64 w2c_p0, u64 w2c_p1, u64 w2c_p2
   w2c_j0 = w2c_l8;
   w2c_i0 = (u32)(w2c_j0);
   w2c_i0 = i32_load8_u(memory, (u64)(w2c_i0) + 4u);
+  w2c_i1 = 1u;
+  w2c_i0 = w2c_i0 != w2c_i1;
   if (w2c_i0) {goto w2c_B0;}
   w2c_j0 = w2c_l8;
   w2c_j1 = 252ull;
@@ -13326,7 +14689,7 @@ static u32 w2c_f71(struct instance *instance, u64 w2c_p0, u64 w2c_p1, u64 w2c_p2
   w2c_j0 = w2c_l8;
   w2c_i0 = (u32)(w2c_j0);
   w2c_j0 = i64_load(memory, (u64)(w2c_i0) + 536u);
-  w2c_p1 = w2c_j0;
+  w2c_p3 = w2c_j0;
   w2c_j0 = w2c_l8;
   w2c_i0 = (u32)(w2c_j0);
   w2c_i0 = i32_load8_u(memory, (u64)(w2c_i0) + 528u);
@@ -13337,7 +14700,7 @@ static u32 w2c_f71(struct instance *instance, u64 w2c_p0, u64 w2c_p1, u64 w2c_p2
   w2c_j0 = w2c_p5;
   w2c_j1 = 18446744073709551615ull;
   w2c_j0 += w2c_j1;
-  w2c_p3 = w2c_j0;
+  w2c_p1 = w2c_j0;
   w2c_i0 = !(w2c_j0);
   w2c_l9 = w2c_i0;
   if (w2c_i0) {goto w2c_B6;}
@@ -13346,12 +14709,12 @@ static u32 w2c_f71(struct instance *instance, u64 w2c_p0, u64 w2c_p1, u64 w2c_p2
   w2c_j0 = w2c_p0;
   w2c_i0 = (u32)(w2c_j0);
   w2c_i1 = 0u;
-  w2c_j2 = w2c_p3;
+  w2c_j2 = w2c_p1;
   w2c_i2 = (u32)(w2c_j2);
   memory_fill(memory, w2c_i0, w2c_i1, w2c_i2);
   w2c_B6:;
   w2c_j0 = w2c_p0;
-  w2c_j1 = w2c_p3;
+  w2c_j1 = w2c_p1;
   w2c_j0 += w2c_j1;
   w2c_i0 = (u32)(w2c_j0);
   w2c_i1 = 0u;
@@ -13369,13 +14732,13 @@ static u32 w2c_f71(struct instance *instance, u64 w2c_p0, u64 w2c_p1, u64 w2c_p2
   w2c_B9:;
   w2c_j0 = w2c_p7;
   w2c_i0 = (u32)(w2c_j0);
-  w2c_j1 = w2c_p1;
+  w2c_j1 = w2c_p3;
   i64_store(memory, (u64)(w2c_i0), w2c_j1);
   goto w2c_B7;
   w2c_B8:;
   w2c_j0 = w2c_p7;
   w2c_i0 = (u32)(w2c_j0);
-  w2c_j1 = w2c_p1;
+  w2c_j1 = w2c_p3;
   i64_store(memory, (u64)(w2c_i0), w2c_j1);
   w2c_j0 = w2c_p6;
   w2c_i0 = (u32)(w2c_j0);
@@ -13432,13 +14795,13 @@ static u32 w2c_keywrap_kind_many(struct instance *instance, u64 w2c_p0, u64 w2c_
   w2c_j9 = w2c_p9;
   w2c_j10 = w2c_p10;
   w2c_j11 = w2c_p11;
-  w2c_i0 = w2c_f73(instance, w2c_j0, w2c_j1, w2c_j2, w2c_j3, w2c_j4, w2c_j5, w2c_j6, w2c_j7, w2c_j8, w2c_j9, w2c_j10, w2c_j11);
+  w2c_i0 = w2c_f77(instance, w2c_j0, w2c_j1, w2c_j2, w2c_j3, w2c_j4, w2c_j5, w2c_j6, w2c_j7, w2c_j8, w2c_j9, w2c_j10, w2c_j11);
   w2c_l12 = w2c_i0;
   w2c_f1(instance);
   w2c_i0 = w2c_l12;
   return w2c_i0;
 }
-static u32 w2c_f73(struct instance *instance, u64 w2c_p0, u64 w2c_p1, u64 w2c_p2, u64 w2c_p3, u64 w2c_p4, u64 w2c_p5, u64 w2c_p6, u64 w2c_p7, 
+static u32 w2c_f77(struct instance *instance, u64 w2c_p0, u64 w2c_p1, u64 w2c_p2, u64 w2c_p3, u64 w2c_p4, u64 w2c_p5, u64 w2c_p6, u64 w2c_p7, 
     u64 w2c_p8, u64 w2c_p9, u64 w2c_p10, u64 w2c_p11) {
   u32 w2c_l13 = 0;
   u64 w2c_l12 = 0;
@@ -13482,6 +14845,8 @@ static u32 w2c_f73(struct instance *instance, u64 w2c_p0, u64 w2c_p1, u64 w2c_p2
   w2c_j0 = w2c_l12;
   w2c_i0 = (u32)(w2c_j0);
   w2c_i0 = i32_load8_u(memory, (u64)(w2c_i0) + 4u);
+  w2c_i1 = 1u;
+  w2c_i0 = w2c_i0 != w2c_i1;
   if (w2c_i0) {goto w2c_B1;}
   w2c_j0 = w2c_l12;
   w2c_j1 = 252ull;
@@ -13609,13 +14974,13 @@ static u32 w2c_keywrap_next_rewrap(struct instance *instance, u32 w2c_p0, u64 w2
   w2c_j3 = w2c_p3;
   w2c_j4 = w2c_p4;
   w2c_j5 = w2c_p5;
-  w2c_i0 = w2c_f75(instance, w2c_i0, w2c_j1, w2c_j2, w2c_j3, w2c_j4, w2c_j5);
+  w2c_i0 = w2c_f79(instance, w2c_i0, w2c_j1, w2c_j2, w2c_j3, w2c_j4, w2c_j5);
   w2c_p0 = w2c_i0;
   w2c_f1(instance);
   w2c_i0 = w2c_p0;
   return w2c_i0;
 }
-static u32 w2c_f75(struct instance *instance, u32 w2c_p0, u64 w2c_p1, u64 w2c_p2, u64 w2c_p3, u64 w2c_p4, u64 w2c_p5) {
+static u32 w2c_f79(struct instance *instance, u32 w2c_p0, u64 w2c_p1, u64 w2c_p2, u64 w2c_p3, u64 w2c_p4, u64 w2c_p5) {
   u32 w2c_l12 = 0, w2c_l13 = 0, w2c_l14 = 0, w2c_l15 = 0, w2c_l16 = 0, w2c_l17 = 0, w2c_l18 = 0, w2c_l19 = 0;
   u64 w2c_l6 = 0, w2c_l7 = 0, w2c_l8 = 0, w2c_l9 = 0, w2c_l10 = 0, w2c_l11 = 0;
   const struct memory memory = instance->w2c_memory;
@@ -14367,13 +15732,13 @@ static u32 w2c_keywrap_next_rewrap_from(struct instance *instance, u32 w2c_p0, u
   w2c_j5 = w2c_p5;
   w2c_j6 = w2c_p6;
   w2c_j7 = w2c_p7;
-  w2c_i0 = w2c_f77(instance, w2c_i0, w2c_j1, w2c_j2, w2c_j3, w2c_j4, w2c_j5, w2c_j6, w2c_j7);
+  w2c_i0 = w2c_f81(instance, w2c_i0, w2c_j1, w2c_j2, w2c_j3, w2c_j4, w2c_j5, w2c_j6, w2c_j7);
   w2c_p0 = w2c_i0;
   w2c_f1(instance);
   w2c_i0 = w2c_p0;
   return w2c_i0;
 }
-static u32 w2c_f77(struct instance *instance, u32 w2c_p0, u64 w2c_p1, u64 w2c_p2, u64 w2c_p3, u64 w2c_p4, u64 w2c_p5, u64 w2c_p6, u64 w2c_p7) {
+static u32 w2c_f81(struct instance *instance, u32 w2c_p0, u64 w2c_p1, u64 w2c_p2, u64 w2c_p3, u64 w2c_p4, u64 w2c_p5, u64 w2c_p6, u64 w2c_p7) {
   u32 w2c_l14 = 0, w2c_l15 = 0, w2c_l16 = 0, w2c_l17 = 0, w2c_l18 = 0, w2c_l19 = 0, w2c_l20 = 0, w2c_l21 = 0;
   u64 w2c_l8 = 0, w2c_l9 = 0, w2c_l10 = 0, w2c_l11 = 0, w2c_l12 = 0, w2c_l13 = 0;
   const struct memory memory = instance->w2c_memory;
@@ -15387,13 +16752,13 @@ static u32 w2c_keywrap_rewrap(struct instance *instance, u64 w2c_p0, u64 w2c_p1,
   w2c_j5 = w2c_p5;
   w2c_i6 = w2c_p6;
   w2c_j7 = w2c_p7;
-  w2c_i0 = w2c_f79(instance, w2c_j0, w2c_j1, w2c_j2, w2c_j3, w2c_j4, w2c_j5, w2c_i6, w2c_j7);
+  w2c_i0 = w2c_f83(instance, w2c_j0, w2c_j1, w2c_j2, w2c_j3, w2c_j4, w2c_j5, w2c_i6, w2c_j7);
   w2c_p6 = w2c_i0;
   w2c_f1(instance);
   w2c_i0 = w2c_p6;
   return w2c_i0;
 }
-static u32 w2c_f79(struct instance *instance, u64 w2c_p0, u64 w2c_p1, u64 w2c_p2, u64 w2c_p3, u64 w2c_p4, u64 w2c_p5, u32 w2c_p6, u64 w2c_p7) {
+static u32 w2c_f83(struct instance *instance, u64 w2c_p0, u64 w2c_p1, u64 w2c_p2, u64 w2c_p3, u64 w2c_p4, u64 w2c_p5, u32 w2c_p6, u64 w2c_p7) {
   u32 w2c_l9 = 0, w2c_l10 = 0;
   u64 w2c_l8 = 0;
   const struct memory memory = instance->w2c_memory;
@@ -15447,6 +16812,8 @@ static u32 w2c_f79(struct instance *instance, u64 w2c_p0, u64 w2c_p1, u64 w2c_p2
   w2c_j0 = w2c_l8;
   w2c_i0 = (u32)(w2c_j0);
   w2c_i0 = i32_load8_u(memory, (u64)(w2c_i0) + 288u);
+  w2c_i1 = 1u;
+  w2c_i0 = w2c_i0 != w2c_i1;
   if (w2c_i0) {goto w2c_B1;}
   w2c_j0 = w2c_l8;
   w2c_j1 = 828ull;
@@ -15476,6 +16843,8 @@ static u32 w2c_f79(struct instance *instance, u64 w2c_p0, u64 w2c_p1, u64 w2c_p2
   w2c_j0 = w2c_l8;
   w2c_i0 = (u32)(w2c_j0);
   w2c_i0 = i32_load8_u(memory, (u64)(w2c_i0) + 40u);
+  w2c_i1 = 1u;
+  w2c_i0 = w2c_i0 != w2c_i1;
   if (w2c_i0) {goto w2c_B1;}
   w2c_j0 = w2c_l8;
   w2c_j1 = 584ull;
@@ -15653,13 +17022,13 @@ static u32 w2c_keywrap_rewrap_in_place(struct instance *instance, u64 w2c_p0, u6
   w2c_j4 = w2c_p4;
   w2c_j5 = w2c_p5;
   w2c_i6 = w2c_p6;
-  w2c_i0 = w2c_f81(instance, w2c_j0, w2c_j1, w2c_j2, w2c_j3, w2c_j4, w2c_j5, w2c_i6);
+  w2c_i0 = w2c_f85(instance, w2c_j0, w2c_j1, w2c_j2, w2c_j3, w2c_j4, w2c_j5, w2c_i6);
   w2c_p6 = w2c_i0;
   w2c_f1(instance);
   w2c_i0 = w2c_p6;
   return w2c_i0;
 }
-static u32 w2c_f81(struct instance *instance, u64 w2c_p0, u64 w2c_p1, u64 w2c_p2, u64 w2c_p3, u64 w2c_p4, u64 w2c_p5, u32 w2c_p6) {
+static u32 w2c_f85(struct instance *instance, u64 w2c_p0, u64 w2c_p1, u64 w2c_p2, u64 w2c_p3, u64 w2c_p4, u64 w2c_p5, u32 w2c_p6) {
   u32 w2c_l8 = 0;
   u64 w2c_l7 = 0;
   const struct memory memory = instance->w2c_memory;
@@ -15709,6 +17078,8 @@ static u32 w2c_f81(struct instance *instance, u64 w2c_p0, u64 w2c_p1, u64 w2c_p2
   w2c_j0 = w2c_l7;
   w2c_i0 = (u32)(w2c_j0);
   w2c_i0 = i32_load8_u(memory, (u64)(w2c_i0) + 288u);
+  w2c_i1 = 1u;
+  w2c_i0 = w2c_i0 != w2c_i1;
   if (w2c_i0) {goto w2c_B1;}
   w2c_j0 = w2c_l7;
   w2c_j1 = 828ull;
@@ -15738,6 +17109,8 @@ static u32 w2c_f81(struct instance *instance, u64 w2c_p0, u64 w2c_p1, u64 w2c_p2
   w2c_j0 = w2c_l7;
   w2c_i0 = (u32)(w2c_j0);
   w2c_i0 = i32_load8_u(memory, (u64)(w2c_i0) + 40u);
+  w2c_i1 = 1u;
+  w2c_i0 = w2c_i0 != w2c_i1;
   if (w2c_i0) {goto w2c_B1;}
   w2c_j0 = w2c_l7;
   w2c_j1 = 584ull;
@@ -15864,7 +17237,7 @@ static u32 w2c_f81(struct instance *instance, u64 w2c_p0, u64 w2c_p1, u64 w2c_p2
   w2c_j0 = w2c_p5;
   w2c_j1 = 18446744073709551615ull;
   w2c_j0 += w2c_j1;
-  w2c_p1 = w2c_j0;
+  w2c_p2 = w2c_j0;
   w2c_i0 = !(w2c_j0);
   w2c_p6 = w2c_i0;
   if (w2c_i0) {goto w2c_B5;}
@@ -15873,12 +17246,12 @@ static u32 w2c_f81(struct instance *instance, u64 w2c_p0, u64 w2c_p1, u64 w2c_p2
   w2c_j0 = w2c_p0;
   w2c_i0 = (u32)(w2c_j0);
   w2c_i1 = 0u;
-  w2c_j2 = w2c_p1;
+  w2c_j2 = w2c_p2;
   w2c_i2 = (u32)(w2c_j2);
   memory_fill(memory, w2c_i0, w2c_i1, w2c_i2);
   w2c_B5:;
   w2c_j0 = w2c_p0;
-  w2c_j1 = w2c_p1;
+  w2c_j1 = w2c_p2;
   w2c_j0 += w2c_j1;
   w2c_i0 = (u32)(w2c_j0);
   w2c_i1 = 0u;
@@ -15891,7 +17264,7 @@ static u32 w2c_f81(struct instance *instance, u64 w2c_p0, u64 w2c_p1, u64 w2c_p2
   w2c_j0 = w2c_p5;
   w2c_j1 = 18446744073709551615ull;
   w2c_j0 += w2c_j1;
-  w2c_p1 = w2c_j0;
+  w2c_p2 = w2c_j0;
   w2c_i0 = !(w2c_j0);
   w2c_p6 = w2c_i0;
   if (w2c_i0) {goto w2c_B6;}
@@ -15900,12 +17273,12 @@ static u32 w2c_f81(struct instance *instance, u64 w2c_p0, u64 w2c_p1, u64 w2c_p2
   w2c_j0 = w2c_p0;
   w2c_i0 = (u32)(w2c_j0);
   w2c_i1 = 0u;
-  w2c_j2 = w2c_p1;
+  w2c_j2 = w2c_p2;
   w2c_i2 = (u32)(w2c_j2);
   memory_fill(memory, w2c_i0, w2c_i1, w2c_i2);
   w2c_B6:;
   w2c_j0 = w2c_p0;
-  w2c_j1 = w2c_p1;
+  w2c_j1 = w2c_p2;
   w2c_j0 += w2c_j1;
   w2c_i0 = (u32)(w2c_j0);
   w2c_i1 = 0u;
@@ -15943,13 +17316,13 @@ static u32 w2c_keywrap_rewrap_many(struct instance *instance, u64 w2c_p0, u64 w2
   w2c_i6 = w2c_p6;
   w2c_j7 = w2c_p7;
   w2c_j8 = w2c_p8;
-  w2c_i0 = w2c_f83(instance, w2c_j0, w2c_j1, w2c_j2, w2c_j3, w2c_j4, w2c_j5, w2c_i6, w2c_j7, w2c_j8);
+  w2c_i0 = w2c_f87(instance, w2c_j0, w2c_j1, w2c_j2, w2c_j3, w2c_j4, w2c_j5, w2c_i6, w2c_j7, w2c_j8);
   w2c_p6 = w2c_i0;
   w2c_f1(instance);
   w2c_i0 = w2c_p6;
   return w2c_i0;
 }
-static u32 w2c_f83(struct instance *instance, u64 w2c_p0, u64 w2c_p1, u64 w2c_p2, u64 w2c_p3, u64 w2c_p4, u64 w2c_p5, u32 w2c_p6, u64 w2c_p7, 
+static u32 w2c_f87(struct instance *instance, u64 w2c_p0, u64 w2c_p1, u64 w2c_p2, u64 w2c_p3, u64 w2c_p4, u64 w2c_p5, u32 w2c_p6, u64 w2c_p7, 
     u64 w2c_p8) {
   u32 w2c_l10 = 0, w2c_l11 = 0, w2c_l12 = 0;
   u64 w2c_l9 = 0;
@@ -16001,6 +17374,8 @@ static u32 w2c_f83(struct instance *instance, u64 w2c_p0, u64 w2c_p1, u64 w2c_p2
   w2c_j0 = w2c_l9;
   w2c_i0 = (u32)(w2c_j0);
   w2c_i0 = i32_load8_u(memory, (u64)(w2c_i0) + 256u);
+  w2c_i1 = 1u;
+  w2c_i0 = w2c_i0 != w2c_i1;
   if (w2c_i0) {goto w2c_B1;}
   w2c_j0 = w2c_l9;
   w2c_j1 = 796ull;
@@ -16030,6 +17405,8 @@ static u32 w2c_f83(struct instance *instance, u64 w2c_p0, u64 w2c_p1, u64 w2c_p2
   w2c_j0 = w2c_l9;
   w2c_i0 = (u32)(w2c_j0);
   w2c_i0 = i32_load8_u(memory, (u64)(w2c_i0) + 8u);
+  w2c_i1 = 1u;
+  w2c_i0 = w2c_i0 != w2c_i1;
   if (w2c_i0) {goto w2c_B1;}
   w2c_j0 = w2c_l9;
   w2c_j1 = 552ull;
@@ -16050,7 +17427,7 @@ static u32 w2c_f83(struct instance *instance, u64 w2c_p0, u64 w2c_p1, u64 w2c_p2
   w2c_i0 = !(w2c_j0);
   if (w2c_i0) {goto w2c_B1;}
   w2c_j0 = 0ull;
-  w2c_p1 = w2c_j0;
+  w2c_p2 = w2c_j0;
   w2c_j0 = w2c_p5;
   w2c_j1 = w2c_p5;
   w2c_j2 = w2c_p8;
@@ -16065,7 +17442,7 @@ static u32 w2c_f83(struct instance *instance, u64 w2c_p0, u64 w2c_p1, u64 w2c_p2
   w2c_j0 = 12008468691120727718ull;
   w2c_p3 = w2c_j0;
   w2c_j0 = 12008468691120727718ull;
-  w2c_p2 = w2c_j0;
+  w2c_p1 = w2c_j0;
   w2c_i0 = w2c_p6;
   switch (w2c_i0) {
     case 0: goto w2c_B4;
@@ -16085,7 +17462,7 @@ static u32 w2c_f83(struct instance *instance, u64 w2c_p0, u64 w2c_p1, u64 w2c_p2
   }
   w2c_B8:;
   w2c_j0 = 0ull;
-  w2c_p2 = w2c_j0;
+  w2c_p1 = w2c_j0;
   w2c_j0 = w2c_p0;
   w2c_j1 = 7ull;
   w2c_j0 &= w2c_j1;
@@ -16101,7 +17478,7 @@ static u32 w2c_f83(struct instance *instance, u64 w2c_p0, u64 w2c_p1, u64 w2c_p2
   w2c_i0 = 0u;
   w2c_l11 = w2c_i0;
   w2c_j0 = 0ull;
-  w2c_p1 = w2c_j0;
+  w2c_p2 = w2c_j0;
   w2c_j0 = 0ull;
   w2c_p5 = w2c_j0;
   w2c_i0 = 0u;
@@ -16111,7 +17488,7 @@ static u32 w2c_f83(struct instance *instance, u64 w2c_p0, u64 w2c_p1, u64 w2c_p2
   w2c_j0 = 0ull;
   w2c_p3 = w2c_j0;
   w2c_j0 = 1ull;
-  w2c_p1 = w2c_j0;
+  w2c_p2 = w2c_j0;
   w2c_B6:;
   w2c_j0 = w2c_p0;
   w2c_j1 = 18446744073709551600ull;
@@ -16124,13 +17501,13 @@ static u32 w2c_f83(struct instance *instance, u64 w2c_p0, u64 w2c_p1, u64 w2c_p2
   w2c_j0 = 0ull;
   w2c_p5 = w2c_j0;
   w2c_j0 = w2c_p3;
-  w2c_p2 = w2c_j0;
+  w2c_p1 = w2c_j0;
   goto w2c_B3;
   w2c_B5:;
   w2c_j0 = 0ull;
-  w2c_p2 = w2c_j0;
-  w2c_j0 = 1ull;
   w2c_p1 = w2c_j0;
+  w2c_j0 = 1ull;
+  w2c_p2 = w2c_j0;
   w2c_B4:;
   w2c_j0 = w2c_p0;
   w2c_j1 = 18446744073709551592ull;
@@ -16191,11 +17568,11 @@ static u32 w2c_f83(struct instance *instance, u64 w2c_p0, u64 w2c_p1, u64 w2c_p2
   i32_store(memory, (u64)(w2c_i0) + 545, w2c_i1);
   w2c_j0 = w2c_l9;
   w2c_i0 = (u32)(w2c_j0);
-  w2c_j1 = w2c_p2;
+  w2c_j1 = w2c_p1;
   i64_store(memory, (u64)(w2c_i0) + 536, w2c_j1);
   w2c_j0 = w2c_l9;
   w2c_i0 = (u32)(w2c_j0);
-  w2c_j1 = w2c_p1;
+  w2c_j1 = w2c_p2;
   i64_store(memory, (u64)(w2c_i0) + 528, w2c_j1);
   w2c_j0 = w2c_l9;
   w2c_i0 = (u32)(w2c_j0);
@@ -16268,13 +17645,13 @@ static u32 w2c_keywrap_self_test(struct instance *instance) {
   w2c_f2(instance);
   UNREACHABLE;
   w2c_B0:;
-  w2c_i0 = w2c_f85(instance);
+  w2c_i0 = w2c_f89(instance);
   w2c_l0 = w2c_i0;
   w2c_f1(instance);
   w2c_i0 = w2c_l0;
   return w2c_i0;
 }
-static u32 w2c_f85(struct instance *instance) {
+static u32 w2c_f89(struct instance *instance) {
   u32 w2c_l1 = 0, w2c_l2 = 0, w2c_l3 = 0, w2c_l4 = 0, w2c_l5 = 0, w2c_l6 = 0, w2c_l7 = 0, w2c_l8 = 0, 
       w2c_l9 = 0;
   u64 w2c_l0 = 0;
@@ -16371,6 +17748,8 @@ static u32 w2c_f85(struct instance *instance) {
   w2c_j0 = w2c_l0;
   w2c_i0 = (u32)(w2c_j0);
   w2c_i0 = i32_load8_u(memory, (u64)(w2c_i0) + 52u);
+  w2c_i1 = 1u;
+  w2c_i0 = w2c_i0 != w2c_i1;
   if (w2c_i0) {goto w2c_B1;}
   w2c_j0 = w2c_l0;
   w2c_j1 = 300ull;
@@ -16489,13 +17868,13 @@ static u64 w2c_keywrap_status_text(struct instance *instance, u32 w2c_p0, u64 w2
   w2c_i0 = w2c_p0;
   w2c_j1 = w2c_p1;
   w2c_j2 = w2c_p2;
-  w2c_j0 = w2c_f87(instance, w2c_i0, w2c_j1, w2c_j2);
+  w2c_j0 = w2c_f91(instance, w2c_i0, w2c_j1, w2c_j2);
   w2c_p2 = w2c_j0;
   w2c_f1(instance);
   w2c_j0 = w2c_p2;
   return w2c_j0;
 }
-static u64 w2c_f87(struct instance *instance, u32 w2c_p0, u64 w2c_p1, u64 w2c_p2) {
+static u64 w2c_f91(struct instance *instance, u32 w2c_p0, u64 w2c_p1, u64 w2c_p2) {
   u64 w2c_l3 = 0, w2c_l4 = 0, w2c_l5 = 0, w2c_l6 = 0, w2c_l7 = 0, w2c_l8 = 0, w2c_l9 = 0, w2c_l10 = 0, 
       w2c_l11 = 0;
   const struct memory memory = instance->w2c_memory;
@@ -16698,13 +18077,13 @@ static u64 w2c_keywrap_step_count(struct instance *instance, u64 w2c_p0) {
   UNREACHABLE;
   w2c_B0:;
   w2c_j0 = w2c_p0;
-  w2c_j0 = w2c_f89(instance, w2c_j0);
+  w2c_j0 = w2c_f93(instance, w2c_j0);
   w2c_p0 = w2c_j0;
   w2c_f1(instance);
   w2c_j0 = w2c_p0;
   return w2c_j0;
 }
-static u64 w2c_f89(struct instance *instance, u64 w2c_p0) {
+static u64 w2c_f93(struct instance *instance, u64 w2c_p0) {
   const struct memory memory = instance->w2c_memory;
   (void)memory;
   u32 w2c_i0, w2c_i2;
@@ -16743,13 +18122,13 @@ static u32 w2c_keywrap_step_unwrap(struct instance *instance, u64 w2c_p0, u64 w2
   w2c_j1 = w2c_p1;
   w2c_j2 = w2c_p2;
   w2c_j3 = w2c_p3;
-  w2c_i0 = w2c_f91(instance, w2c_j0, w2c_j1, w2c_j2, w2c_j3);
+  w2c_i0 = w2c_f95(instance, w2c_j0, w2c_j1, w2c_j2, w2c_j3);
   w2c_l4 = w2c_i0;
   w2c_f1(instance);
   w2c_i0 = w2c_l4;
   return w2c_i0;
 }
-static u32 w2c_f91(struct instance *instance, u64 w2c_p0, u64 w2c_p1, u64 w2c_p2, u64 w2c_p3) {
+static u32 w2c_f95(struct instance *instance, u64 w2c_p0, u64 w2c_p1, u64 w2c_p2, u64 w2c_p3) {
   u32 w2c_l4 = 0;
   u64 w2c_l5 = 0, w2c_l6 = 0, w2c_l7 = 0;
   const struct memory memory = instance->w2c_memory;
@@ -16934,13 +18313,13 @@ static u32 w2c_keywrap_step_wrap(struct instance *instance, u64 w2c_p0, u64 w2c_
   w2c_j1 = w2c_p1;
   w2c_j2 = w2c_p2;
   w2c_j3 = w2c_p3;
-  w2c_i0 = w2c_f93(instance, w2c_j0, w2c_j1, w2c_j2, w2c_j3);
+  w2c_i0 = w2c_f97(instance, w2c_j0, w2c_j1, w2c_j2, w2c_j3);
   w2c_l4 = w2c_i0;
   w2c_f1(instance);
   w2c_i0 = w2c_l4;
   return w2c_i0;
 }
-static u32 w2c_f93(struct instance *instance, u64 w2c_p0, u64 w2c_p1, u64 w2c_p2, u64 w2c_p3) {
+static u32 w2c_f97(struct instance *instance, u64 w2c_p0, u64 w2c_p1, u64 w2c_p2, u64 w2c_p3) {
   u32 w2c_l4 = 0;
   u64 w2c_l5 = 0, w2c_l6 = 0, w2c_l7 = 0, w2c_l8 = 0, w2c_l9 = 0;
   const struct memory memory = instance->w2c_memory;
@@ -17133,13 +18512,13 @@ static u32 w2c_keywrap_unwrap(struct instance *instance, u64 w2c_p0, u64 w2c_p1,
   w2c_j3 = w2c_p3;
   w2c_j4 = w2c_p4;
   w2c_j5 = w2c_p5;
-  w2c_i0 = w2c_f95(instance, w2c_j0, w2c_j1, w2c_j2, w2c_j3, w2c_j4, w2c_j5);
+  w2c_i0 = w2c_f99(instance, w2c_j0, w2c_j1, w2c_j2, w2c_j3, w2c_j4, w2c_j5);
   w2c_l6 = w2c_i0;
   w2c_f1(instance);
   w2c_i0 = w2c_l6;
   return w2c_i0;
 }
-static u32 w2c_f95(struct instance *instance, u64 w2c_p0, u64 w2c_p1, u64 w2c_p2, u64 w2c_p3, u64 w2c_p4, u64 w2c_p5) {
+static u32 w2c_f99(struct instance *instance, u64 w2c_p0, u64 w2c_p1, u64 w2c_p2, u64 w2c_p3, u64 w2c_p4, u64 w2c_p5) {
   const struct memory memory = instance->w2c_memory;
   (void)memory;
   u32 w2c_i0, w2c_i3, w2c_i5, w2c_i7;
@@ -17191,13 +18570,13 @@ static u32 w2c_keywrap_unwrap_any(struct instance *instance, u64 w2c_p0, u64 w2c
   w2c_j5 = w2c_p5;
   w2c_j6 = w2c_p6;
   w2c_j7 = w2c_p7;
-  w2c_i0 = w2c_f97(instance, w2c_j0, w2c_j1, w2c_j2, w2c_j3, w2c_j4, w2c_j5, w2c_j6, w2c_j7);
+  w2c_i0 = w2c_f101(instance, w2c_j0, w2c_j1, w2c_j2, w2c_j3, w2c_j4, w2c_j5, w2c_j6, w2c_j7);
   w2c_l8 = w2c_i0;
   w2c_f1(instance);
   w2c_i0 = w2c_l8;
   return w2c_i0;
 }
-static u32 w2c_f97(struct instance *instance, u64 w2c_p0, u64 w2c_p1, u64 w2c_p2, u64 w2c_p3, u64 w2c_p4, u64 w2c_p5, u64 w2c_p6, u64 w2c_p7) {
+static u32 w2c_f101(struct instance *instance, u64 w2c_p0, u64 w2c_p1, u64 w2c_p2, u64 w2c_p3, u64 w2c_p4, u64 w2c_p5, u64 w2c_p6, u64 w2c_p7) {
   u32 w2c_l9 = 0;
   u64 w2c_l8 = 0;
   const struct memory memory = instance->w2c_memory;
@@ -17260,6 +18639,8 @@ static u32 w2c_f97(struct instance *instance, u64 w2c_p0, u64 w2c_p1, u64 w2c_p2
   w2c_j0 = w2c_l8;
   w2c_i0 = (u32)(w2c_j0);
   w2c_i0 = i32_load8_u(memory, (u64)(w2c_i0) + 52u);
+  w2c_i1 = 1u;
+  w2c_i0 = w2c_i0 != w2c_i1;
   if (w2c_i0) {goto w2c_B0;}
   w2c_j0 = w2c_l8;
   w2c_j1 = 300ull;
@@ -17365,13 +18746,13 @@ static u32 w2c_keywrap_unwrap_in_place(struct instance *instance, u64 w2c_p0, u6
   w2c_j1 = w2c_p1;
   w2c_j2 = w2c_p2;
   w2c_j3 = w2c_p3;
-  w2c_i0 = w2c_f99(instance, w2c_j0, w2c_j1, w2c_j2, w2c_j3);
+  w2c_i0 = w2c_f103(instance, w2c_j0, w2c_j1, w2c_j2, w2c_j3);
   w2c_l4 = w2c_i0;
   w2c_f1(instance);
   w2c_i0 = w2c_l4;
   return w2c_i0;
 }
-static u32 w2c_f99(struct instance *instance, u64 w2c_p0, u64 w2c_p1, u64 w2c_p2, u64 w2c_p3) {
+static u32 w2c_f103(struct instance *instance, u64 w2c_p0, u64 w2c_p1, u64 w2c_p2, u64 w2c_p3) {
   u32 w2c_l5 = 0;
   u64 w2c_l4 = 0;
   const struct memory memory = instance->w2c_memory;
@@ -17413,6 +18794,8 @@ static u32 w2c_f99(struct instance *instance, u64 w2c_p0, u64 w2c_p1, u64 w2c_p2
   w2c_j0 = w2c_l4;
   w2c_i0 = (u32)(w2c_j0);
   w2c_i0 = i32_load8_u(memory, (u64)(w2c_i0) + 4u);
+  w2c_i1 = 1u;
+  w2c_i0 = w2c_i0 != w2c_i1;
   if (w2c_i0) {goto w2c_B1;}
   w2c_j0 = w2c_l4;
   w2c_j1 = 252ull;
@@ -17518,12 +18901,12 @@ static u32 w2c_f99(struct instance *instance, u64 w2c_p0, u64 w2c_p1, u64 w2c_p2
   w2c_j4 = w2c_p3;
   w2c_j5 = 18446744073709551608ull;
   w2c_j4 += w2c_j5;
-  w2c_p1 = w2c_j4;
+  w2c_p3 = w2c_j4;
   w2c_j1 = w2c_f6(instance, w2c_j1, w2c_j2, w2c_j3, w2c_j4);
   w2c_j2 = 12008468691120727718ull;
   w2c_j1 ^= w2c_j2;
   w2c_j2 = w2c_p0;
-  w2c_j3 = w2c_p1;
+  w2c_j3 = w2c_p3;
   w2c_f3(instance, w2c_j0, w2c_j1, w2c_j2, w2c_j3);
   w2c_i0 = 5u;
   w2c_i1 = 4u;
@@ -17574,13 +18957,13 @@ static u32 w2c_keywrap_unwrap_many(struct instance *instance, u64 w2c_p0, u64 w2
   w2c_j6 = w2c_p6;
   w2c_j7 = w2c_p7;
   w2c_j8 = w2c_p8;
-  w2c_i0 = w2c_f101(instance, w2c_j0, w2c_j1, w2c_j2, w2c_j3, w2c_i4, w2c_j5, w2c_j6, w2c_j7, w2c_j8);
+  w2c_i0 = w2c_f105(instance, w2c_j0, w2c_j1, w2c_j2, w2c_j3, w2c_i4, w2c_j5, w2c_j6, w2c_j7, w2c_j8);
   w2c_p4 = w2c_i0;
   w2c_f1(instance);
   w2c_i0 = w2c_p4;
   return w2c_i0;
 }
-static u32 w2c_f101(struct instance *instance, u64 w2c_p0, u64 w2c_p1, u64 w2c_p2, u64 w2c_p3, u32 w2c_p4, u64 w2c_p5, u64 w2c_p6, u64 w2c_p7, 
+static u32 w2c_f105(struct instance *instance, u64 w2c_p0, u64 w2c_p1, u64 w2c_p2, u64 w2c_p3, u32 w2c_p4, u64 w2c_p5, u64 w2c_p6, u64 w2c_p7, 
     u64 w2c_p8) {
   u32 w2c_l10 = 0, w2c_l11 = 0, w2c_l12 = 0;
   u64 w2c_l9 = 0;
@@ -17624,6 +19007,8 @@ static u32 w2c_f101(struct instance *instance, u64 w2c_p0, u64 w2c_p1, u64 w2c_p
   w2c_j0 = w2c_l9;
   w2c_i0 = (u32)(w2c_j0);
   w2c_i0 = i32_load8_u(memory, (u64)(w2c_i0) + 4u);
+  w2c_i1 = 1u;
+  w2c_i0 = w2c_i0 != w2c_i1;
   if (w2c_i0) {goto w2c_B1;}
   w2c_j0 = w2c_l9;
   w2c_j1 = 252ull;
@@ -17753,13 +19138,13 @@ static u32 w2c_keywrap_unwrap_padded(struct instance *instance, u64 w2c_p0, u64 
   w2c_j4 = w2c_p4;
   w2c_j5 = w2c_p5;
   w2c_j6 = w2c_p6;
-  w2c_i0 = w2c_f103(instance, w2c_j0, w2c_j1, w2c_j2, w2c_j3, w2c_j4, w2c_j5, w2c_j6);
+  w2c_i0 = w2c_f107(instance, w2c_j0, w2c_j1, w2c_j2, w2c_j3, w2c_j4, w2c_j5, w2c_j6);
   w2c_l7 = w2c_i0;
   w2c_f1(instance);
   w2c_i0 = w2c_l7;
   return w2c_i0;
 }
-static u32 w2c_f103(struct instance *instance, u64 w2c_p0, u64 w2c_p1, u64 w2c_p2, u64 w2c_p3, u64 w2c_p4, u64 w2c_p5, u64 w2c_p6) {
+static u32 w2c_f107(struct instance *instance, u64 w2c_p0, u64 w2c_p1, u64 w2c_p2, u64 w2c_p3, u64 w2c_p4, u64 w2c_p5, u64 w2c_p6) {
   const struct memory memory = instance->w2c_memory;
   (void)memory;
   u32 w2c_i0, w2c_i3, w2c_i5, w2c_i7;
@@ -17809,13 +19194,13 @@ static u32 w2c_keywrap_unwrap_padded_in_place(struct instance *instance, u64 w2c
   w2c_j2 = w2c_p2;
   w2c_j3 = w2c_p3;
   w2c_j4 = w2c_p4;
-  w2c_i0 = w2c_f105(instance, w2c_j0, w2c_j1, w2c_j2, w2c_j3, w2c_j4);
+  w2c_i0 = w2c_f109(instance, w2c_j0, w2c_j1, w2c_j2, w2c_j3, w2c_j4);
   w2c_l5 = w2c_i0;
   w2c_f1(instance);
   w2c_i0 = w2c_l5;
   return w2c_i0;
 }
-static u32 w2c_f105(struct instance *instance, u64 w2c_p0, u64 w2c_p1, u64 w2c_p2, u64 w2c_p3, u64 w2c_p4) {
+static u32 w2c_f109(struct instance *instance, u64 w2c_p0, u64 w2c_p1, u64 w2c_p2, u64 w2c_p3, u64 w2c_p4) {
   u32 w2c_l8 = 0;
   u64 w2c_l5 = 0, w2c_l6 = 0, w2c_l7 = 0;
   const struct memory memory = instance->w2c_memory;
@@ -17861,6 +19246,8 @@ static u32 w2c_f105(struct instance *instance, u64 w2c_p0, u64 w2c_p1, u64 w2c_p
   w2c_j0 = w2c_l5;
   w2c_i0 = (u32)(w2c_j0);
   w2c_i0 = i32_load8_u(memory, (u64)(w2c_i0) + 4u);
+  w2c_i1 = 1u;
+  w2c_i0 = w2c_i0 != w2c_i1;
   if (w2c_i0) {goto w2c_B1;}
   w2c_j0 = w2c_l5;
   w2c_j1 = 252ull;
@@ -17906,20 +19293,20 @@ static u32 w2c_f105(struct instance *instance, u64 w2c_p0, u64 w2c_p1, u64 w2c_p
   w2c_i3 = !(w2c_j3);
   w2c_j1 = w2c_i3 ? w2c_j1 : w2c_j2;
   w2c_j0 += w2c_j1;
-  w2c_p2 = w2c_j0;
+  w2c_p1 = w2c_j0;
   w2c_i0 = (u32)(w2c_j0);
   w2c_j0 = i64_load(memory, (u64)(w2c_i0));
   w2c_p0 = w2c_j0;
-  w2c_j0 = w2c_p2;
+  w2c_j0 = w2c_p1;
   w2c_i0 = (u32)(w2c_j0);
   w2c_j1 = 0ull;
   i64_store(memory, (u64)(w2c_i0), w2c_j1);
   w2c_j0 = w2c_p3;
   w2c_j1 = 18446744073709551608ull;
   w2c_j0 += w2c_j1;
-  w2c_p1 = w2c_j0;
+  w2c_p3 = w2c_j0;
   w2c_j0 = w2c_l5;
-  w2c_j1 = w2c_p1;
+  w2c_j1 = w2c_p3;
   w2c_j2 = w2c_l5;
   w2c_j3 = 496ull;
   w2c_j2 += w2c_j3;
@@ -17966,11 +19353,11 @@ static u32 w2c_f105(struct instance *instance, u64 w2c_p0, u64 w2c_p1, u64 w2c_p
   w2c_j5 |= w2c_j6;
   w2c_j4 |= w2c_j5;
   w2c_j3 |= w2c_j4;
-  w2c_j4 = w2c_p2;
+  w2c_j4 = w2c_p1;
   w2c_j5 = 8ull;
   w2c_j4 += w2c_j5;
-  w2c_p3 = w2c_j4;
-  w2c_j5 = w2c_p1;
+  w2c_p2 = w2c_j4;
+  w2c_j5 = w2c_p3;
   w2c_j2 = w2c_f6(instance, w2c_j2, w2c_j3, w2c_j4, w2c_j5);
   w2c_p0 = w2c_j2;
   w2c_j3 = 4294967295ull;
@@ -17986,8 +19373,8 @@ static u32 w2c_f105(struct instance *instance, u64 w2c_p0, u64 w2c_p1, u64 w2c_p
   w2c_j3 = 2790873510ull;
   w2c_j2 ^= w2c_j3;
   w2c_j1 |= w2c_j2;
-  w2c_j2 = w2c_p1;
-  w2c_j3 = w2c_p2;
+  w2c_j2 = w2c_p3;
+  w2c_j3 = w2c_p1;
   w2c_j2 += w2c_j3;
   w2c_i2 = (u32)(w2c_j2);
   w2c_j2 = i64_load(memory, (u64)(w2c_i2));
@@ -18043,8 +19430,8 @@ static u32 w2c_f105(struct instance *instance, u64 w2c_p0, u64 w2c_p1, u64 w2c_p
   w2c_j3 ^= w2c_j4;
   w2c_j2 &= w2c_j3;
   w2c_j1 |= w2c_j2;
-  w2c_j2 = w2c_p3;
-  w2c_j3 = w2c_p1;
+  w2c_j2 = w2c_p2;
+  w2c_j3 = w2c_p3;
   w2c_f3(instance, w2c_j0, w2c_j1, w2c_j2, w2c_j3);
   w2c_j0 = w2c_l5;
   w2c_i0 = (u32)(w2c_j0);
@@ -18103,13 +19490,13 @@ static u32 w2c_keywrap_unwrap_with(struct instance *instance, u64 w2c_p0, u64 w2
   w2c_j5 = w2c_p5;
   w2c_j6 = w2c_p6;
   w2c_j7 = w2c_p7;
-  w2c_i0 = w2c_f107(instance, w2c_j0, w2c_j1, w2c_j2, w2c_j3, w2c_j4, w2c_j5, w2c_j6, w2c_j7);
+  w2c_i0 = w2c_f111(instance, w2c_j0, w2c_j1, w2c_j2, w2c_j3, w2c_j4, w2c_j5, w2c_j6, w2c_j7);
   w2c_l8 = w2c_i0;
   w2c_f1(instance);
   w2c_i0 = w2c_l8;
   return w2c_i0;
 }
-static u32 w2c_f107(struct instance *instance, u64 w2c_p0, u64 w2c_p1, u64 w2c_p2, u64 w2c_p3, u64 w2c_p4, u64 w2c_p5, u64 w2c_p6, u64 w2c_p7) {
+static u32 w2c_f111(struct instance *instance, u64 w2c_p0, u64 w2c_p1, u64 w2c_p2, u64 w2c_p3, u64 w2c_p4, u64 w2c_p5, u64 w2c_p6, u64 w2c_p7) {
   u32 w2c_l14 = 0;
   u64 w2c_l8 = 0, w2c_l9 = 0, w2c_l10 = 0, w2c_l11 = 0, w2c_l12 = 0, w2c_l13 = 0;
   const struct memory memory = instance->w2c_memory;
@@ -18215,6 +19602,8 @@ static u32 w2c_f107(struct instance *instance, u64 w2c_p0, u64 w2c_p1, u64 w2c_p
   w2c_j0 = w2c_l8;
   w2c_i0 = (u32)(w2c_j0);
   w2c_i0 = i32_load8_u(memory, (u64)(w2c_i0) + 36u);
+  w2c_i1 = 1u;
+  w2c_i0 = w2c_i0 != w2c_i1;
   if (w2c_i0) {goto w2c_B1;}
   w2c_j0 = w2c_l8;
   w2c_j1 = 284ull;
@@ -18265,7 +19654,7 @@ static u32 w2c_f107(struct instance *instance, u64 w2c_p0, u64 w2c_p1, u64 w2c_p
   w2c_j1 = w2c_i3 ? w2c_j1 : w2c_j2;
   w2c_l10 = w2c_j1;
   w2c_j0 += w2c_j1;
-  w2c_p5 = w2c_j0;
+  w2c_p1 = w2c_j0;
   w2c_j1 = w2c_p4;
   w2c_j2 = 4096ull;
   w2c_j3 = 0ull;
@@ -18285,7 +19674,7 @@ static u32 w2c_f107(struct instance *instance, u64 w2c_p0, u64 w2c_p1, u64 w2c_p
   w2c_j0 = w2c_p7;
   w2c_j1 = 3ull;
   w2c_j0 &= w2c_j1;
-  w2c_p1 = w2c_j0;
+  w2c_p5 = w2c_j0;
   w2c_j0 = 0ull;
   w2c_p3 = w2c_j0;
   w2c_j0 = w2c_p7;
@@ -18299,7 +19688,7 @@ static u32 w2c_f107(struct instance *instance, u64 w2c_p0, u64 w2c_p1, u64 w2c_p
   w2c_j0 = 0ull;
   w2c_p3 = w2c_j0;
   w2c_L5: 
-    w2c_j0 = w2c_p5;
+    w2c_j0 = w2c_p1;
     w2c_j1 = w2c_p3;
     w2c_j0 += w2c_j1;
     w2c_p2 = w2c_j0;
@@ -18350,7 +19739,7 @@ static u32 w2c_f107(struct instance *instance, u64 w2c_p0, u64 w2c_p1, u64 w2c_p
     w2c_p3 = w2c_j1;
     w2c_i0 = w2c_j0 != w2c_j1;
     if (w2c_i0) {goto w2c_L5;}
-  w2c_j0 = w2c_p1;
+  w2c_j0 = w2c_p5;
   w2c_i0 = !(w2c_j0);
   if (w2c_i0) {goto w2c_B2;}
   w2c_B4:;
@@ -18383,10 +19772,10 @@ static u32 w2c_f107(struct instance *instance, u64 w2c_p0, u64 w2c_p1, u64 w2c_p
     w2c_j1 = 1ull;
     w2c_j0 += w2c_j1;
     w2c_p3 = w2c_j0;
-    w2c_j0 = w2c_p1;
+    w2c_j0 = w2c_p5;
     w2c_j1 = 18446744073709551615ull;
     w2c_j0 += w2c_j1;
-    w2c_p1 = w2c_j0;
+    w2c_p5 = w2c_j0;
     w2c_j1 = 0ull;
     w2c_i0 = w2c_j0 != w2c_j1;
     if (w2c_i0) {goto w2c_L6;}
@@ -18396,7 +19785,7 @@ static u32 w2c_f107(struct instance *instance, u64 w2c_p0, u64 w2c_p1, u64 w2c_p
   w2c_j0 = w2c_p7;
   w2c_i0 = !(w2c_j0);
   if (w2c_i0) {goto w2c_B2;}
-  w2c_j0 = w2c_p5;
+  w2c_j0 = w2c_p1;
   w2c_i0 = (u32)(w2c_j0);
   w2c_j1 = w2c_p2;
   w2c_i1 = (u32)(w2c_j1);
@@ -18456,12 +19845,12 @@ static u32 w2c_f107(struct instance *instance, u64 w2c_p0, u64 w2c_p1, u64 w2c_p
   w2c_j4 |= w2c_j5;
   w2c_j3 |= w2c_j4;
   w2c_j2 |= w2c_j3;
-  w2c_j3 = w2c_p5;
+  w2c_j3 = w2c_p1;
   w2c_j4 = w2c_p7;
   w2c_j1 = w2c_f6(instance, w2c_j1, w2c_j2, w2c_j3, w2c_j4);
   w2c_j2 = w2c_l9;
   w2c_j1 ^= w2c_j2;
-  w2c_j2 = w2c_p5;
+  w2c_j2 = w2c_p1;
   w2c_j3 = w2c_p7;
   w2c_f3(instance, w2c_j0, w2c_j1, w2c_j2, w2c_j3);
   w2c_i0 = 5u;
@@ -18502,12 +19891,12 @@ static u32 w2c_keywrap_version(struct instance *instance) {
   w2c_f2(instance);
   UNREACHABLE;
   w2c_B0:;
-  w2c_f109(instance);
+  w2c_f113(instance);
   w2c_f1(instance);
   w2c_i0 = 66048u;
   return w2c_i0;
 }
-static void w2c_f109(struct instance *instance) {
+static void w2c_f113(struct instance *instance) {
   const struct memory memory = instance->w2c_memory;
   (void)memory;
   u32 w2c_i0;
@@ -18537,13 +19926,13 @@ static u32 w2c_keywrap_wrap(struct instance *instance, u64 w2c_p0, u64 w2c_p1, u
   w2c_j3 = w2c_p3;
   w2c_j4 = w2c_p4;
   w2c_j5 = w2c_p5;
-  w2c_i0 = w2c_f111(instance, w2c_j0, w2c_j1, w2c_j2, w2c_j3, w2c_j4, w2c_j5);
+  w2c_i0 = w2c_f115(instance, w2c_j0, w2c_j1, w2c_j2, w2c_j3, w2c_j4, w2c_j5);
   w2c_l6 = w2c_i0;
   w2c_f1(instance);
   w2c_i0 = w2c_l6;
   return w2c_i0;
 }
-static u32 w2c_f111(struct instance *instance, u64 w2c_p0, u64 w2c_p1, u64 w2c_p2, u64 w2c_p3, u64 w2c_p4, u64 w2c_p5) {
+static u32 w2c_f115(struct instance *instance, u64 w2c_p0, u64 w2c_p1, u64 w2c_p2, u64 w2c_p3, u64 w2c_p4, u64 w2c_p5) {
   u32 w2c_l8 = 0;
   u64 w2c_l6 = 0, w2c_l7 = 0;
   const struct memory memory = instance->w2c_memory;
@@ -18585,6 +19974,8 @@ static u32 w2c_f111(struct instance *instance, u64 w2c_p0, u64 w2c_p1, u64 w2c_p
   w2c_j0 = w2c_l7;
   w2c_i0 = (u32)(w2c_j0);
   w2c_i0 = i32_load8_u(memory, (u64)(w2c_i0) + 20u);
+  w2c_i1 = 1u;
+  w2c_i0 = w2c_i0 != w2c_i1;
   if (w2c_i0) {goto w2c_B1;}
   w2c_j0 = w2c_l7;
   w2c_j1 = 268ull;
@@ -18753,13 +20144,13 @@ static u32 w2c_keywrap_wrap_in_place(struct instance *instance, u64 w2c_p0, u64 
   w2c_j1 = w2c_p1;
   w2c_j2 = w2c_p2;
   w2c_j3 = w2c_p3;
-  w2c_i0 = w2c_f113(instance, w2c_j0, w2c_j1, w2c_j2, w2c_j3);
+  w2c_i0 = w2c_f117(instance, w2c_j0, w2c_j1, w2c_j2, w2c_j3);
   w2c_l4 = w2c_i0;
   w2c_f1(instance);
   w2c_i0 = w2c_l4;
   return w2c_i0;
 }
-static u32 w2c_f113(struct instance *instance, u64 w2c_p0, u64 w2c_p1, u64 w2c_p2, u64 w2c_p3) {
+static u32 w2c_f117(struct instance *instance, u64 w2c_p0, u64 w2c_p1, u64 w2c_p2, u64 w2c_p3) {
   u32 w2c_l5 = 0;
   u64 w2c_l4 = 0;
   const struct memory memory = instance->w2c_memory;
@@ -18801,6 +20192,8 @@ static u32 w2c_f113(struct instance *instance, u64 w2c_p0, u64 w2c_p1, u64 w2c_p
   w2c_j0 = w2c_l4;
   w2c_i0 = (u32)(w2c_j0);
   w2c_i0 = i32_load8_u(memory, (u64)(w2c_i0) + 4u);
+  w2c_i1 = 1u;
+  w2c_i0 = w2c_i0 != w2c_i1;
   if (w2c_i0) {goto w2c_B1;}
   w2c_j0 = w2c_l4;
   w2c_j1 = 252ull;
@@ -18883,13 +20276,13 @@ static u32 w2c_keywrap_wrap_many(struct instance *instance, u64 w2c_p0, u64 w2c_
   w2c_i5 = w2c_p5;
   w2c_j6 = w2c_p6;
   w2c_j7 = w2c_p7;
-  w2c_i0 = w2c_f115(instance, w2c_j0, w2c_j1, w2c_j2, w2c_j3, w2c_j4, w2c_i5, w2c_j6, w2c_j7);
+  w2c_i0 = w2c_f119(instance, w2c_j0, w2c_j1, w2c_j2, w2c_j3, w2c_j4, w2c_i5, w2c_j6, w2c_j7);
   w2c_p5 = w2c_i0;
   w2c_f1(instance);
   w2c_i0 = w2c_p5;
   return w2c_i0;
 }
-static u32 w2c_f115(struct instance *instance, u64 w2c_p0, u64 w2c_p1, u64 w2c_p2, u64 w2c_p3, u64 w2c_p4, u32 w2c_p5, u64 w2c_p6, u64 w2c_p7) {
+static u32 w2c_f119(struct instance *instance, u64 w2c_p0, u64 w2c_p1, u64 w2c_p2, u64 w2c_p3, u64 w2c_p4, u32 w2c_p5, u64 w2c_p6, u64 w2c_p7) {
   u32 w2c_l9 = 0;
   u64 w2c_l8 = 0;
   const struct memory memory = instance->w2c_memory;
@@ -18932,6 +20325,8 @@ static u32 w2c_f115(struct instance *instance, u64 w2c_p0, u64 w2c_p1, u64 w2c_p
   w2c_j0 = w2c_l8;
   w2c_i0 = (u32)(w2c_j0);
   w2c_i0 = i32_load8_u(memory, (u64)(w2c_i0) + 4u);
+  w2c_i1 = 1u;
+  w2c_i0 = w2c_i0 != w2c_i1;
   if (w2c_i0) {goto w2c_B1;}
   w2c_j0 = w2c_l8;
   w2c_j1 = 252ull;
@@ -19063,13 +20458,13 @@ static u32 w2c_keywrap_wrap_padded(struct instance *instance, u64 w2c_p0, u64 w2
   w2c_j3 = w2c_p3;
   w2c_j4 = w2c_p4;
   w2c_j5 = w2c_p5;
-  w2c_i0 = w2c_f117(instance, w2c_j0, w2c_j1, w2c_j2, w2c_j3, w2c_j4, w2c_j5);
+  w2c_i0 = w2c_f121(instance, w2c_j0, w2c_j1, w2c_j2, w2c_j3, w2c_j4, w2c_j5);
   w2c_l6 = w2c_i0;
   w2c_f1(instance);
   w2c_i0 = w2c_l6;
   return w2c_i0;
 }
-static u32 w2c_f117(struct instance *instance, u64 w2c_p0, u64 w2c_p1, u64 w2c_p2, u64 w2c_p3, u64 w2c_p4, u64 w2c_p5) {
+static u32 w2c_f121(struct instance *instance, u64 w2c_p0, u64 w2c_p1, u64 w2c_p2, u64 w2c_p3, u64 w2c_p4, u64 w2c_p5) {
   const struct memory memory = instance->w2c_memory;
   (void)memory;
   u32 w2c_i0, w2c_i3, w2c_i5, w2c_i7;
@@ -19118,13 +20513,13 @@ static u32 w2c_keywrap_wrap_padded_in_place(struct instance *instance, u64 w2c_p
   w2c_j2 = w2c_p2;
   w2c_j3 = w2c_p3;
   w2c_j4 = w2c_p4;
-  w2c_i0 = w2c_f119(instance, w2c_j0, w2c_j1, w2c_j2, w2c_j3, w2c_j4);
+  w2c_i0 = w2c_f123(instance, w2c_j0, w2c_j1, w2c_j2, w2c_j3, w2c_j4);
   w2c_l5 = w2c_i0;
   w2c_f1(instance);
   w2c_i0 = w2c_l5;
   return w2c_i0;
 }
-static u32 w2c_f119(struct instance *instance, u64 w2c_p0, u64 w2c_p1, u64 w2c_p2, u64 w2c_p3, u64 w2c_p4) {
+static u32 w2c_f123(struct instance *instance, u64 w2c_p0, u64 w2c_p1, u64 w2c_p2, u64 w2c_p3, u64 w2c_p4) {
   u32 w2c_l6 = 0;
   u64 w2c_l5 = 0;
   const struct memory memory = instance->w2c_memory;
@@ -19166,6 +20561,8 @@ static u32 w2c_f119(struct instance *instance, u64 w2c_p0, u64 w2c_p1, u64 w2c_p
   w2c_j0 = w2c_l5;
   w2c_i0 = (u32)(w2c_j0);
   w2c_i0 = i32_load8_u(memory, (u64)(w2c_i0) + 4u);
+  w2c_i1 = 1u;
+  w2c_i0 = w2c_i0 != w2c_i1;
   if (w2c_i0) {goto w2c_B1;}
   w2c_j0 = w2c_l5;
   w2c_j1 = 252ull;
@@ -19291,13 +20688,13 @@ static u32 w2c_keywrap_wrap_with(struct instance *instance, u64 w2c_p0, u64 w2c_
   w2c_j5 = w2c_p5;
   w2c_j6 = w2c_p6;
   w2c_j7 = w2c_p7;
-  w2c_i0 = w2c_f121(instance, w2c_j0, w2c_j1, w2c_j2, w2c_j3, w2c_j4, w2c_j5, w2c_j6, w2c_j7);
+  w2c_i0 = w2c_f125(instance, w2c_j0, w2c_j1, w2c_j2, w2c_j3, w2c_j4, w2c_j5, w2c_j6, w2c_j7);
   w2c_l8 = w2c_i0;
   w2c_f1(instance);
   w2c_i0 = w2c_l8;
   return w2c_i0;
 }
-static u32 w2c_f121(struct instance *instance, u64 w2c_p0, u64 w2c_p1, u64 w2c_p2, u64 w2c_p3, u64 w2c_p4, u64 w2c_p5, u64 w2c_p6, u64 w2c_p7) {
+static u32 w2c_f125(struct instance *instance, u64 w2c_p0, u64 w2c_p1, u64 w2c_p2, u64 w2c_p3, u64 w2c_p4, u64 w2c_p5, u64 w2c_p6, u64 w2c_p7) {
   u32 w2c_l10 = 0;
   u64 w2c_l8 = 0, w2c_l9 = 0;
   const struct memory memory = instance->w2c_memory;
@@ -19403,6 +20800,8 @@ static u32 w2c_f121(struct instance *instance, u64 w2c_p0, u64 w2c_p1, u64 w2c_p
   w2c_j0 = w2c_l8;
   w2c_i0 = (u32)(w2c_j0);
   w2c_i0 = i32_load8_u(memory, (u64)(w2c_i0) + 20u);
+  w2c_i1 = 1u;
+  w2c_i0 = w2c_i0 != w2c_i1;
   if (w2c_i0) {goto w2c_B1;}
   w2c_j0 = w2c_l8;
   w2c_j1 = 268ull;
@@ -19566,7 +20965,7 @@ static u32 w2c_f121(struct instance *instance, u64 w2c_p0, u64 w2c_p1, u64 w2c_p
 #define PROVED(type, name) type name
 #endif
 
-#define KEK(bytes, len) READS(bytes, len, 32)
+#define KEK(bytes, len) READS(bytes, len, KEYWRAP_KEK_LEN(32))
 #define MANY(bytes, len) WRITES(bytes, len, SIZE_MAX)
 
 static u64 perform(struct call *call) {
@@ -19604,6 +21003,20 @@ size_t keywrap_status_text(int32_t status, char *text, size_t capacity) {
     struct call call = {.run = run_status_text, BUFFERS, .number = (u32)status};
     return (size_t)perform(&call);
 }
+
+static u64 run_kek_clear(struct instance *module, const struct call *call) {
+    w2c_keywrap_kek_clear(module, BUFFER(0));
+    return 0;
+}
+
+void keywrap_kek_clear(uint8_t *kept, size_t kept_len) {
+    struct buffer buffers[] = {WRITES(kept, kept_len, (size_t)1 << 30)};
+    struct call call = {.run = run_kek_clear, BUFFERS};
+    perform(&call);
+}
+
+CALL(SHOWN, perform, kek_init, (const uint8_t *kek, size_t kek_len, uint8_t *kept, size_t kept_len),
+     (module, BUFFER(0), BUFFER(1)), (BUFFERS), KEK(kek, kek_len), WRITES(kept, kept_len, kept_len))
 
 CALL(PROVED, perform, wrap, (const uint8_t *kek, size_t kek_len, const uint8_t *key, size_t key_len,
      uint8_t *wrapped, size_t wrapped_len), (module, BUFFER(0), BUFFER(1), BUFFER(2)), (BUFFERS),
@@ -19872,8 +21285,8 @@ static APART int aes_works(void);
 /* aes_known_answers makes that test, for which the processor needs the instructions. */
 static APART int aes_known_answers(void);
 
-/* aes_set_encrypt and aes_set_decrypt expand a KEK of 16, 24 or 32 bytes, whose length a proved call
- * has checked. */
+/* aes_set_encrypt and aes_set_decrypt take a KEK of 16, 24 or 32 bytes, or a kept KEK, which a proved
+ * call has checked. */
 static APART void aes_set_encrypt(struct aes *aes, const uint8_t *kek, size_t kek_len);
 static APART void aes_set_decrypt(struct aes *aes, const uint8_t *kek, size_t kek_len);
 
@@ -20229,10 +21642,15 @@ void wipe(void *memory, size_t len) {
     __asm__ volatile("" : : "r"(memory) : "memory");
 }
 
-/* Key expansion (FIPS 197, section 5.2). */
+/* Key expansion (FIPS 197, section 5.2), or what a kept KEK has of it behind its mark. */
 void aes_set_encrypt(struct aes *aes, const uint8_t *kek, size_t kek_len) {
-    aes->rounds = (unsigned)kek_len / 4 + 6;
-    expand(aes, kek);
+    if (kek_len > 32) {
+        aes->rounds = (unsigned)kek_len / BLOCK - 1;
+        memcpy(aes->keys, kek + 8, kek_len - 8);
+    } else {
+        aes->rounds = (unsigned)kek_len / 4 + 6;
+        expand(aes, kek);
+    }
 }
 
 /* The schedule of the equivalent inverse cipher (section 5.3.5). */
@@ -20304,47 +21722,55 @@ int aes_works(void) {
     return known == WORKS;
 }
 
-/* checks.c: the calls of keywrap_checks.h. A check of numbers uses no memory of the module. */
+/* checks.c: the calls of keywrap_checks.h. */
 
-static u64 run_check_plain(struct instance *module, const struct call *call) {
-    return w2c_keywrap_check_plain(module, call->numbers[0], BUFFER(0), call->numbers[1],
-                                   call->numbers[2]);
-}
+/* A check of a KEK, or of two, and of numbers: its name and parameters, the arguments of the module's
+ * function, the numbers, and the buffers. */
+#define NUM(n) call->numbers[n]
+#define THE(...) {__VA_ARGS__}
+#define CHECK(name, parameters, given, beside, ...)                                                \
+    CALL(HIDDEN, perform_steps, check_##name, parameters, given,                                   \
+         (BUFFERS, .numbers = (const u64[])THE beside), __VA_ARGS__)
 
-static int32_t keywrap_check_plain(size_t kek_len, const uint8_t *iv, size_t iv_len, size_t key_len,
-                                   size_t text_len) {
-    struct buffer buffers[] = {READS(iv, iv_len, 8)};
-    const u64 numbers[] = {kek_len, key_len, text_len};
-    struct call call = {.run = run_check_plain, BUFFERS, .numbers = numbers};
-    return (int32_t)perform_steps(&call);
-}
-
-#define CHECK(name, parameters, given)                                                             \
-    static int32_t keywrap_##name parameters {                                                     \
-        struct instance module = WITHOUT_MEMORY;                                                   \
-        return (int32_t)w2c_keywrap_##name given;                                                  \
-    }
-CHECK(check_padded, (size_t kek_len, size_t key_len, size_t text_len),
-      (&module, kek_len, key_len, text_len))
-CHECK(check_room, (size_t kek_len, size_t room, size_t text_len),
-      (&module, kek_len, room, text_len))
-CHECK(check_kind, (size_t kek_len, size_t room, size_t text_len),
-      (&module, kek_len, room, text_len))
-CHECK(check_keks, (size_t old_kek_len, size_t new_kek_len), (&module, old_kek_len, new_kek_len))
-CHECK(check_rewrap_in_place, (size_t old_kek_len, size_t new_kek_len, uint32_t forms),
-      (&module, old_kek_len, new_kek_len, forms))
-CHECK(check_wrap_many, (size_t kek_len, size_t texts_len, size_t key_len, uint32_t flags,
-                        size_t count),
-      (&module, kek_len, texts_len, key_len, flags, count))
-CHECK(check_unwrap_many, (size_t kek_len, size_t texts_len, uint32_t flags, size_t key_lens,
-                          size_t count),
-      (&module, kek_len, texts_len, flags, key_lens, count))
-CHECK(check_rewrap_many, (size_t old_kek_len, size_t new_kek_len, size_t texts_len, uint32_t flags,
-                          size_t count),
-      (&module, old_kek_len, new_kek_len, texts_len, flags, count))
-CHECK(check_kind_many, (size_t kek_len, size_t texts_len, size_t room, size_t forms,
-                        size_t key_lens, size_t count),
-      (&module, kek_len, texts_len, room, forms, key_lens, count))
+CHECK(plain,
+      (const uint8_t *kek, size_t kek_len, const uint8_t *iv, size_t iv_len, size_t key_len,
+       size_t text_len),
+      (module, BUFFER(0), BUFFER(1), NUM(0), NUM(1)), (key_len, text_len), KEK(kek, kek_len),
+      READS(iv, iv_len, 8))
+CHECK(padded, (const uint8_t *kek, size_t kek_len, size_t key_len, size_t text_len),
+      (module, BUFFER(0), NUM(0), NUM(1)), (key_len, text_len), KEK(kek, kek_len))
+CHECK(room, (const uint8_t *kek, size_t kek_len, size_t room, size_t text_len),
+      (module, BUFFER(0), NUM(0), NUM(1)), (room, text_len), KEK(kek, kek_len))
+CHECK(kind, (const uint8_t *kek, size_t kek_len, size_t room, size_t text_len),
+      (module, BUFFER(0), NUM(0), NUM(1)), (room, text_len), KEK(kek, kek_len))
+CHECK(keks,
+      (const uint8_t *old_kek, size_t old_kek_len, const uint8_t *new_kek, size_t new_kek_len),
+      (module, BUFFER(0), BUFFER(1)), (0), KEK(old_kek, old_kek_len), KEK(new_kek, new_kek_len))
+CHECK(rewrap_in_place,
+      (const uint8_t *old_kek, size_t old_kek_len, const uint8_t *new_kek, size_t new_kek_len,
+       uint32_t forms),
+      (module, BUFFER(0), BUFFER(1), (u32)NUM(0)), (forms), KEK(old_kek, old_kek_len),
+      KEK(new_kek, new_kek_len))
+CHECK(wrap_many,
+      (const uint8_t *kek, size_t kek_len, size_t texts_len, size_t key_len, uint32_t flags,
+       size_t count),
+      (module, BUFFER(0), NUM(0), NUM(1), (u32)NUM(2), NUM(3)), (texts_len, key_len, flags, count),
+      KEK(kek, kek_len))
+CHECK(unwrap_many,
+      (const uint8_t *kek, size_t kek_len, size_t texts_len, uint32_t flags, size_t key_lens,
+       size_t count),
+      (module, BUFFER(0), NUM(0), (u32)NUM(1), NUM(2), NUM(3)), (texts_len, flags, key_lens, count),
+      KEK(kek, kek_len))
+CHECK(rewrap_many,
+      (const uint8_t *old_kek, size_t old_kek_len, const uint8_t *new_kek, size_t new_kek_len,
+       size_t texts_len, uint32_t flags, size_t count),
+      (module, BUFFER(0), BUFFER(1), NUM(0), (u32)NUM(1), NUM(2)), (texts_len, flags, count),
+      KEK(old_kek, old_kek_len), KEK(new_kek, new_kek_len))
+CHECK(kind_many,
+      (const uint8_t *kek, size_t kek_len, size_t texts_len, size_t room, size_t forms,
+       size_t key_lens, size_t count),
+      (module, BUFFER(0), NUM(0), NUM(1), NUM(2), NUM(3), NUM(4)),
+      (texts_len, room, forms, key_lens, count), KEK(kek, kek_len))
 
 CALL(HIDDEN, perform_steps, begin_wrap_slot,
      (uint32_t flags, size_t key_len, uint8_t *registers, size_t len, uint64_t *done,
@@ -20453,7 +21879,7 @@ int32_t keywrap_wrap_with(const uint8_t *kek, size_t kek_len, const uint8_t *iv,
                           size_t wrapped_len) {
     OR_PROVED(wrap_with, kek, kek_len, iv, iv_len, key, key_len, wrapped, wrapped_len);
     struct run run;
-    int32_t status = keywrap_check_plain(kek_len, iv, iv_len, key_len, wrapped_len);
+    int32_t status = keywrap_check_plain(kek, kek_len, iv, iv_len, key_len, wrapped_len);
     if (status == KEYWRAP_OK)
         status = keywrap_begin_wrap(iv, iv_len, key, key_len, &run.steps, run.block);
     if (status != KEYWRAP_OK) return status;
@@ -20466,7 +21892,7 @@ int32_t keywrap_unwrap_with(const uint8_t *kek, size_t kek_len, const uint8_t *i
                             size_t key_len) {
     OR_PROVED(unwrap_with, kek, kek_len, iv, iv_len, wrapped, wrapped_len, key, key_len);
     struct run run;
-    int32_t status = keywrap_check_plain(kek_len, iv, iv_len, key_len, wrapped_len);
+    int32_t status = keywrap_check_plain(kek, kek_len, iv, iv_len, key_len, wrapped_len);
     if (status == KEYWRAP_OK) status = unwrap(kek, kek_len, &run, wrapped, key, key_len);
     return status == KEYWRAP_OK ? keywrap_end_unwrap(iv, iv_len, key, key_len, run.steps, run.block) : status;
 }
@@ -20487,7 +21913,7 @@ int32_t keywrap_wrap_in_place(const uint8_t *kek, size_t kek_len, uint8_t *buffe
                               size_t wrapped_len) {
     OR_PROVED(wrap_in_place, kek, kek_len, buffer, wrapped_len);
     const size_t len = wrapped_len - 8;
-    const int32_t status = keywrap_check_plain(kek_len, DEFAULT_IV, 8, len, wrapped_len);
+    const int32_t status = keywrap_check_plain(kek, kek_len, DEFAULT_IV, 8, len, wrapped_len);
     return status == KEYWRAP_OK ? wrap_slot(kek, kek_len, 0, buffer, wrapped_len, len) : status;
 }
 
@@ -20495,14 +21921,14 @@ int32_t keywrap_unwrap_in_place(const uint8_t *kek, size_t kek_len, uint8_t *buf
                                 size_t wrapped_len) {
     OR_PROVED(unwrap_in_place, kek, kek_len, buffer, wrapped_len);
     size_t len = wrapped_len - 8;
-    const int32_t status = keywrap_check_plain(kek_len, DEFAULT_IV, 8, len, wrapped_len);
+    const int32_t status = keywrap_check_plain(kek, kek_len, DEFAULT_IV, 8, len, wrapped_len);
     return status == KEYWRAP_OK ? unwrap_slot(kek, kek_len, 0, buffer, wrapped_len, &len) : status;
 }
 
 int32_t keywrap_wrap_padded_in_place(const uint8_t *kek, size_t kek_len, uint8_t *buffer,
                                      size_t wrapped_len, size_t key_len) {
     OR_PROVED(wrap_padded_in_place, kek, kek_len, buffer, wrapped_len, key_len);
-    const int32_t status = keywrap_check_padded(kek_len, key_len, wrapped_len);
+    const int32_t status = keywrap_check_padded(kek, kek_len, key_len, wrapped_len);
     return status == KEYWRAP_OK ? wrap_slot(kek, kek_len, KEYWRAP_NEW_PADDED, buffer, wrapped_len, key_len) : status;
 }
 
@@ -20510,14 +21936,14 @@ int32_t keywrap_unwrap_padded_in_place(const uint8_t *kek, size_t kek_len, uint8
                                        size_t wrapped_len, size_t *key_len) {
     OR_PROVED(unwrap_padded_in_place, kek, kek_len, buffer, wrapped_len, key_len);
     *key_len = 0;
-    const int32_t status = keywrap_check_room(kek_len, wrapped_len - 8, wrapped_len);
+    const int32_t status = keywrap_check_room(kek, kek_len, wrapped_len - 8, wrapped_len);
     return status == KEYWRAP_OK ? unwrap_slot(kek, kek_len, KEYWRAP_OLD_PADDED, buffer, wrapped_len, key_len) : status;
 }
 
 int32_t keywrap_wrap_padded(const uint8_t *kek, size_t kek_len, const uint8_t *key, size_t key_len,
                             uint8_t *wrapped, size_t wrapped_len) {
     OR_PROVED(wrap_padded, kek, kek_len, key, key_len, wrapped, wrapped_len);
-    const int32_t status = keywrap_check_padded(kek_len, key_len, wrapped_len);
+    const int32_t status = keywrap_check_padded(kek, kek_len, key_len, wrapped_len);
     if (status != KEYWRAP_OK) return status;
     memcpy(wrapped + 8, key, key_len);
     return wrap_slot(kek, kek_len, KEYWRAP_NEW_PADDED, wrapped, wrapped_len, key_len);
@@ -20528,7 +21954,7 @@ int32_t keywrap_unwrap_padded(const uint8_t *kek, size_t kek_len, const uint8_t 
     OR_PROVED(unwrap_padded, kek, kek_len, wrapped, wrapped_len, key, room, key_len);
     struct run run;
     *key_len = 0;
-    int32_t status = keywrap_check_room(kek_len, room, wrapped_len);
+    int32_t status = keywrap_check_room(kek, kek_len, room, wrapped_len);
     if (status == KEYWRAP_OK) status = unwrap(kek, kek_len, &run, wrapped, key, room);
     return status == KEYWRAP_OK ? keywrap_end_unwrap_padded(key, room, run.steps, run.block, key_len) : status;
 }
@@ -20539,7 +21965,7 @@ int32_t keywrap_unwrap_any(const uint8_t *kek, size_t kek_len, const uint8_t *wr
     OR_PROVED(unwrap_any, kek, kek_len, wrapped, wrapped_len, key, room, padded, key_len);
     struct run run;
     *key_len = *padded = 0;
-    int32_t status = keywrap_check_room(kek_len, room, wrapped_len);
+    int32_t status = keywrap_check_room(kek, kek_len, room, wrapped_len);
     if (status == KEYWRAP_OK) status = unwrap(kek, kek_len, &run, wrapped, key, room);
     if (status != KEYWRAP_OK) return status;
     return keywrap_end_unwrap_any(key, room, run.steps, run.block, padded, key_len);
@@ -20550,7 +21976,7 @@ int32_t keywrap_kind(const uint8_t *kek, size_t kek_len, const uint8_t *wrapped,
                      uint8_t *scratch, size_t room, uint32_t *padded, size_t *key_len) {
     OR_PROVED(kind, kek, kek_len, wrapped, wrapped_len, scratch, room, padded, key_len);
     *key_len = *padded = 0;
-    int32_t status = keywrap_check_kind(kek_len, room, wrapped_len);
+    int32_t status = keywrap_check_kind(kek, kek_len, room, wrapped_len);
     if (status != KEYWRAP_OK) return status;
     status = keywrap_unwrap_any(kek, kek_len, wrapped, wrapped_len, scratch, room, padded, key_len);
     wipe(scratch, room);
@@ -20561,7 +21987,7 @@ int32_t keywrap_rewrap(const uint8_t *old_kek, size_t old_kek_len, const uint8_t
                        size_t new_kek_len, uint8_t *buffer, size_t wrapped_len, uint32_t flags,
                        uint32_t *already) {
     OR_PROVED(rewrap, old_kek, old_kek_len, new_kek, new_kek_len, buffer, wrapped_len, flags, already);
-    int32_t status = keywrap_check_keks(old_kek_len, new_kek_len);
+    int32_t status = keywrap_check_keks(old_kek, old_kek_len, new_kek, new_kek_len);
     if (status == KEYWRAP_OK)
         status = rewrap_slot(old_kek, old_kek_len, new_kek, new_kek_len, buffer, wrapped_len, flags);
     return keywrap_end_rewrap((uint32_t)status, already);
@@ -20571,7 +21997,7 @@ int32_t keywrap_rewrap_in_place(const uint8_t *old_kek, size_t old_kek_len, cons
                                 size_t new_kek_len, uint8_t *buffer, size_t wrapped_len,
                                 uint32_t forms) {
     OR_PROVED(rewrap_in_place, old_kek, old_kek_len, new_kek, new_kek_len, buffer, wrapped_len, forms);
-    int32_t status = keywrap_check_rewrap_in_place(old_kek_len, new_kek_len, forms);
+    int32_t status = keywrap_check_rewrap_in_place(old_kek, old_kek_len, new_kek, new_kek_len, forms);
     if (status == KEYWRAP_OK)
         status = rewrap_slot(old_kek, old_kek_len, new_kek, new_kek_len, buffer, wrapped_len, forms);
     return keywrap_end_rewrap_in_place((uint32_t)status, buffer, wrapped_len);
@@ -20751,7 +22177,7 @@ int32_t keywrap_rewrap_many(const uint8_t *old_kek, size_t old_kek_len, const ui
                             size_t new_kek_len, uint8_t *texts, size_t texts_len, uint32_t flags,
                             uint8_t *statuses, size_t count) {
     OR_PROVED(rewrap_many, old_kek, old_kek_len, new_kek, new_kek_len, texts, texts_len, flags, statuses, count);
-    const int32_t status = keywrap_check_rewrap_many(old_kek_len, new_kek_len, texts_len, flags, count);
+    const int32_t status = keywrap_check_rewrap_many(old_kek, old_kek_len, new_kek, new_kek_len, texts_len, flags, count);
     if (status != KEYWRAP_OK) return status;
     const size_t text_len = texts_len / count;
     if (text_len == 16 || text_len > COPIED) {
@@ -20776,7 +22202,7 @@ int32_t keywrap_rewrap_many(const uint8_t *old_kek, size_t old_kek_len, const ui
 int32_t keywrap_wrap_many(const uint8_t *kek, size_t kek_len, uint8_t *texts, size_t texts_len,
                           size_t key_len, uint32_t flags, uint8_t *statuses, size_t count) {
     OR_PROVED(wrap_many, kek, kek_len, texts, texts_len, key_len, flags, statuses, count);
-    int32_t status = keywrap_check_wrap_many(kek_len, texts_len, key_len, flags, count);
+    int32_t status = keywrap_check_wrap_many(kek, kek_len, texts_len, key_len, flags, count);
     if (status != KEYWRAP_OK) return status;
     const size_t text_len = texts_len / count;
     if (text_len == 16) {
@@ -20807,7 +22233,7 @@ int32_t keywrap_unwrap_many(const uint8_t *kek, size_t kek_len, uint8_t *texts, 
                             uint32_t flags, size_t *key_lens, size_t key_lens_count,
                             uint8_t *statuses, size_t count) {
     OR_PROVED(unwrap_many, kek, kek_len, texts, texts_len, flags, key_lens, key_lens_count, statuses, count);
-    int32_t status = keywrap_check_unwrap_many(kek_len, texts_len, flags, key_lens_count, count);
+    int32_t status = keywrap_check_unwrap_many(kek, kek_len, texts_len, flags, key_lens_count, count);
     if (status != KEYWRAP_OK) return status;
     const size_t text_len = texts_len / count;
     if (text_len == 16) {
@@ -20840,7 +22266,7 @@ int32_t keywrap_kind_many(const uint8_t *kek, size_t kek_len, const uint8_t *tex
                           uint8_t *statuses, size_t count) {
     OR_PROVED(kind_many, kek, kek_len, texts, texts_len, scratch, room, forms, forms_count, key_lens, key_lens_count,
               statuses, count);
-    const int32_t status = keywrap_check_kind_many(kek_len, texts_len, room, forms_count, key_lens_count, count);
+    const int32_t status = keywrap_check_kind_many(kek, kek_len, texts_len, room, forms_count, key_lens_count, count);
     if (status != KEYWRAP_OK) return status;
     const size_t text_len = texts_len / count;
     uint32_t padded;

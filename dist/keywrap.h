@@ -147,7 +147,7 @@ int32_t keywrap_self_test(void);
 
 /* A KEK that is kept. A call expands the bytes of a KEK each time it is made; a kept KEK is expanded
  * once. Since version 1.2.
- *   kept_len  KEYWRAP_KEK_LEN(kek_len): 192, 224 or 256
+ *   kept_len  KEYWRAP_KEK_LEN(kek_len): 184, 216 or 248
  *
  * keywrap_kek_init keeps a KEK of 16, 24 or 32 bytes:
  *   KEYWRAP_OK          kept is a kept KEK. In the place of the KEK and its length each call takes kept
@@ -157,7 +157,7 @@ int32_t keywrap_self_test(void);
  * keywrap_kek_clear writes zeros to it. A kept KEK may be copied, and every library of this version
  * takes it. Each call refuses bytes that do not begin like one, as cleared bytes (KEYWRAP_BAD_KEK).
  * What comes behind the right beginning it takes for round keys, whatever it is. */
-#define KEYWRAP_KEK_LEN(kek_len) (4 * (kek_len) + 128)
+#define KEYWRAP_KEK_LEN(kek_len) (4 * (kek_len) + 120)
 KEYWRAP_CALL KEYWRAP_READS(1, 2) KEYWRAP_WRITES(3, 4)
 int32_t keywrap_kek_init(const uint8_t *kek, size_t kek_len, uint8_t *KEYWRAP_RESTRICT kept,
                          size_t kept_len);

@@ -9,11 +9,11 @@ void wipe(void *memory, size_t len) {
     __asm__ volatile("" : : "r"(memory) : "memory");
 }
 
-/* Key expansion (FIPS 197, section 5.2), or what a kept KEK has of it behind its first 16 bytes. */
+/* Key expansion (FIPS 197, section 5.2), or what a kept KEK has of it behind its mark. */
 void aes_set_encrypt(struct aes *aes, const uint8_t *kek, size_t kek_len) {
     if (kek_len > 32) {
-        aes->rounds = (unsigned)kek_len / BLOCK - 2;
-        memcpy(aes->keys, kek + BLOCK, kek_len - BLOCK);
+        aes->rounds = (unsigned)kek_len / BLOCK - 1;
+        memcpy(aes->keys, kek + 8, kek_len - 8);
     } else {
         aes->rounds = (unsigned)kek_len / 4 + 6;
         expand(aes, kek);

@@ -13,12 +13,12 @@ of_kek kek h =
     let short : length kek < 33 = grind (arith, h) in
     rw (lt-ltb (length kek) 33 short) refl
 
-pub of_kept : (kept : List ℕ) → IsScheduleLength (length kept - 16) → aes_of kept ≡ cipher_by (words_in (drop 16 kept))
+pub of_kept : (kept : List ℕ) → IsScheduleLength (length kept - 8) → aes_of kept ≡ cipher_by (words_in (drop 8 kept))
 unfolding aes_of
 of_kept kept h =
     let long : 33 ≤ length kept = grind (arith, h) in
     rw (le-ltb (length kept) 33 long) refl
 
--- the slice from place 16 on
-pub rest : (kek : List ℕ) → take (length kek - 16) (drop 16 kek) ≡ drop 16 kek
-rest kek = take_all (length kek - 16) (drop 16 kek) (omega (arith, length-drop 16 kek))
+-- the slice from place 8 on
+pub rest : (kek : List ℕ) → take (length kek - 8) (drop 8 kek) ≡ drop 8 kek
+rest kek = take_all (length kek - 8) (drop 8 kek) (omega (arith, length-drop 8 kek))

@@ -1,18 +1,19 @@
 //! A KEK that is kept: its key schedule behind a mark, in a buffer of the caller's.
 
-ghost use Rattle.std.specs.Prelude.{◌≡◌, ◌↔◌, ◌≤◌, ℕ, List, length, take, All, IsTrue, IsSome, IfSome};
+ghost use Rattle.std.specs.Prelude.{◌≡◌, ◌↔◌, ℕ, List, length, All, IsTrue, IsSome, IfSome};
 ghost use Rattle.fips197.specs.Cipher.{cipher};
 ghost use Rattle.fips197.specs.KeyExpansion.{IsKekLength};
-ghost use Rattle.keywrap_calls.specs.Keks.{IsKek, IsKept, Keeps, KeepsKek, aes_of, mark};
+ghost use Rattle.keywrap_calls.specs.Keks.{IsKek, IsKept, Keeps, KeepsKek, aes_of};
 
 use crate::status::{BAD_KEK, BAD_LENGTH, DONE};
+use byteorder::{BigEndian, ByteOrder};
 use fips197::KeyInit;
 
 // The first bytes of a kept KEK. Bytes that `kek_init` did not write are refused by it, and so is a kept
 // KEK that was cleared.
-const MARK: [u8; 16] = *b"keywrap kept KEK";
+const MARK: u64 = 0x6b65_7074_204b_454b; // kept KEK
 
-/// Keeps `kek`, of 16, 24 or 32 bytes, for any number of calls: writes 192, 224 or 256 bytes over the
+/// Keeps `kek`, of 16, 24 or 32 bytes, for any number of calls: writes 184, 216 or 248 bytes over the
 /// whole of `kept`, which each call takes in the place of the KEK (FIPS 197, section 5.2).
 ///
 /// After a refusal `kept` is what it was.
@@ -22,13 +23,13 @@ pub fn kek_init<A: KeyInit>(schedule: A::Schedule, kek: &[u8], kept: &mut [u8]) 
     if !is_kek_length(kek.len()) {
         return BAD_KEK;
     }
-    if kept.len() != 4 * kek.len() + 128 {
+    if kept.len() != 4 * kek.len() + 120 {
         return BAD_LENGTH;
     }
-    let (mark, words) = kept.split_at_mut(16);
+    let (mark, words) = kept.split_at_mut(8);
     match A::expand(kek, schedule, words) {
         Ok(()) => {
-            mark.copy_from_slice(&MARK);
+            BigEndian::write_u64(mark, MARK);
             DONE
         }
         Err(_) => BAD_LENGTH,
@@ -50,14 +51,14 @@ pub fn kept_law()
 {}
 
 // AES under a KEK, or by a kept one. `None` if it is neither.
-#[inline(always)]
+#[inline(never)]
 #[tactic(auto, unfolding(crate::specs::Keks::IsKek))]
 pub(crate) fn aes_of<A: KeyInit>(kek: &[u8], schedule: A::Schedule) -> Option<A>
     ensures accepted { IsSome result ↔ IsKek kek.now }
     ensures cipher { IfSome result (λ aes. A.encrypted aes ≡ aes_of kek.now) }
 {
     if is_kept(kek) {
-        return A::from_schedule(&kek[16..], schedule);
+        return A::from_schedule(&kek[8..], schedule);
     }
     match A::new_in(kek, schedule) {
         Ok(aes) => Some(aes),
@@ -82,12 +83,5 @@ fn is_kek_length(len: usize) -> bool
 fn is_kept(bytes: &[u8]) -> bool
     ensures { IsTrue result ↔ IsKept bytes.now }
 {
-    matches!(bytes.len(), 192 | 224 | 256) && is_marked(bytes)
-}
-
-fn is_marked(bytes: &[u8]) -> bool
-    requires { 16 ≤ length bytes.now }
-    ensures { IsTrue result ↔ (take 16 bytes.now ≡ mark) }
-{
-    &bytes[..16] == &MARK[..]
+    matches!(bytes.len(), 184 | 216 | 248) && BigEndian::read_u64(bytes) == MARK
 }
