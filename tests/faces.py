@@ -105,7 +105,7 @@ def buffers(face, call, row, due):
             digits(item, slot, 8 * (call == "unwrap_many")) for item in out)
     if call.startswith("rewrap") or call.endswith("in_place") or call == "kek_clear":
         return {"room": "-"}, given.hex() if out is None else digits(out, len(given))
-    room = row.get("room", 4 * len(row["kek"]) + 128 if call == "kek_init" else room_of(call, given))
+    room = row.get("room", 4 * len(row["kek"]) + 120 if call == "kek_init" else room_of(call, given))
     return {"room": room}, (FILL * room).hex() if out is None else digits(out, room)
 
 

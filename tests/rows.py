@@ -16,7 +16,7 @@ PLAIN, PADDED = 0, 1
 OLD_PADDED, NEW_PADDED, KEEP_FORM, PASS_NEW = 1, 2, 4, 8
 MAX_KEY = 1 << 20
 IV, RESERVED = b"\xa6" * 8, bytes.fromhex("a65959a6")
-MARK = b"keywrap kept KEK"
+MARK = b"kept KEK"
 
 
 @functools.lru_cache(maxsize=None)
@@ -59,7 +59,7 @@ def kept_kek(kek):
 
 
 def is_kek(kek):
-    return len(kek) in (16, 24, 32) or len(kek) in (192, 224, 256) and kek[:16] == MARK
+    return len(kek) in (16, 24, 32) or len(kek) in (184, 216, 248) and kek[:8] == MARK
 
 
 def xored(word, number):
@@ -175,7 +175,7 @@ def due(call, row):
     if not is_kek(kek) or not is_kek(row.get("new", kek)) or call == "kek_init" and len(kek) > 32:
         return {"status": BAD_KEK}
     if call == "kek_init":
-        is_right = room in (None, 4 * len(kek) + 128)
+        is_right = room in (None, 4 * len(kek) + 120)
         return {"status": OK, "out": kept_kek(kek)} if is_right else {"status": BAD_LENGTH}
     if call.startswith("rewrap"):
         return rewraps(call, kek, row["new"], given, row["flags"])

@@ -20,7 +20,7 @@ static uint32_t any(uint32_t below) {
 }
 
 static size_t any_kek_len(void) {
-    static const size_t LENS[] = {16, 24, 32, 192, 224, 256, 16, 24, 32, 192, 224, 256, 0, 8, 17, 33, 40, 176, 193, 272};
+    static const size_t LENS[] = {16, 24, 32, 184, 216, 248, 16, 24, 32, 184, 216, 248, 0, 8, 17, 33, 40, 176, 185, 264};
     return LENS[any(20)];
 }
 
@@ -28,10 +28,10 @@ static size_t any_kek_len(void) {
 static void keep(uint8_t *kek, size_t len) {
     uint8_t from[40];
     if (len < 176) return;
-    memcpy(from, kek + 16, sizeof from);
-    memcpy(kek, "keywrap kept KEK", 16);
-    if (any(2) && keywrap_kek_init(from, len / 4 - 32, kek, len) != KEYWRAP_OK) return;
-    if (any(8) == 0) kek[any(16)] ^= (uint8_t)(1 << any(8));
+    memcpy(from, kek + 8, sizeof from);
+    memcpy(kek, "kept KEK", 8);
+    if (any(2) && keywrap_kek_init(from, len / 4 - 30, kek, len) != KEYWRAP_OK) return;
+    if (any(8) == 0) kek[any(8)] ^= (uint8_t)(1 << any(8));
 }
 
 static struct choice any_choice(void) {

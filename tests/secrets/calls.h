@@ -7,9 +7,9 @@
 #include <string.h>
 
 /* The KEKs, and what the calls take: the first bytes of them, or kept KEKs. */
-static uint8_t from[32], new_from[32], kek[256], new_kek[256];
+static uint8_t from[32], new_from[32], kek[KEYWRAP_KEK_LEN(32)], new_kek[KEYWRAP_KEK_LEN(32)];
 static uint8_t key[ROOM], text[2 * ROOM], out[2 * ROOM], iv[8];
-static const size_t KEK_LENS[] = {16, 24, 32, 192, 224, 256};
+static const size_t KEK_LENS[] = {16, 24, 32, KEYWRAP_KEK_LEN(16), KEYWRAP_KEK_LEN(24), KEYWRAP_KEK_LEN(32)};
 /* `whole` is the length of a wrapped key, and so is text_len, if that is not the length that is wrong. */
 static size_t kek_len, new_kek_len, key_len, whole, text_len, out_len;
 static uint32_t forms, padded, already;
@@ -21,7 +21,7 @@ static uint8_t statuses[2], slot_forms[2];
 
 static void put_kek(uint8_t *to, const uint8_t *bytes) {
     if (kek_len <= 32) memcpy(to, bytes, kek_len);
-    else if (keywrap_kek_init(bytes, kek_len / 4 - 32, to, kek_len) != KEYWRAP_OK) exit(4);
+    else if (keywrap_kek_init(bytes, kek_len / 4 - 30, to, kek_len) != KEYWRAP_OK) exit(4);
 }
 
 /* Sets the lengths for a key of this length, and puts KEKs of this length, or kept ones, in place. */
@@ -39,7 +39,7 @@ static void put_key(void) {
 }
 
 static void kek_init(void) {
-    status = keywrap_kek_init(kek, kek_len, out, text_len + 4 * kek_len + 128 - whole);
+    status = keywrap_kek_init(kek, kek_len, out, KEYWRAP_KEK_LEN(kek_len) + text_len - whole);
 }
 static void wrap(void) {
     status = keywrap_wrap(kek, kek_len, key, key_len, out, text_len);

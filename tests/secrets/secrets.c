@@ -118,7 +118,7 @@ static const struct watched {
 
 /* The mark of a kept KEK is public. */
 static void mark(int undefined) {
-    const size_t mark_len = kek_len > 32 ? 16 : 0, secret_len = kek_len - mark_len;
+    const size_t mark_len = kek_len > 32 ? 8 : 0, secret_len = kek_len - mark_len;
     uint8_t *secrets[] = {kek + mark_len, new_kek + mark_len, key, text};
     size_t lens[] = {secret_len, secret_len, sizeof key, sizeof text};
     for (int i = 0; i < 4; i++) {

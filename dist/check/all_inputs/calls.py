@@ -13,7 +13,7 @@ OK, ALREADY_NEW, BAD_IV, BAD_KEK, BAD_LENGTH, INTEGRITY, KEY_NOT_PLAIN = 0, 1, 2
 OLD_PADDED, NEW_PADDED, KEEP_FORM, PASS_NEW = 1, 2, 4, 8
 LONGEST = 1048576
 PLAIN, PADDED = 0, 1
-KEPT_KEKS, MARK = (192, 224, 256), list(b'keywrap kept KEK')
+KEPT_KEKS, MARK = (184, 216, 248), list(b'kept KEK')
 
 
 def any_bytes(name, n):
@@ -23,7 +23,7 @@ def any_bytes(name, n):
 
 def any_kek(name, n):
     """Returns a KEK of any value, or a kept KEK with any round keys."""
-    return MARK + any_bytes(name, n - 16) if n in KEPT_KEKS else any_bytes(name, n)
+    return MARK + any_bytes(name, n - 8) if n in KEPT_KEKS else any_bytes(name, n)
 
 
 def little(v, n=8):
@@ -175,7 +175,7 @@ def kek_init(given, kek_len, kept_len):
     def expected(_):
         if not is_kek(kek_len) or kek_len in KEPT_KEKS:
             return BAD_KEK, None
-        if kept_len != 4 * kek_len + 128:
+        if kept_len != 4 * kek_len + 120:
             return BAD_LENGTH, None
         return OK, MARK + sum(standard.key_expansion(kek), [])
     Call(given, 'keywrap_kek_init').reads(kek).changes(any_bytes('old', kept_len)).check(expected)
@@ -185,14 +185,13 @@ def kek_clear(given, n):
     Call(given, 'keywrap_kek_clear').changes(any_bytes('old', n)).check(lambda _: (OK, [0] * n))
 
 
-def unmarked(given, kek_len, at):
-    """A wrap with a kept KEK whose mark has any byte at this place."""
-    kek, key = any_kek('kek', kek_len), any_bytes('key', 16)
-    kek[at:at + 1] = any_bytes('mark', 1)
+def unmarked(given, kek_len):
+    """A wrap with any bytes that are as many as those of a kept KEK."""
+    kek, key = any_bytes('kek', kek_len), any_bytes('key', 16)
     wrapped = standard.wrapped(kek, key)
 
     def expected(is_zero):
-        return (OK, wrapped) if is_zero([xor(kek[at], MARK[at])]) else (BAD_KEK, None)
+        return (OK, wrapped) if is_zero([xor(v, m) for v, m in zip(kek, MARK)]) else (BAD_KEK, None)
     Call(given, 'keywrap_wrap').reads(kek).reads(key).changes(any_bytes('old', 24)).check(expected, 1)
 
 

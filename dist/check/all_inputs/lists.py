@@ -2,10 +2,10 @@
 
 import itertools
 
-KEKS, KEPT = (16, 24, 32), (192, 224, 256)
+KEKS, KEPT = (16, 24, 32), (184, 216, 248)
 SHORT = """
-kek_init 16 192,kek_init 24 224,kek_init 32 256,kek_init 17 192,kek_init 16 191,kek_clear 192,unmarked 192 15
-wrap 192 16,unwrap 192 16,wrap 224 16,unwrap_padded 224 16,unwrap_any 256 16,rewrap 192 256 24 9
+kek_init 16 184,kek_init 24 216,kek_init 32 248,kek_init 17 184,kek_init 16 183,kek_clear 184,unmarked 184
+wrap 184 16,unwrap 184 16,wrap 216 16,unwrap_padded 216 16,unwrap_any 248 16,rewrap 184 248 24 9
 begin_wrap 16 8,begin_wrap_padded 5 8,step_wrap 16 3,step_unwrap 16 3,step_wrap 87392 65535,step_unwrap 87392 65537
 step_wrap 8 0,end_wrap 16 12,begin_unwrap 16 0,begin_unwrap 88192,begin_unwrap 8 1,end_unwrap 16 0
 end_unwrap_padded 16 0,end_unwrap_any 16 0,wrap 17 16,wrap 16 8,wrap 16 17,wrap 16 20,wrap 16 16 23,unwrap 16 16 23
@@ -45,12 +45,12 @@ def lengths_list(keks, most):
 
 
 def kept_list():
-    for kek, kept in itertools.product((0, 8, 15, *KEKS, 33, *KEPT), (0, 191, 193, *KEPT, 384)):
+    for kek, kept in itertools.product((0, 8, 15, *KEKS, 33, *KEPT), (0, 183, 185, *KEPT, 384)):
         yield 'kek_init', kek, kept
-    for n in 0, 1, 16, 191, *KEPT, 1000:
+    for n in 0, 1, 16, 183, *KEPT, 1000:
         yield 'kek_clear', n
-    for kek, at in itertools.product(KEPT, range(16)):
-        yield 'unmarked', kek, at
+    for kek in KEPT:
+        yield 'unmarked', kek
 
 
 def rewraps_list(pairs, texts):
@@ -192,8 +192,8 @@ def long_list():
     yield from kept_list()
     yield from lengths_list(KEKS, 32)
     yield from lengths_list(KEPT, 16)
-    yield from rewraps_list(((16, 16), (32, 24), (192, 256)), (16, 24, 32))
-    yield from many_list((16, 224), (0, 47, 48))
+    yield from rewraps_list(((16, 16), (32, 24), (184, 248)), (16, 24, 32))
+    yield from many_list((16, 216), (0, 47, 48))
     yield from steps_list(24)
     yield from refusals_list()
     yield 'self_test',
