@@ -21272,10 +21272,11 @@ CALL(SHOWN, perform_turn, next_rewrap_from, (uint32_t flags, const uint8_t *copy
 
 enum { BLOCK = 16, ROUNDS_AT_MOST = 14, SCHEDULE = BLOCK * (ROUNDS_AT_MOST + 1) };
 
-/* The round keys in the order of the cipher, or of the inverse cipher. */
+/* The round keys in the order of the cipher, or of the inverse cipher: its own, or those of a kept KEK. */
 struct aes {
-    uint8_t keys[SCHEDULE];
+    const uint8_t *keys;
     unsigned rounds;
+    uint8_t own[SCHEDULE];
 };
 
 /* aes_works returns whether the processor has the instructions and they passed a known-answer test.
@@ -21297,8 +21298,9 @@ static APART void aes_decrypt(const struct aes *aes, uint8_t block[BLOCK]);
 static APART void aes_encrypt_many(const struct aes *aes, uint8_t *blocks, size_t count);
 static APART void aes_decrypt_many(const struct aes *aes, uint8_t *blocks, size_t count);
 
-/* wipe clears memory even if nothing reads it afterwards. */
+/* wipe clears memory even if nothing reads it afterwards, and aes_clear the round keys that are its own. */
 static APART void wipe(void *memory, size_t len);
+static APART void aes_clear(struct aes *aes);
 
 /* What each processor provides, in x86_64.c and aarch64.c. expand writes the round keys of a KEK, and
  * invert turns them into the round keys of the inverse cipher. The number of rounds is set before. */
@@ -21363,7 +21365,7 @@ BY_AES static __m128i round_key(const struct aes *aes, unsigned i) {
 }
 
 BY_AES static void set_round_key(struct aes *aes, unsigned i, __m128i key) {
-    _mm_storeu_si128((__m128i *)(aes->keys + BLOCK * i), key);
+    _mm_storeu_si128((__m128i *)(aes->own + BLOCK * i), key);
 }
 
 /* Each word is the sum of the words up to it. */
@@ -21398,7 +21400,7 @@ BY_AES static void expand_16(struct aes *aes, __m128i a) {
 /* Turns: six words each, in a and the lower half of b. */
 BY_AES static void expand_24(struct aes *aes, __m128i a, __m128i b) {
     __m128i constant = _mm_set1_epi32(1);
-    uint8_t *at = aes->keys;
+    uint8_t *at = aes->own;
     for (unsigned turn = 0;; turn++, at += 24) {
         _mm_storeu_si128((__m128i *)at, a);
         if (turn == 8) break;
@@ -21542,7 +21544,7 @@ static uint32_t word_at(const struct aes *aes, unsigned i) {
 void expand(struct aes *aes, const uint8_t *kek) {
     unsigned n = aes->rounds - 6;
     uint32_t constant = 1;
-    memcpy(aes->keys, kek, 4 * n);
+    memcpy(aes->own, kek, 4 * n);
     for (unsigned i = n; i < 4 * (aes->rounds + 1); i++) {
         uint32_t word = word_at(aes, i - 1);
         if (i % n == 0) {
@@ -21552,7 +21554,7 @@ void expand(struct aes *aes, const uint8_t *kek) {
             word = sub_word(word);
         }
         word ^= word_at(aes, i - n);
-        memcpy(aes->keys + 4 * i, &word, 4);
+        memcpy(aes->own + 4 * i, &word, 4);
     }
 }
 
@@ -21561,7 +21563,7 @@ static uint8x16_t round_key(const struct aes *aes, unsigned i) {
 }
 
 static void set_round_key(struct aes *aes, unsigned i, uint8x16_t key) {
-    vst1q_u8(aes->keys + BLOCK * i, key);
+    vst1q_u8(aes->own + BLOCK * i, key);
 }
 
 /* In the other order, with all but the outer two mixed. */
@@ -21642,13 +21644,18 @@ void wipe(void *memory, size_t len) {
     __asm__ volatile("" : : "r"(memory) : "memory");
 }
 
+void aes_clear(struct aes *aes) {
+    if (aes->keys == aes->own) wipe(aes->own, sizeof aes->own);
+}
+
 /* Key expansion (FIPS 197, section 5.2), or what a kept KEK has of it behind its mark. */
 void aes_set_encrypt(struct aes *aes, const uint8_t *kek, size_t kek_len) {
     if (kek_len > 32) {
         aes->rounds = (unsigned)kek_len / BLOCK - 1;
-        memcpy(aes->keys, kek + 8, kek_len - 8);
+        aes->keys = kek + 8;
     } else {
         aes->rounds = (unsigned)kek_len / 4 + 6;
+        aes->keys = aes->own;
         expand(aes, kek);
     }
 }
@@ -21657,6 +21664,7 @@ void aes_set_encrypt(struct aes *aes, const uint8_t *kek, size_t kek_len) {
 void aes_set_decrypt(struct aes *aes, const uint8_t *kek, size_t kek_len) {
     aes_set_encrypt(aes, kek, kek_len);
     invert(aes);
+    aes->keys = aes->own;
 }
 
 void aes_encrypt(const struct aes *aes, uint8_t block[BLOCK]) {
@@ -21821,7 +21829,7 @@ static inline void run_steps(const uint8_t *kek, size_t kek_len, int decrypts, s
         aes_encrypt(&aes, run->block);
         status = keywrap_step_wrap(registers, len, &run->steps, run->block);
     }
-    wipe(&aes, sizeof aes);
+    aes_clear(&aes);
 }
 
 /* Makes all steps of a wrapping that has begun, and writes the first 8 bytes of the text. */
@@ -22225,7 +22233,7 @@ int32_t keywrap_wrap_many(const uint8_t *kek, size_t kek_len, uint8_t *texts, si
         memset(statuses + i, (uint8_t)status, turn.count);
         wipe(turn.blocks, sizeof turn.blocks);
     }
-    wipe(&aes, sizeof aes);
+    aes_clear(&aes);
     return KEYWRAP_OK;
 }
 
@@ -22256,7 +22264,7 @@ int32_t keywrap_unwrap_many(const uint8_t *kek, size_t kek_len, uint8_t *texts, 
         }
         wipe(turn.blocks, sizeof turn.blocks);
     }
-    wipe(&aes, sizeof aes);
+    aes_clear(&aes);
     return KEYWRAP_OK;
 }
 
@@ -22294,7 +22302,7 @@ int32_t keywrap_kind_many(const uint8_t *kek, size_t kek_len, const uint8_t *tex
         wipe(copy, text_len * turn.count);
         wipe(turn.blocks, sizeof turn.blocks);
     }
-    wipe(&aes, sizeof aes);
+    aes_clear(&aes);
     memset(scratch, 0, room);
     return KEYWRAP_OK;
 }

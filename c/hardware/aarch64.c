@@ -38,7 +38,7 @@ static uint32_t word_at(const struct aes *aes, unsigned i) {
 void expand(struct aes *aes, const uint8_t *kek) {
     unsigned n = aes->rounds - 6;
     uint32_t constant = 1;
-    memcpy(aes->keys, kek, 4 * n);
+    memcpy(aes->own, kek, 4 * n);
     for (unsigned i = n; i < 4 * (aes->rounds + 1); i++) {
         uint32_t word = word_at(aes, i - 1);
         if (i % n == 0) {
@@ -48,7 +48,7 @@ void expand(struct aes *aes, const uint8_t *kek) {
             word = sub_word(word);
         }
         word ^= word_at(aes, i - n);
-        memcpy(aes->keys + 4 * i, &word, 4);
+        memcpy(aes->own + 4 * i, &word, 4);
     }
 }
 
@@ -57,7 +57,7 @@ static uint8x16_t round_key(const struct aes *aes, unsigned i) {
 }
 
 static void set_round_key(struct aes *aes, unsigned i, uint8x16_t key) {
-    vst1q_u8(aes->keys + BLOCK * i, key);
+    vst1q_u8(aes->own + BLOCK * i, key);
 }
 
 /* In the other order, with all but the outer two mixed. */

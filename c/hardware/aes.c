@@ -9,13 +9,18 @@ void wipe(void *memory, size_t len) {
     __asm__ volatile("" : : "r"(memory) : "memory");
 }
 
+void aes_clear(struct aes *aes) {
+    if (aes->keys == aes->own) wipe(aes->own, sizeof aes->own);
+}
+
 /* Key expansion (FIPS 197, section 5.2), or what a kept KEK has of it behind its mark. */
 void aes_set_encrypt(struct aes *aes, const uint8_t *kek, size_t kek_len) {
     if (kek_len > 32) {
         aes->rounds = (unsigned)kek_len / BLOCK - 1;
-        memcpy(aes->keys, kek + 8, kek_len - 8);
+        aes->keys = kek + 8;
     } else {
         aes->rounds = (unsigned)kek_len / 4 + 6;
+        aes->keys = aes->own;
         expand(aes, kek);
     }
 }
@@ -24,6 +29,7 @@ void aes_set_encrypt(struct aes *aes, const uint8_t *kek, size_t kek_len) {
 void aes_set_decrypt(struct aes *aes, const uint8_t *kek, size_t kek_len) {
     aes_set_encrypt(aes, kek, kek_len);
     invert(aes);
+    aes->keys = aes->own;
 }
 
 void aes_encrypt(const struct aes *aes, uint8_t block[BLOCK]) {

@@ -8,10 +8,11 @@
 
 enum { BLOCK = 16, ROUNDS_AT_MOST = 14, SCHEDULE = BLOCK * (ROUNDS_AT_MOST + 1) };
 
-/* The round keys in the order of the cipher, or of the inverse cipher. */
+/* The round keys in the order of the cipher, or of the inverse cipher: its own, or those of a kept KEK. */
 struct aes {
-    uint8_t keys[SCHEDULE];
+    const uint8_t *keys;
     unsigned rounds;
+    uint8_t own[SCHEDULE];
 };
 
 /* aes_works returns whether the processor has the instructions and they passed a known-answer test.
@@ -33,8 +34,9 @@ void aes_decrypt(const struct aes *aes, uint8_t block[BLOCK]);
 void aes_encrypt_many(const struct aes *aes, uint8_t *blocks, size_t count);
 void aes_decrypt_many(const struct aes *aes, uint8_t *blocks, size_t count);
 
-/* wipe clears memory even if nothing reads it afterwards. */
+/* wipe clears memory even if nothing reads it afterwards, and aes_clear the round keys that are its own. */
 void wipe(void *memory, size_t len);
+void aes_clear(struct aes *aes);
 
 /* What each processor provides, in x86_64.c and aarch64.c. expand writes the round keys of a KEK, and
  * invert turns them into the round keys of the inverse cipher. The number of rounds is set before. */

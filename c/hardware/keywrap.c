@@ -25,7 +25,7 @@ static inline void run_steps(const uint8_t *kek, size_t kek_len, int decrypts, s
         aes_encrypt(&aes, run->block);
         status = keywrap_step_wrap(registers, len, &run->steps, run->block);
     }
-    wipe(&aes, sizeof aes);
+    aes_clear(&aes);
 }
 
 /* Makes all steps of a wrapping that has begun, and writes the first 8 bytes of the text. */

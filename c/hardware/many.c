@@ -171,7 +171,7 @@ int32_t keywrap_wrap_many(const uint8_t *kek, size_t kek_len, uint8_t *texts, si
         memset(statuses + i, (uint8_t)status, turn.count);
         wipe(turn.blocks, sizeof turn.blocks);
     }
-    wipe(&aes, sizeof aes);
+    aes_clear(&aes);
     return KEYWRAP_OK;
 }
 
@@ -202,7 +202,7 @@ int32_t keywrap_unwrap_many(const uint8_t *kek, size_t kek_len, uint8_t *texts, 
         }
         wipe(turn.blocks, sizeof turn.blocks);
     }
-    wipe(&aes, sizeof aes);
+    aes_clear(&aes);
     return KEYWRAP_OK;
 }
 
@@ -240,7 +240,7 @@ int32_t keywrap_kind_many(const uint8_t *kek, size_t kek_len, const uint8_t *tex
         wipe(copy, text_len * turn.count);
         wipe(turn.blocks, sizeof turn.blocks);
     }
-    wipe(&aes, sizeof aes);
+    aes_clear(&aes);
     memset(scratch, 0, room);
     return KEYWRAP_OK;
 }

@@ -20,7 +20,7 @@ BY_AES static __m128i round_key(const struct aes *aes, unsigned i) {
 }
 
 BY_AES static void set_round_key(struct aes *aes, unsigned i, __m128i key) {
-    _mm_storeu_si128((__m128i *)(aes->keys + BLOCK * i), key);
+    _mm_storeu_si128((__m128i *)(aes->own + BLOCK * i), key);
 }
 
 /* Each word is the sum of the words up to it. */
@@ -55,7 +55,7 @@ BY_AES static void expand_16(struct aes *aes, __m128i a) {
 /* Turns: six words each, in a and the lower half of b. */
 BY_AES static void expand_24(struct aes *aes, __m128i a, __m128i b) {
     __m128i constant = _mm_set1_epi32(1);
-    uint8_t *at = aes->keys;
+    uint8_t *at = aes->own;
     for (unsigned turn = 0;; turn++, at += 24) {
         _mm_storeu_si128((__m128i *)at, a);
         if (turn == 8) break;
