@@ -9,7 +9,7 @@ use crate::status::{BAD_KEK, BAD_LENGTH, DONE};
 use byteorder::{BigEndian, ByteOrder};
 use fips197::KeyInit;
 
-// The first bytes of a kept KEK. Bytes that `kek_init` did not write are refused by it, and so is a kept
+// The first bytes of a kept KEK. Bytes of its length that begin otherwise are refused, as those of a kept
 // KEK that was cleared.
 const MARK: u64 = 0x6b65_7074_204b_454b; // kept KEK
 
@@ -45,9 +45,13 @@ pub fn kek_clear(kept: &mut [u8])
     kept.fill(0);
 }
 
-/// Says that a call with a kept KEK is a call under the KEK. It does nothing.
-pub fn kept_law()
-    ensures { (kek kept : List ℕ) → Keeps kek kept → IsKek kept × (aes_of kept ≡ cipher kek) }
+/// Says that a call with a KEK is under AES of this KEK, and so is a call with the kept KEK. It does
+/// nothing.
+pub fn keks_law()
+    ensures kek { (kek : List ℕ) → IsKekLength (length kek)
+        → IsKek kek × (aes_of kek ≡ cipher kek) }
+    ensures kept { (kek kept : List ℕ) → Keeps kek kept
+        → IsKek kept × (aes_of kept ≡ cipher kek) }
 {}
 
 // AES under a KEK, or by a kept one. `None` if it is neither.

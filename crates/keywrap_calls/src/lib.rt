@@ -34,7 +34,7 @@ pub use argument_checks::{
     check_keks, check_kind, check_padded, check_plain, check_rewrap_in_place, check_room,
 };
 pub use arguments::{In, Out};
-pub use keks::{kek_clear, kek_init, kept_law};
+pub use keks::{kek_clear, kek_init, keks_law};
 pub use key_wrap_core::step_count;
 pub use kinds::kind;
 pub use known_answers::{TestedCalls, self_test};
