@@ -433,6 +433,13 @@ class TestProcesses:
         assert rotate(store) == 0
         assert (found_in(store), left_over(store)) == (ALL_NEW, [])
 
+    def test_a_process_ends_with_a_run_that_is_killed_before_it_serves(self, store):
+        running = start(store, program=patched("""from keywrap.rotation import pool
+pool._serve = lambda *words, real=pool._serve: time.sleep(1) or real(*words)"""))
+        wait_for(lambda: children(running))
+        running.kill()
+        running.communicate(timeout=20)  # A process that lives holds the pipes.
+
     @pytest.mark.parametrize("sent, to_all", [(signal.SIGINT, False), (signal.SIGINT, True), (signal.SIGTERM, False)])
     def test_an_interrupt_ends_between_two_files(self, store, sent, to_all):
         """Ctrl-C of a terminal reaches all processes. The units at work are done, and the report is whole."""

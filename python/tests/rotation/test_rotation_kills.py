@@ -2,8 +2,7 @@
 moment, and two rotations at once, also of halves of the store.
 
 `cryptography` (OpenSSL) checks every key: none is lost, none is under a foreign KEK. With status 0 all are new.
-With KEYWRAP_KILLS=N there are N times the 48 kills.
-"""
+With KEYWRAP_KILLS=N there are N times the 48 kills."""
 
 import contextlib
 import fcntl
@@ -166,17 +165,12 @@ def disturb(source, running):
     with contextlib.suppress(ProcessLookupError, FileNotFoundError):  # It ended before.
         workers = children(running)
         if how == "stop":
-            for sent in (signal.SIGSTOP, signal.SIGCONT):
-                os.kill(source.choice([*workers, running.pid]) if sent == signal.SIGSTOP else running.pid, sent)
-                time.sleep(0.2)
-            for pid in workers:
-                os.kill(pid, signal.SIGCONT)
+            os.kill(source.choice([*workers, running.pid]), signal.SIGSTOP)
+            time.sleep(0.4)
+            os.killpg(running.pid, signal.SIGCONT)
         elif running.poll() is None:
-            if how == "all":
-                os.killpg(running.pid, signal.SIGKILL)
-            else:
-                os.kill(source.choice(workers) if how == "worker" and workers else running.pid,
-                        signal.SIGTERM if how == "terminate" else signal.SIGKILL)
+            victim = {"all": -running.pid, "worker": source.choice([*workers, running.pid])}.get(how, running.pid)
+            os.kill(victim, signal.SIGTERM if how == "terminate" else signal.SIGKILL)
             return True
     return False
 
