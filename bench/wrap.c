@@ -1,7 +1,7 @@
 /* wrap.c: measures how long the library takes, beside other libraries and the same algorithm in C:
  * for a wrap and an unwrap, each with its key schedule, and with a kept one for a short key, and for
- * a rewrap, where nettle keeps its schedules. First all must return the same bytes. Then the best time of each counts. bench/wrap.sh
- * compiles and runs it. Writes CSV.
+ * a rewrap, where nettle keeps its schedules. First all must return the same bytes. Then the best
+ * time of each counts. bench/wrap.sh compiles and runs it. Writes CSV.
  *
  * usage: wrap [SECONDS]       (SECONDS for wraps and unwraps; without it, rewraps) */
 

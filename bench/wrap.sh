@@ -1,7 +1,8 @@
 #!/bin/sh
 # Times the library's wrap and unwrap beside OpenSSL, nettle (also without AES instructions), libgcrypt (apt-get install
 # libssl-dev nettle-dev libgcrypt20-dev) and the same algorithm in C (by clang, if it is there), and with a kept KEK or
-# schedule for 16-byte keys. Then a rewrap in the call for many keys, and the calls of EVP, by OpenSSL's own provider and by ours.
+# schedule for 16-byte keys. Then a rewrap in the call for many keys, and the calls of EVP, by OpenSSL's own provider
+# and by ours.
 #
 # usage: bench/wrap.sh LIBRARY MODULE [SECONDS]     (LIBRARY: libkeywrap.a, beside libkeywrap_hw.a; MODULE: keywrap.so;
 #                                                   if no SECONDS: 20)

@@ -20,7 +20,8 @@ static uint32_t any(uint32_t below) {
 }
 
 static size_t any_kek_len(void) {
-    static const size_t LENS[] = {16, 24, 32, 184, 216, 248, 16, 24, 32, 184, 216, 248, 0, 8, 17, 33, 40, 176, 185, 264};
+    static const size_t LENS[] = {16, 24, 32, 184, 216, 248, 16, 24, 32, 184, 216, 248,
+                                  0, 8, 17, 33, 40, 176, 185, 264};
     return LENS[any(20)];
 }
 
