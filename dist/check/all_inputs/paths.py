@@ -4,14 +4,15 @@ A cell is a byte of memory: an int, or (value, k), which is byte k of the value.
 the code decides something that depends on the inputs, the path becomes several. Each has the equations under which the
 code takes it."""
 
-from terms import N, V, Known, Refused, and_, bits, input_byte, least, looked_up, or_, shl, shr, zero_cases
+from terms import N, V, Known, Refused, and_, bits, flips, input_byte, least, looked_up, or_, shl, shr, zero_cases
 
 
 def byte_of(cell):
     if isinstance(cell, int):
         return cell
     v, k = cell
-    return and_(shr(v, 8 * k, 64), 255) if isinstance(v, (V, N)) else v
+    is_byte = not isinstance(v, (V, N)) or k == 0 and bits(v) < 256
+    return v if is_byte else and_(shr(v, 8 * k, 64), 255)
 
 
 def cell_of(v):
@@ -25,7 +26,10 @@ def cells_of(v, n):
 
 def joined(cells):
     """Returns the little-endian value of these bytes."""
-    total = i = 0
+    try:
+        return int.from_bytes(cells, 'little')
+    except TypeError:       # not all of them are numbers
+        total = i = 0
     while i < len(cells):
         cell, n = cells[i], 1
         if isinstance(cell, int):
@@ -91,24 +95,21 @@ class Machine:
     call. `module` has constants and variables: dictionaries from addresses to bytes."""
 
     def __init__(self, module, inputs, stack):
-        self.module, self.inputs, self.stack = module, inputs, stack
+        self.module, self.stack = module, stack
+        self.unwritten = module.variables | inputs | module.constants
         self.steps = self.lookups = 0
         self.tables = {}
 
     def cells(self, path, at, n):
-        memory, found = path.memory, []
+        memory, unwritten, found = path.memory, self.unwritten, []
         for i in range(at, at + n):
-            cell = memory.get(i)
-            found.append(self.unwritten(i) if cell is None else cell)
+            cell = memory[i] if i in memory else unwritten.get(i)
+            if cell is None:
+                if i not in self.stack:
+                    raise Refused(f'a load at {i:#x}')
+                cell = input_byte('stack', i - self.stack.start), 0
+            found.append(cell)
         return found
-
-    def unwritten(self, at):
-        for cells in self.module.constants, self.inputs, self.module.variables:
-            if at in cells:
-                return cells[at]
-        if at not in self.stack:
-            raise Refused(f'a load at {at:#x}')
-        return input_byte('stack', at - self.stack.start), 0
 
     def load(self, path, address, offset, n):
         """Returns the value of n bytes."""
@@ -128,7 +129,7 @@ class Machine:
             offset += more - (least(address) + more >> w << w)
         if not isinstance(address, V):
             return None
-        free = bits(V(0, address.t))
+        free = flips(address)
         shift = (free & -free).bit_length() - 1
         base = offset + (address.c & ~free)
         if (free >> shift).bit_length() > 8:

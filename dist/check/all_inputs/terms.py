@@ -21,8 +21,8 @@ IDENTITY = sum(1 << 65 * i for i in range(8))
 class V:
     __slots__ = ('c', 't', 's')
 
-    def __init__(self, c, t):
-        self.c, self.t, self.s = c, t, None
+    def __init__(self, c, t, s=None):
+        self.c, self.t, self.s = c, t, s        # s: flips(self), or None if this was not computed
 
     def __eq__(self, other):
         return isinstance(other, V) and self.c == other.c and self.t == other.t
@@ -38,11 +38,11 @@ class N:
 
     def __new__(cls, op, *args, top):
         key = (op, args)
-        if key not in cls.made:
-            self = object.__new__(cls)
+        self = cls.made.get(key)
+        if self is None:
+            self = cls.made[key] = object.__new__(cls)
             self.op, self.args, self.top = op, args, top
-            cls.made[key] = self
-        return cls.made[key]
+        return self
 
     def __repr__(self):
         return f'{self.op}({", ".join(map(show, self.args))})'
@@ -52,31 +52,34 @@ def show(v):
     return hex(v) if isinstance(v, int) else f'<{len(v.t)} atoms>' if isinstance(v, V) else repr(v)
 
 
-def form(c, t):
-    return V(c, t) if t else c
+def form(c, t, s=None):
+    return V(c, t, s) if t else c
 
 
-def bits(v):
-    """Returns the bits that can be 1."""
-    if isinstance(v, int):
-        return v
-    if isinstance(v, N):
-        return (1 << v.top.bit_length()) - 1
+def flips(v):
+    """Returns the bits of a V that its atoms flip."""
     if v.s is None:
         s = 0
         for x in v.t.values():
             s |= x
         s |= s >> 256
         s |= s >> 128
-        v.s = (s | s >> 64) & M64 | v.c
+        v.s = (s | s >> 64) & M64
     return v.s
+
+
+def bits(v):
+    """Returns the bits that can be 1."""
+    if isinstance(v, V):
+        return flips(v) | v.c
+    return v if isinstance(v, int) else (1 << v.top.bit_length()) - 1
 
 
 def least(v):
     """Returns bits that are always 1."""
     if isinstance(v, N):
         return least(v.args[0]) | least(v.args[1]) if v.op == 'or' else 0
-    return v if isinstance(v, int) else v.c & ~bits(V(0, v.t))
+    return v if isinstance(v, int) else v.c & ~flips(v)
 
 
 # Atoms
@@ -199,8 +202,9 @@ class Table:
         v = substituted(self.kind, v) if self.kind else v
         if isinstance(v, int):
             return self.c ^ self.linear[v]
-        image = self.image
-        return form(self.c ^ self.linear[v.c], {a: y for a, x in v.t.items() if (y := image(x))})
+        images, image = self.images, self.image
+        return form(self.c ^ self.linear[v.c], {
+            a: y for a, x in v.t.items() if (y := images[x] if x in images else image(x))})
 
 
 def looked_up(entries, v):
@@ -221,23 +225,23 @@ class Refused(Exception):
 def xor(a, b):
     if isinstance(a, int) and isinstance(b, int):
         return a ^ b
+    if isinstance(a, int):
+        a, b = b, a
     if isinstance(a, N) or isinstance(b, N):
-        a, b = (b, a) if isinstance(a, int) else (a, b)
         if b == 0:
             return a
         if b == 1 and a.top == 1:
             return eqz(a)
         return N('xor', a, b, top=(1 << (bits(a) | bits(b)).bit_length()) - 1)
-    if isinstance(a, int):
-        return V(b.c ^ a, b.t)
     if isinstance(b, int):
-        return V(a.c ^ b, a.t)
+        return V(a.c ^ b, a.t, a.s)
     if len(a.t) < len(b.t):
         a, b = b, a
     t = dict(a.t)
     for atom, x in b.t.items():
-        y = t.get(atom, 0) ^ x
-        if y:
+        if atom not in t:
+            t[atom] = x
+        elif y := t[atom] ^ x:
             t[atom] = y
         else:
             del t[atom]
@@ -256,7 +260,7 @@ def and_(a, b):
             return 0
         if isinstance(a, V):
             mask = b * EACH
-            return form(a.c & b, {atom: y for atom, x in a.t.items() if (y := x & mask)})
+            return form(a.c & b, {atom: y for atom, x in a.t.items() if (y := x & mask)}, flips(a) & b)
         if a.op == 'and' and isinstance(a.args[1], int):
             return and_(a.args[0], a.args[1] & b)
         if a.op == 'xor' and isinstance(a.args[1], int) and b == 1:
@@ -274,7 +278,10 @@ def or_(a, b):
     if a == 0 or b == 0:
         return b if a == 0 else a
     if not isinstance(a, N) and not isinstance(b, N) and bits(a) & bits(b) == 0:
-        return xor(a, b)
+        total = xor(a, b)
+        if isinstance(a, V) and isinstance(b, V):
+            total.s = flips(a) | flips(b)
+        return total
     for one, other in (a, b), (b, a):
         if bits(one) & ~least(other) == 0:
             return other
@@ -290,7 +297,9 @@ def shl(a, k, w):
     a = and_(a, 2 ** (w - k) - 1)
     if isinstance(a, N):
         return a if k == 0 else N('shl', a, k, w, top=a.top << k)
-    return a << k if isinstance(a, int) else V(a.c << k, {atom: x << k for atom, x in a.t.items()})
+    if k == 0 or isinstance(a, int):
+        return a << k if k else a
+    return V(a.c << k, {atom: x << k for atom, x in a.t.items()}, flips(a) << k)
 
 
 def shr(a, k, w):
@@ -304,7 +313,9 @@ def shr(a, k, w):
             return or_(*parts)
         return 0 if a.top >> k == 0 else a if k == 0 else N('shr', a, k, w, top=a.top >> k)
     a = and_(a, 2 ** w - 2 ** k)
-    return a >> k if isinstance(a, int) else V(a.c >> k, {atom: x >> k for atom, x in a.t.items()})
+    if k == 0 or isinstance(a, int):
+        return a >> k if k else a
+    return V(a.c >> k, {atom: x >> k for atom, x in a.t.items()}, flips(a) >> k)
 
 
 def rotl(a, k, w):
@@ -435,7 +446,7 @@ class Known:
                 other, x = ATOMS.get(atom, (None, None))
                 if other in TABLES:
                     self.arguments['T' if other == 'S' else 'S', self.reduced(V(0, {atom: IDENTITY}))] = x
-        return self.arguments.get((kind, v))
+        return self.arguments.get((kind, v)) if self.arguments else None
 
     def reduced(self, v):
         """Returns the value without pivots."""

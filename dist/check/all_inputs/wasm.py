@@ -1,10 +1,12 @@
 """A WebAssembly module of the first version with bulk memory, and its execution for all inputs at once."""
 
+from functools import partial
+
 from paths import Machine, Path, cells_of
 from terms import V, Refused, add, and_, eq, eqz, ite, ltu, mul, ne, nz, or_, rotl, rotr, shl, shr, sub, xor
 
 STEPS = 1_000_000_000                   # more instructions than any call needs
-LOADS = {0x28: (4, 4), 0x29: (8, 8), 0x2D: (1, 4), 0x2F: (2, 4), 0x31: (1, 8), 0x33: (2, 8), 0x35: (4, 8)}
+LOADS = {0x28: 4, 0x29: 8, 0x2D: 1, 0x2F: 2, 0x31: 1, 0x33: 2, 0x35: 4}
 STORES = {0x36: 4, 0x37: 8, 0x3A: 1, 0x3B: 2, 0x3C: 1, 0x3D: 2, 0x3E: 4}
 
 
@@ -126,12 +128,16 @@ class Module:
                 code.append([0x41, r.s(64)])
             elif op in LOADS or op in STORES:
                 r.u()
-                code.append([op, r.u()])
+                code.append([0x28, r.u(), LOADS[op]] if op in LOADS else [0x36, r.u(), STORES[op]])
             elif op == 0xFC:
                 sub_op = r.u()
                 r.take({10: 2, 11: 1}[sub_op])
                 code.append([0xFC00 + sub_op])
-            elif op in BINARY or op in UNARY or op in (0, 1, 0x0F, 0x1A, 0x1B):
+            elif op in BINARY:
+                code.append([0x6A, BINARY[op]])
+            elif op in UNARY:
+                code.append([0x45, UNARY[op]])
+            elif op in (0, 1, 0x0F, 0x1A, 0x1B):
                 code.append([op])
             else:
                 raise Refused(f'opcode {op:#x}')
@@ -163,7 +169,7 @@ BINARY = {
 }
 for start, w in (0x6A, 32), (0x7C, 64):
     for place, operation in (0, add), (1, sub), (2, mul), (10, shl), (12, shr), (13, rotl), (14, rotr):
-        BINARY[start + place] = lambda a, b, operation=operation, w=w: operation(a, b, w)
+        BINARY[start + place] = partial(operation, w=w)
     for place, operation in (7, and_), (8, or_), (9, xor):
         BINARY[start + place] = operation
 for start, w in (0x48, 32), (0x53, 64):
@@ -233,19 +239,19 @@ class Run(Machine):
                     push(local[instruction[1]])
                 elif op == 0x41:
                     push(instruction[1])
-                elif op in BINARY:
+                elif op == 0x6A:
                     b = pop()
-                    stack[-1] = BINARY[op](stack[-1], b)
-                elif op in UNARY:
-                    stack[-1] = UNARY[op](stack[-1])
+                    stack[-1] = instruction[1](stack[-1], b)
+                elif op == 0x45:
+                    stack[-1] = instruction[1](stack[-1])
                 elif op == 0x21:
                     local[instruction[1]] = pop()
                 elif op == 0x22:
                     local[instruction[1]] = stack[-1]
-                elif op in LOADS:
-                    stack[-1] = self.load(path, stack[-1], instruction[1], LOADS[op][0])
-                elif op in STORES:
-                    v, n = pop(), STORES[op]
+                elif op == 0x28:
+                    stack[-1] = self.load(path, stack[-1], instruction[1], instruction[2])
+                elif op == 0x36:
+                    v, n = pop(), instruction[2]
                     self.store(path, self.place(path, pop()) + instruction[1], cells_of(and_(v, 2 ** (8 * n) - 1), n))
                 elif op in (2, 3):
                     labels.append((op, pc, instruction[2], len(stack), instruction[1]))

@@ -2,11 +2,12 @@
 
 import re
 import subprocess
+from operator import and_ as iand, or_ as ior, xor as ixor
 
 from nibbles import F, look, xor_bytes
 from paths import Machine, Path, byte_of, cell_of, cells_of, joined
 from standard import mix_columns
-from terms import (V, Refused, add, and_, bswap, eq, eqz, fresh, ite, ltu, mul, or_, rotl, rotr, shl, shr, sub,
+from terms import (Refused, add, and_, bswap, eq, eqz, fresh, ite, ltu, mul, or_, rotl, rotr, shl, shr, sub,
                    substituted, xor)
 
 STEPS = 100_000_000                     # more instructions than any call needs
@@ -539,13 +540,17 @@ def movq(n):
     return do
 
 
-def each(function):
+def each(function, of_numbers):
+    """Of each two bytes. The other function is the same one, and is fast where all bytes are numbers."""
     def do(run, path, to, source):
         if function is xor_bytes and to.text == source.text:
             path.state.xmm[to.name] = [0] * 16
             return
         a, b = run.vector(path, to), run.vector(path, source)
-        path.state.xmm[to.name] = [cell_of(function(byte_of(x), byte_of(y))) for x, y in zip(a, b)]
+        try:
+            path.state.xmm[to.name] = list(map(of_numbers, a, b))
+        except TypeError:
+            path.state.xmm[to.name] = [cell_of(function(byte_of(x), byte_of(y))) for x, y in zip(a, b)]
     return do
 
 
@@ -570,7 +575,7 @@ def pshufb(run, path, to, source):
     constants = bytes(table) if all(isinstance(c, int) for c in table) else None
     made = []
     for c in places:
-        at = byte_of(c)
+        at = c if isinstance(c, int) else byte_of(c)
         if isinstance(at, int):
             made.append(0 if at & 128 else table[at & 15])
         elif constants is None:
@@ -677,8 +682,8 @@ def pmovmskb(run, path, to, source):
 VECTOR = {
     'movdqa': move(16), 'movaps': move(16), 'movdqu': move(16, False), 'movups': move(16, False),
     'movq': movq(8), 'movd': movq(4), 'movss': movq(4), 'movsd': movq(8),
-    'pxor': each(xor_bytes), 'xorps': each(xor_bytes), 'pand': each(and_bytes), 'por': each(or_bytes),
-    'pcmpeqb': each(equal_bytes), 'pshufb': pshufb, 'psrlw': psrlw,
+    'pxor': each(xor_bytes, ixor), 'xorps': each(xor_bytes, ixor), 'pand': each(and_bytes, iand),
+    'por': each(or_bytes, ior), 'pcmpeqb': each(equal_bytes, None), 'pshufb': pshufb, 'psrlw': psrlw,
     'pshufd': shuffled(4, 0, 4), 'pshuflw': shuffled(2, 0, 4), 'pshufhw': shuffled(2, 4, 4),
     'movhps': movhps, 'movhlps': movhlps, 'pslldq': pslldq, 'pslld': each_word(shl), 'psrld': each_word(shr),
     'aesenc': aes('S', [2, 3, 1, 1]), 'aesenclast': aes('S', None), 'aesimc': aes(None, [14, 11, 13, 9]),
