@@ -3,9 +3,9 @@ A row is a call, what it is given, and what is due, each a dictionary of bytes, 
 
 usage: python3 rows.py check    prints each row of rows.txt that is wrong, and the right one"""
 
+import ctypes.util
 import functools
 import itertools
-import operator
 import pathlib
 import re
 import sys
@@ -27,35 +27,14 @@ def aes(kek, decrypts):
     return (ecb.decryptor() if decrypts else ecb.encryptor()).update
 
 
-def doubled(byte):
-    return byte << 1 ^ 0x11B * (byte >> 7)
-
-
-@functools.cache
-def s_box():
-    """FIPS 197, 5.1.1. Each byte but 0 is a power of 3."""
-    powers = [1]
-    while len(powers) < 255:
-        powers.append(powers[-1] ^ doubled(powers[-1]))
-    inverses = {0: 0, **{power: powers[-at % 255] for at, power in enumerate(powers)}}
-    sums = [functools.reduce(operator.xor, (inverses[byte] << bits for bits in range(5))) for byte in range(256)]
-    return bytes((one ^ one >> 8) & 0xFF ^ 0x63 for one in sums)
-
-
 @functools.cache
 def kept_kek(kek):
-    """The mark, and the words of FIPS 197, 5.2."""
-    words, rcon = [kek[at:at + 4] for at in range(0, len(kek), 4)], 1
-    size = len(words)
-    for at in range(size, 4 * size + 28):
-        word = words[-1]
-        if at % size == 0:
-            first, *others = (word[1:] + word[:1]).translate(s_box())
-            word, rcon = bytes([first ^ rcon, *others]), doubled(rcon)
-        elif size == 8 and at % 8 == 4:
-            word = word.translate(s_box())
-        words.append(bytes(map(operator.xor, word, words[at - size])))
-    return MARK + b"".join(words)
+    """The mark, and the words of FIPS 197, 5.2, by OpenSSL, which may have each in the order of this machine."""
+    words = (ctypes.c_uint32 * 61)()
+    ctypes.CDLL(ctypes.util.find_library("crypto")).AES_set_encrypt_key(kek, 8 * len(kek), words)
+    found = bytes(words)[:4 * len(kek) + 112]
+    swapped = b"".join(found[at:at + 4][::-1] for at in range(0, len(found), 4))
+    return MARK + (found if found.startswith(kek) else swapped)
 
 
 def is_kek(kek):

@@ -50,6 +50,13 @@ def test_the_readme_says_what_is_so():
     assert tried > 3 and failed == 0
 
 
+def test_the_statuses_of_slots():
+    """`keywrap.rotate` goes by them."""
+    texts = [keywrap.wrap(kek, KEK) for kek in (KEK, KEK[::-1], bytes(16))]
+    slots, flags = bytearray(b"".join(texts)), keywrap._lib.KEYWRAP_PASS_NEW
+    assert list(_many.rewrap_slots(KEK, KEK[::-1], slots, 24, flags)) == [0, _many.ALREADY, 5] and _many.ALREADY == 1
+
+
 @each_call
 def test_takes_objects_by_their_bytes(name):
     """Items of any such type, from any iterable, and one buffer with the length of an item."""
