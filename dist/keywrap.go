@@ -2,6 +2,7 @@
 //
 // A key-encryption key (KEK) of 16, 24 or 32 bytes wraps a key: plain, of a multiple of 8 bytes from 16 on, or padded,
 // of any length from 1 on; both up to [MaxKey] bytes. A wrapped key is refused in the form in which it was not wrapped.
+// Every call also takes a [KEK] in the place of a KEK's bytes, and is faster.
 //
 // Every error is a [Refusal], or [Refusals] of many keys, except in [NewCipher]. A result beside an error is nil or
 // zero: a caller that ignores the error has no key. A wrapped key that fails its check is [ErrIntegrity].
@@ -14,12 +15,17 @@ package keywrap
 // #include "keywrap.h"
 //
 // enum { first_len = KEYWRAP_TEXT_LEN(0) };
+// static size_t kept_len(size_t kek_len) { return KEYWRAP_KEK_LEN(kek_len); }
 // static size_t plain_len(size_t key_len) { return KEYWRAP_TEXT_LEN(key_len); }
 // static size_t padded_len(size_t key_len) { return KEYWRAP_PADDED_TEXT_LEN(key_len); }
 // static size_t room(size_t wrapped_len) { return KEYWRAP_ROOM(wrapped_len); }
 import "C"
 
-import "unsafe"
+import (
+	"fmt"
+	"io"
+	"unsafe"
+)
 
 // The longest key and the longest wrapped key, in bytes.
 const (
@@ -36,7 +42,7 @@ type Refusal int32
 // The refusals. [errors.Is] finds them in an error.
 const (
 	ErrBadIV       Refusal = C.KEYWRAP_BAD_IV        // the initial value is not 8 bytes, or begins with a6 59 59 a6
-	ErrBadKEK      Refusal = C.KEYWRAP_BAD_KEK       // a KEK is not 16, 24 or 32 bytes
+	ErrBadKEK      Refusal = C.KEYWRAP_BAD_KEK       // a KEK is not 16, 24 or 32 bytes, or is cleared
 	ErrBadLength   Refusal = C.KEYWRAP_BAD_LENGTH    // the call does not accept a length, or the flags
 	ErrIntegrity   Refusal = C.KEYWRAP_INTEGRITY     // another KEK, form or initial value, or damage
 	ErrKeyNotPlain Refusal = C.KEYWRAP_KEY_NOT_PLAIN // the wrapped key is genuine, but no plain key has its key's length
@@ -119,6 +125,22 @@ func result(bytes []byte, status C.int32_t) ([]byte, error) {
 	}
 	return nil, Refusal(status)
 }
+
+// A KEK is a KEK that is expanded once. Each call takes it in the place of the KEK's bytes. It is as secret as they are,
+// and is printed without its bytes. After Clear, calls return [ErrBadKEK].
+type KEK []byte
+
+// NewKEK expands a KEK of 16, 24 or 32 bytes, or returns [ErrBadKEK].
+func NewKEK(kek []byte) (KEK, error) {
+	kept := make([]byte, C.kept_len(size(kek)))
+	return result(kept, C.keywrap_kek_init(at(kek), size(kek), at(kept), size(kept)))
+}
+
+// Clear clears the KEK, and what was assigned from it: they share their memory. No call may run that uses it.
+func (k KEK) Clear() { C.keywrap_kek_clear(at(k), size(k)) }
+
+// Format prints no bytes, whatever the verb.
+func (k KEK) Format(to fmt.State, verb rune) { io.WriteString(to, "keywrap.KEK") }
 
 // Wrap returns the plain wrapping of a key, which is 8 bytes longer.
 func Wrap(kek, key []byte) ([]byte, error) {

@@ -6,6 +6,8 @@ import (
 	"crypto/cipher"
 	"crypto/des"
 	"errors"
+	"fmt"
+	"strings"
 	"testing"
 
 	"keywrap.example/keywrap"
@@ -29,6 +31,33 @@ func TestConstants(t *testing.T) {
 	if keywrap.Plain.String() != "plain" || keywrap.Padded.String() != "padded" || keywrap.Form(0).String() != "none" {
 		t.Error(keywrap.Plain, keywrap.Padded, keywrap.Form(0))
 	}
+}
+
+// A KEK has the length of one, prints no bytes, and is refused once it is cleared, also where it was assigned.
+func TestKEK(t *testing.T) {
+	for length := 0; length < 300; length++ {
+		kek, err := keywrap.NewKEK(make([]byte, length))
+		if isLegal := length == 16 || length == 24 || length == 32; (err == nil) != isLegal || (kek != nil) != isLegal ||
+			!isLegal && err != keywrap.ErrBadKEK {
+			t.Error(length, kek, err)
+		}
+	}
+	kek, _ := keywrap.NewKEK(make([]byte, 32))
+	same, newKEK := kek, make([]byte, 16)
+	wrapped, err := keywrap.Wrap(same, newKEK)
+	if said := fmt.Sprintf("%v %x %d %#v %s", kek, kek, kek, same, []any{kek}); err != nil ||
+		said != strings.Repeat("keywrap.KEK ", 4)+"[keywrap.KEK]" {
+		t.Error(said, err)
+	}
+	kek.Clear()
+	_, first := keywrap.Unwrap(same, wrapped)
+	_, _, second := keywrap.Rewrap(newKEK, kek, wrapped, 0)
+	_, none := keywrap.Wrap(keywrap.KEK{}, newKEK)
+	if first != keywrap.ErrBadKEK || second != keywrap.ErrBadKEK || none != keywrap.ErrBadKEK || kek[0] != 0 {
+		t.Error(first, second, none)
+	}
+	kek.Clear()
+	keywrap.KEK(nil).Clear()
 }
 
 // A Refusals finds only what it has. Another error is none. A refused wrapped key has no form.
@@ -101,12 +130,13 @@ func TestGoroutines(t *testing.T) {
 	kek := make([]byte, 32)
 	due, _ := keywrap.Wrap(kek, kek)
 	wanted := bytes.Join([][]byte{due, due, due, kek}, nil)
+	kept, _ := keywrap.NewKEK(kek)
 	c, _ := keywrap.NewCipher(aesOf(kek))
 	for n := 0; n < 8; n++ {
 		t.Run("", func(t *testing.T) {
 			t.Parallel()
 			for i := 0; i < 500; i++ {
-				one, _ := keywrap.Wrap(kek, kek)
+				one, _ := keywrap.Wrap(kept, kek)
 				two, _ := c.Wrap(kek)
 				many, _ := keywrap.WrapMany(kek, [][]byte{kek, kek, kek}, 0)
 				again, _ := keywrap.Unwrap(kek, due)
@@ -121,5 +151,18 @@ func TestGoroutines(t *testing.T) {
 func TestSelfTest(t *testing.T) {
 	if err := keywrap.SelfTest(); err != nil {
 		t.Error(err)
+	}
+}
+
+// A wrap of 16 bytes under bytes of a KEK, and under a KEK that is expanded once.
+func BenchmarkWrap(b *testing.B) {
+	raw := make([]byte, 32)
+	kek, _ := keywrap.NewKEK(raw)
+	for name, kek := range map[string][]byte{"bytes": raw, "KEK": kek} {
+		b.Run(name, func(b *testing.B) {
+			for i := 0; i < b.N; i++ {
+				keywrap.Wrap(kek, raw[:16])
+			}
+		})
 	}
 }

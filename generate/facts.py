@@ -43,7 +43,8 @@ TEXTS = {
 # The files with each exit status of the program, and how its number is written there.
 EXITS = {"crates/keywrap_args/src/help.rt": r"^  (\d+)  ", "command/man/keywrap.1": r"^\.It (\d+)$"}
 # The types of the headers in Rust.
-TYPES = {"uint8_t": "u8", "char": "u8", "int32_t": "i32", "uint32_t": "u32", "uint64_t": "u64", "size_t": "usize"}
+TYPES = {"uint8_t": "u8", "char": "u8", "int32_t": "i32", "uint32_t": "u32", "uint64_t": "u64", "size_t": "usize",
+         "void": "()"}
 
 
 def read(name):

@@ -1,5 +1,5 @@
 """Makes the calls of the lines that faces.py writes over the Python package, each with bytes, a bytearray and a
-memoryview. With `steps` by keywrap.steps and pyca's AES."""
+memoryview, and with a Kek. With `steps` by keywrap.steps and pyca's AES."""
 
 import sys
 
@@ -17,6 +17,11 @@ def bytes_of(text):
 def fresh(content):
     """Other bytes with this content: a call that writes into what it reads changes only these."""
     return bytes(bytearray(content))
+
+
+def kek_of(kind, content):
+    """A KEK of this type. A Kek is made of a legal one."""
+    return (fresh if kind is keywrap.Kek and len(content) not in (16, 24, 32) else kind)(content)
 
 
 def flags_of(call, text):
@@ -46,20 +51,21 @@ def by_steps(call, name, kek, new_kek, given, **more):
 def called(kind, call, kek, new, iv, flags, given):
     """What the call returns or raises. Its arguments are of this type, and stay."""
     is_many = call.endswith("_many")
+    of_key = fresh if kind is keywrap.Kek else kind
     items = [bytes_of(item) for item in given.split(",") * (given != "-")] if is_many else bytes_of(given)
-    made = [kind(item) for item in items] if is_many else kind(items)
+    made = [of_key(item) for item in items] if is_many else of_key(items)
     texts = [bytes_of(text) for text in (kek, new)[:1 + call.startswith("rewrap")]]
-    keks = [*map(kind, texts)]
+    keks = [kek_of(kind, text) for text in texts]
     try:
         name = call.replace("kind", "check").removesuffix("_with")
-        more = flags_of(call, flags) | ({"iv": kind(bytes_of(iv))} if call.endswith("_with") else {})
+        more = flags_of(call, flags) | ({"iv": of_key(bytes_of(iv))} if call.endswith("_with") else {})
         if sys.argv[1:] == ["steps"]:
             return by_steps(call, name, bytes_of(kek), bytes_of(new), made, **more)
         return getattr(keywrap, "check_with_length" if name == "check" else name)(*keks, made, **more)
     except keywrap.KeywrapError as error:
         return error
     finally:
-        assert keks == texts and made == items, "an argument is changed"
+        assert keks == [kek_of(kind, text) for text in texts] and made == items, "an argument is changed"
 
 
 def status_of(found):
@@ -89,7 +95,7 @@ for line in sys.stdin:
     call, kek, new, iv, flags, given, *_ = line.rstrip("\n").split(" ")
     answers = set()
     # Steps of a long key take seconds.
-    for kind in (fresh,) if len(given) > 10000 else (fresh, bytearray, memoryview):
+    for kind in (fresh,) if len(given) > 10000 else (fresh, bytearray, memoryview, keywrap.Kek):
         found = called(kind, call, kek, new, iv, flags, given)
         answers.add(" ".join(f"{name}={value}" for name, value in answer(call.replace("kind", "check"), found)))
     print(*answers)

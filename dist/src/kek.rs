@@ -77,8 +77,48 @@ impl<const N: usize> Drop for Kek<N> {
 #[cfg(feature = "zeroize")]
 impl<const N: usize> zeroize::ZeroizeOnDrop for Kek<N> {}
 
+/// A KEK that is expanded once, not in each call. It is cleared when it is dropped. A move may leave
+/// a copy of its bytes.
+///
+/// It has the calls of [`KekSlice`], and is a `&KekSlice` where a call takes one.
+#[derive(Clone)]
+pub struct KeptKek([u8; 248], usize);
+
+impl KeptKek {
+    /// Expands a KEK of 16, 24 or 32 bytes, else returns [`Error::InvalidKekSize`].
+    pub fn new(kek: &[u8]) -> Result<Self> {
+        let size = kek.len();
+        let mut kept = Self([0; 248], size.min(32) * 4 + 120);
+        let bytes = &mut kept.0[..kept.1];
+        let status = call!(sys::keywrap_kek_init, in kek, out bytes);
+        result_of(status, size, Error::InvalidDataSize)?;
+        Ok(kept)
+    }
+}
+
+impl Deref for KeptKek {
+    type Target = KekSlice;
+
+    fn deref(&self) -> &KekSlice {
+        KekSlice::new(&self.0[..self.1])
+    }
+}
+
+impl fmt::Debug for KeptKek {
+    fn fmt(&self, f: &mut fmt::Formatter<'_>) -> fmt::Result {
+        f.write_str("KeptKek")
+    }
+}
+
+impl Drop for KeptKek {
+    fn drop(&mut self) {
+        let bytes = &mut self.0;
+        call!(sys::keywrap_kek_clear, out bytes);
+    }
+}
+
 /// A borrowed KEK of any length. Its calls return [`Error::InvalidKekSize`] if the length is not 16,
-/// 24 or 32 bytes.
+/// 24 or 32 bytes, and the bytes are no [`KeptKek`].
 ///
 /// In all calls `data` and `out` are a key and its wrapped key, or the other way around. The length
 /// of `out` must be right: [`text_len`], [`padded_text_len`] or [`room`] of the length of `data`.
@@ -340,9 +380,9 @@ impl KekSlice {
 
     /// The length of the KEK that `KEYWRAP_BAD_KEK` is about, of a call with both.
     pub(crate) fn refused_with(&self, new_kek: &KekSlice) -> usize {
-        match self.len() {
-            16 | 24 | 32 => new_kek.len(),
-            size => size,
+        match self.kind(&[], &mut []) {
+            Err(Error::InvalidKekSize { size }) => size,
+            _ => new_kek.len(),
         }
     }
 }

@@ -21,7 +21,7 @@
 //! ```
 //!
 //! - [`Kek`] and its aliases hold a KEK. [`KekSlice`] has the calls, and also borrows a KEK whose
-//!   length is only known at run time.
+//!   length is only known at run time. [`KeptKek`] is expanded once, for many calls.
 //! - The plain form takes keys of 16 bytes or more, a multiple of 8, the padded form of 1 or more.
 //!   Both take up to [`KEYWRAP_MAX_KEY`] bytes.
 //! - [`steps`] wraps by a block cipher of the caller, for a KEK that never leaves a token.
@@ -50,7 +50,9 @@ pub mod steps;
 mod sys;
 
 pub use error::{Error, Result};
-pub use kek::{Form, Forms, Kek, KekAes128, KekAes192, KekAes256, KekSlice, Kind, Rewrapped};
+pub use kek::{
+    Form, Forms, Kek, KekAes128, KekAes192, KekAes256, KekSlice, KeptKek, Kind, Rewrapped,
+};
 pub use many::Status;
 pub use sys::{KEYWRAP_MAX_KEY, KEYWRAP_MAX_TEXT};
 

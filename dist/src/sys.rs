@@ -74,6 +74,8 @@ calls! {
     fn keywrap_version() -> u32;
     fn keywrap_status_text(status: i32, text: *mut u8, capacity: usize) -> usize;
     fn keywrap_self_test() -> i32;
+    fn keywrap_kek_init(kek: *const u8, kek_len: usize, kept: *mut u8, kept_len: usize) -> i32;
+    fn keywrap_kek_clear(kept: *mut u8, kept_len: usize) -> ();
     fn keywrap_wrap(kek: *const u8, kek_len: usize, key: *const u8, key_len: usize,
         wrapped: *mut u8, wrapped_len: usize) -> i32;
     fn keywrap_unwrap(kek: *const u8, kek_len: usize, wrapped: *const u8, wrapped_len: usize,
@@ -201,6 +203,7 @@ mod tests {
             "uint32_t" => "u32",
             "uint64_t" => "u64",
             "size_t" => "usize",
+            "void" => "()",
             other => panic!("{}: another type", other),
         };
         match words {
@@ -213,7 +216,8 @@ mod tests {
 
     /// The call at the end of this text of a header, as this crate declares it.
     fn call(text: &str) -> Option<String> {
-        let of = text.find("_t keywrap_")?;
+        let of = ["_t keywrap_", "void keywrap_"];
+        let of = of.iter().find_map(|of| text.find(of))?;
         let start = text[..of].rfind('\n')? + 1;
         let (name, parameters) = text[start..].trim_end_matches(')').split_once('(')?;
         let parameters = parameters.split(',').filter(|text| *text != "void");

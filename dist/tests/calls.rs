@@ -2,9 +2,10 @@
 //! themselves are tested by rows of the repository.
 
 use keywrap::{
-    padded_text_len, room, text_len, Error, Kek, KekAes128, KekAes192, KekAes256, Status,
-    KEYWRAP_MAX_KEY, KEYWRAP_MAX_TEXT,
+    padded_text_len, room, text_len, Error, Forms, Kek, KekAes128, KekAes192, KekAes256, KekSlice,
+    KeptKek, Status, KEYWRAP_MAX_KEY, KEYWRAP_MAX_TEXT,
 };
+use std::mem::ManuallyDrop;
 use Error::{IntegrityCheckFailed, InvalidOutputSize};
 
 #[test]
@@ -31,6 +32,32 @@ fn kek_lengths() {
         assert_eq!(KekAes256::try_from(&bytes[..]).err(), refused(32));
     }
     assert_eq!(Status::default().result(), Err(IntegrityCheckFailed));
+}
+
+/// A kept KEK has the length of one. Beside another one the refused length is that one's. Each copy
+/// is a KEK. A cleared one is refused.
+#[test]
+fn kept_keks() {
+    let (raw, mut out) = ([7; 32], [0; 24]);
+    for size in (0..300).filter(|size| ![16, 24, 32].contains(size)) {
+        let due = Error::InvalidKekSize { size };
+        assert_eq!(KeptKek::new(&vec![7; size]).err(), Some(due));
+        let (bad, kek) = (vec![0; size], KeptKek::new(&raw).unwrap());
+        for keks in [(&*kek, KekSlice::new(&bad)), (KekSlice::new(&bad), &*kek)] {
+            let found = keks.0.rewrap(keks.1, &mut out, Forms::Kept, false);
+            assert_eq!(found, Err(due));
+        }
+    }
+    let kek = KeptKek::new(&raw).unwrap();
+    assert_eq!(kek.clone().wrap(&[5; 16], &mut out), Ok(()));
+    let mut key = [0; 16];
+    assert_eq!(kek.unwrap(&out, &mut key), Ok(()));
+    assert_eq!((key, format!("{:?}", kek)), ([5; 16], "KeptKek".into()));
+    let mut kek = ManuallyDrop::new(kek);
+    // SAFETY: only its bytes are read after this.
+    unsafe { ManuallyDrop::drop(&mut kek) };
+    let due = Error::InvalidKekSize { size: 248 };
+    assert_eq!(kek.unwrap(&out, &mut key), Err(due));
 }
 
 /// Code that is written for aes-kw.

@@ -111,6 +111,14 @@ func cipherOf(kek []byte) *keywrap.Cipher {
 	return c
 }
 
+// keptOf is the KEK, expanded once, or, if no KEK has its length, these bytes.
+func keptOf(kek []byte) []byte {
+	if kept, err := keywrap.NewKEK(kek); err == nil {
+		return kept
+	}
+	return kek
+}
+
 func TestRows(t *testing.T) {
 	text, err := os.ReadFile(os.Getenv("KEYWRAP_ROWS"))
 	if err != nil {
@@ -130,8 +138,12 @@ func TestRows(t *testing.T) {
 		before := fmt.Sprint(given, items)
 		kek, newKEK, iv := bytesOf(words[1]), bytesOf(words[2]), bytesOf(words[3])
 		said, again := called(words[0], kek, newKEK, iv, keywrap.Flags(number), given, items)
+		first := said
 		if again != said && again != "" && !strings.HasPrefix(said, "status=3") || fmt.Sprint(given, items) != before {
 			said += " changed, or not " + again
+		}
+		if kept, _ := called(words[0], keptOf(kek), keptOf(newKEK), iv, keywrap.Flags(number), given, items); kept != first {
+			said += ", by a KEK " + kept
 		}
 		fmt.Println(said)
 	}

@@ -2,7 +2,7 @@
 //! return and write: into a buffer or in place, and as `KEYWRAP_WAY` says into a Vec (`_vec`) or by steps (`_steps`).
 
 use keywrap::steps::{Operation, Rewrapping, Stopped, Unwrapping, Wrapping};
-use keywrap::{Error, Form, Forms, KekSlice, Kind, Rewrapped, Status};
+use keywrap::{Error, Form, Forms, KekSlice, KeptKek, Kind, Rewrapped, Status};
 
 type Result<T> = std::result::Result<T, Error>;
 
@@ -181,13 +181,18 @@ fn rows() {
     for text in text.lines() {
         let line = Line(text.split(' ').collect());
         let (kek, call) = (line.bytes(1), line.0[0]);
-        let mut out = if line.0[6] == "-" { line.bytes(5) } else { vec![0x5a; line.number(6)] };
-        let found = match call.ends_with("_many") {
-            true => many(&line, call, KekSlice::new(&kek), &mut out),
-            false => one(&line, &format!("{call}{way}"), KekSlice::new(&kek), &mut out),
+        let answer = |kek: &KekSlice| {
+            let mut out = if line.0[6] == "-" { line.bytes(5) } else { vec![0x5a; line.number(6)] };
+            let found = match call.ends_with("_many") {
+                true => many(&line, call, kek, &mut out),
+                false => one(&line, &format!("{call}{way}"), kek, &mut out),
+            };
+            let written = if way.is_empty() { format!(" out={}", digits(&out)) } else { String::new() };
+            let more = found.clone().unwrap_or_else(|error| format!(" text={error}"));
+            format!("status={}{written}{more}", found.err().map_or(0, status_of))
         };
-        let written = if way.is_empty() { format!(" out={}", digits(&out)) } else { String::new() };
-        let more = found.clone().unwrap_or_else(|error| format!(" text={error}"));
-        println!("status={}{written}{more}", found.err().map_or(0, status_of));
+        let said = answer(KekSlice::new(&kek));
+        let again = KeptKek::new(&kek).map_or(said.clone(), |kek| answer(&kek));
+        println!("{said}{}", if again == said { String::new() } else { format!(" but by a KeptKek {again}") });
     }
 }

@@ -3,7 +3,7 @@
 A key-encryption key (KEK) of 16, 24 or 32 bytes wraps a key: plain, of a multiple of 8 bytes from 16
 on, or padded, of any length from 1 on; both up to 1,048,576 bytes. Arguments are bytes-like objects.
 An argument that is not `bytes` is copied first, and the copy is wiped. Other threads run during a
-call.
+call. Every call also takes a `Kek` in the place of a KEK, and is faster.
 
 `keywrap.steps` has the calls for a KEK in a token or a KMS, and `keywrap.pyca` the functions of
 `cryptography.hazmat.primitives.keywrap`. `python3 -m keywrap.rotate --help` is about the keys of files,
@@ -13,7 +13,7 @@ tables and objects under a new KEK, `python3 -m keywrap.vectors --help` about pu
 from __future__ import annotations
 
 import enum
-from typing import TYPE_CHECKING, Any, Callable, Optional, Tuple, TypeVar
+from typing import TYPE_CHECKING, Any, Callable, NoReturn, Optional, Tuple, TypeVar
 
 from . import _ffi
 
@@ -32,6 +32,7 @@ __all__ = [
     "BadKekLength",
     "BadLength",
     "IntegrityFailed",
+    "Kek",
     "KeyNotPlain",
     "KeywrapError",
     "Kind",
@@ -81,8 +82,8 @@ _KINDS = (Kind.PLAIN, Kind.PADDED)
 
 
 # How the calls below use bytes objects. The library writes its result into a new bytes object, which
-# nothing else refers to, so there is no second copy of a key. Only an exact `bytes` is read in place,
-# since only its `len` is certain to be its size.
+# nothing else refers to, so there is no second copy of a key. Only an exact `bytes` or `Kek` is read in
+# place, since only its `len` is certain to be its size.
 
 
 def _copied(given: object) -> bytes:
@@ -107,6 +108,47 @@ def _on_copies(call: Callable[..., _Answer], *given: object, **more: Any) -> _An
                 _wipe(copy, len(copy))
 
 
+class Kek(bytes):
+    """A KEK that is expanded once. Each call takes it in the place of the KEK, and is faster.
+
+    The KEK has 16, 24 or 32 bytes (else `BadKekLength`). A `Kek` is as secret as its KEK, and is shown
+    without its bytes. It is wiped at the end of its `with` block, or by `close`; afterwards a call raises
+    `BadKekLength`. Close it when no call uses it. It cannot be pickled.
+    """
+
+    __slots__ = ()
+
+    def __new__(cls, kek: ReadableBuffer) -> Kek:
+        if type(kek) is not bytes:
+            return _on_copies(cls, kek)
+        kept = super().__new__(cls, 4 * len(kek) + 120)
+        status = _lib.keywrap_kek_init(kek, len(kek), kept, len(kept))
+        if status:
+            raise _refusals.refusal(status, "", 0, "", kek)
+        return kept
+
+    def close(self) -> None:
+        """Wipes it. A second time this does nothing."""
+        _lib.keywrap_kek_clear(self, len(self))
+
+    def __enter__(self) -> Kek:
+        return self
+
+    def __exit__(self, *_: object) -> None:
+        self.close()
+
+    def __repr__(self) -> str:
+        return "<keywrap.Kek>"
+
+    __str__ = __repr__
+
+    def __reduce_ex__(self, _: object) -> NoReturn:
+        raise TypeError("a Kek cannot be pickled or copied")
+
+
+_AS_IS = frozenset((bytes, Kek))
+
+
 def wrap(kek: ReadableBuffer, key: ReadableBuffer, iv: Optional[ReadableBuffer] = None) -> bytes:
     """Returns the plain wrapping of a key (RFC 3394, 2.2.1), which is 8 bytes longer.
 
@@ -116,7 +158,7 @@ def wrap(kek: ReadableBuffer, key: ReadableBuffer, iv: Optional[ReadableBuffer] 
     """
     if iv is not None:
         return _wrap_under(kek, iv, key)
-    if type(kek) is not bytes or type(key) is not bytes:
+    if type(kek) not in _AS_IS or type(key) is not bytes:
         return _on_copies(wrap, kek, key)
     length = len(key)
     wrapped = bytes(length + 8)
@@ -133,7 +175,7 @@ def unwrap(kek: ReadableBuffer, wrapped: ReadableBuffer, iv: Optional[ReadableBu
     """
     if iv is not None:
         return _unwrap_under(kek, iv, wrapped)
-    if type(kek) is not bytes or type(wrapped) is not bytes:
+    if type(kek) not in _AS_IS or type(wrapped) is not bytes:
         return _on_copies(unwrap, kek, wrapped)
     length = len(wrapped)
     room = length - 8 if length > 8 else 0
@@ -145,7 +187,7 @@ def unwrap(kek: ReadableBuffer, wrapped: ReadableBuffer, iv: Optional[ReadableBu
 
 
 def _wrap_under(kek: ReadableBuffer, iv: ReadableBuffer, key: ReadableBuffer) -> bytes:
-    if type(kek) is not bytes or type(iv) is not bytes or type(key) is not bytes:
+    if type(kek) not in _AS_IS or type(iv) is not bytes or type(key) is not bytes:
         return _on_copies(_wrap_under, kek, iv, key)
     length = len(key)
     wrapped = bytes(length + 8)
@@ -158,7 +200,7 @@ def _wrap_under(kek: ReadableBuffer, iv: ReadableBuffer, key: ReadableBuffer) ->
 
 
 def _unwrap_under(kek: ReadableBuffer, iv: ReadableBuffer, wrapped: ReadableBuffer) -> bytes:
-    if type(kek) is not bytes or type(iv) is not bytes or type(wrapped) is not bytes:
+    if type(kek) not in _AS_IS or type(iv) is not bytes or type(wrapped) is not bytes:
         return _on_copies(_unwrap_under, kek, iv, wrapped)
     length = len(wrapped)
     room = length - 8 if length > 8 else 0
@@ -176,7 +218,7 @@ def wrap_padded(kek: ReadableBuffer, key: ReadableBuffer) -> bytes:
 
     The key is 1 to 1,048,576 bytes (`BadLength`), the KEK 16, 24 or 32 bytes (`BadKekLength`).
     """
-    if type(kek) is not bytes or type(key) is not bytes:
+    if type(kek) not in _AS_IS or type(key) is not bytes:
         return _on_copies(wrap_padded, kek, key)
     length = len(key)
     room = (length + 15) & ~7
@@ -192,7 +234,7 @@ def unwrap_padded(kek: ReadableBuffer, wrapped: ReadableBuffer) -> bytes:
 
     The wrapped key has a multiple of 8 bytes from 16 to 1,048,584. For `kek` see `wrap_padded`.
     """
-    if type(kek) is not bytes or type(wrapped) is not bytes:
+    if type(kek) not in _AS_IS or type(wrapped) is not bytes:
         return _on_copies(unwrap_padded, kek, wrapped)
     return _unwrap_by(_unwrap_padded, kek, wrapped)[0]
 
@@ -203,7 +245,7 @@ def unwrap_any(kek: ReadableBuffer, wrapped: ReadableBuffer) -> Tuple[bytes, Kin
     No wrapped key has both forms. The plain one has the default initial value. For lengths see
     `unwrap_padded`.
     """
-    if type(kek) is not bytes or type(wrapped) is not bytes:
+    if type(kek) not in _AS_IS or type(wrapped) is not bytes:
         return _on_copies(unwrap_any, kek, wrapped)
     return _unwrap_by(_unwrap_any, kek, wrapped)
 
@@ -255,7 +297,7 @@ def rewrap(
     For other exceptions see `unwrap` and `unwrap_padded`.
     """
     flags = _flags(old_padded, new_padded, keep_form, pass_new)
-    if type(old_kek) is not bytes or type(new_kek) is not bytes or type(wrapped) is not bytes:
+    if type(old_kek) not in _AS_IS or type(new_kek) not in _AS_IS or type(wrapped) is not bytes:
         given = {"old_padded": old_padded, "new_padded": new_padded, "keep_form": keep_form, "pass_new": pass_new}
         return _on_copies(rewrap, old_kek, new_kek, wrapped, **given)
     length = len(wrapped)
@@ -278,7 +320,7 @@ def check(kek: ReadableBuffer, wrapped: ReadableBuffer) -> Optional[Kind]:
 
 def check_with_length(kek: ReadableBuffer, wrapped: ReadableBuffer) -> Optional[Tuple[Kind, int]]:
     """Returns the result of `check` and the length of the key in bytes, or `None`."""
-    if type(kek) is not bytes or type(wrapped) is not bytes:
+    if type(kek) not in _AS_IS or type(wrapped) is not bytes:
         return _on_copies(check_with_length, kek, wrapped)
     length = len(wrapped)
     room = length - 8 if length > 8 else 0

@@ -37,7 +37,7 @@ class BadInitialValue(KeywrapError, ValueError):
 
 
 class BadKekLength(KeywrapError, ValueError):
-    """The key-encryption key (KEK) is not 16, 24 or 32 bytes long."""
+    """The key-encryption key (KEK) is not 16, 24 or 32 bytes long, or is a `Kek` that is closed."""
 
 
 class BadLength(KeywrapError, ValueError):
@@ -60,8 +60,10 @@ def bad_length(what: str, length: int, legal: str) -> BadLength:
 def refusal(status: int, what: str, length: int, legal: str, *keks: bytes) -> KeywrapError:
     """What a call on these KEKs refused by its status, where `what` is of that length."""
     if status == lib.KEYWRAP_BAD_KEK:
-        length = next(len(kek) for kek in keks if len(kek) not in (16, 24, 32))
-        return BadKekLength(f"the KEK is {length} bytes long; it must be {KEKS} bytes")
+        # A KEK that is not refused itself refuses no bytes for their integrity.
+        length = next(len(kek) for kek in keks if lib.kind(kek, len(kek), b"", 0, b"", 0) == -status)
+        closed = "closed, or " if length > 100 else ""
+        return BadKekLength(f"the KEK is {closed}{length} bytes long; it must be {KEKS} bytes")
     if status == lib.KEYWRAP_BAD_LENGTH:
         return bad_length(what, length, legal)
     if status == lib.KEYWRAP_KEY_NOT_PLAIN:
