@@ -24,6 +24,9 @@ def calls(length):
     yield "C call", lambda: _ffi.lib.keywrap_wrap(kek, 32, key, length, answer, length + 8)
     yield "refused C call", lambda: _ffi.lib.keywrap_wrap(kek, 0, key, length, answer, length + 8)
     yield "unwrap", lambda: keywrap.unwrap(kek, wrapped)
+    kept = keywrap.Kek(kek)
+    yield "wrap with a Kek", lambda: keywrap.wrap(kept, key)
+    yield "unwrap with a Kek", lambda: keywrap.unwrap(kept, wrapped)
     try:
         from cryptography.hazmat.primitives import keywrap as theirs
     except ImportError:

@@ -2,12 +2,14 @@
 take, and wiping. tests/rows.txt has the calls, and tests/faces.py their messages."""
 
 import gc
+import copy
 import pathlib
+import pickle
 import types
 
 import pytest
 
-import keywrap
+import keywrap.pyca
 from keywrap import Kind, _many
 from test_objects import Liar
 
