@@ -146,9 +146,6 @@ class Kek(bytes):
         raise TypeError("a Kek cannot be pickled or copied")
 
 
-_AS_IS = frozenset((bytes, Kek))
-
-
 def wrap(kek: ReadableBuffer, key: ReadableBuffer, iv: Optional[ReadableBuffer] = None) -> bytes:
     """Returns the plain wrapping of a key (RFC 3394, 2.2.1), which is 8 bytes longer.
 
@@ -158,7 +155,7 @@ def wrap(kek: ReadableBuffer, key: ReadableBuffer, iv: Optional[ReadableBuffer] 
     """
     if iv is not None:
         return _wrap_under(kek, iv, key)
-    if type(kek) not in _AS_IS or type(key) is not bytes:
+    if (type(kek) is not bytes and type(kek) is not Kek) or type(key) is not bytes:
         return _on_copies(wrap, kek, key)
     length = len(key)
     wrapped = bytes(length + 8)
@@ -175,7 +172,7 @@ def unwrap(kek: ReadableBuffer, wrapped: ReadableBuffer, iv: Optional[ReadableBu
     """
     if iv is not None:
         return _unwrap_under(kek, iv, wrapped)
-    if type(kek) not in _AS_IS or type(wrapped) is not bytes:
+    if (type(kek) is not bytes and type(kek) is not Kek) or type(wrapped) is not bytes:
         return _on_copies(unwrap, kek, wrapped)
     length = len(wrapped)
     room = length - 8 if length > 8 else 0
@@ -187,7 +184,7 @@ def unwrap(kek: ReadableBuffer, wrapped: ReadableBuffer, iv: Optional[ReadableBu
 
 
 def _wrap_under(kek: ReadableBuffer, iv: ReadableBuffer, key: ReadableBuffer) -> bytes:
-    if type(kek) not in _AS_IS or type(iv) is not bytes or type(key) is not bytes:
+    if (type(kek) is not bytes and type(kek) is not Kek) or type(iv) is not bytes or type(key) is not bytes:
         return _on_copies(_wrap_under, kek, iv, key)
     length = len(key)
     wrapped = bytes(length + 8)
@@ -200,7 +197,7 @@ def _wrap_under(kek: ReadableBuffer, iv: ReadableBuffer, key: ReadableBuffer) ->
 
 
 def _unwrap_under(kek: ReadableBuffer, iv: ReadableBuffer, wrapped: ReadableBuffer) -> bytes:
-    if type(kek) not in _AS_IS or type(iv) is not bytes or type(wrapped) is not bytes:
+    if (type(kek) is not bytes and type(kek) is not Kek) or type(iv) is not bytes or type(wrapped) is not bytes:
         return _on_copies(_unwrap_under, kek, iv, wrapped)
     length = len(wrapped)
     room = length - 8 if length > 8 else 0
@@ -218,7 +215,7 @@ def wrap_padded(kek: ReadableBuffer, key: ReadableBuffer) -> bytes:
 
     The key is 1 to 1,048,576 bytes (`BadLength`), the KEK 16, 24 or 32 bytes (`BadKekLength`).
     """
-    if type(kek) not in _AS_IS or type(key) is not bytes:
+    if (type(kek) is not bytes and type(kek) is not Kek) or type(key) is not bytes:
         return _on_copies(wrap_padded, kek, key)
     length = len(key)
     room = (length + 15) & ~7
@@ -234,7 +231,7 @@ def unwrap_padded(kek: ReadableBuffer, wrapped: ReadableBuffer) -> bytes:
 
     The wrapped key has a multiple of 8 bytes from 16 to 1,048,584. For `kek` see `wrap_padded`.
     """
-    if type(kek) not in _AS_IS or type(wrapped) is not bytes:
+    if (type(kek) is not bytes and type(kek) is not Kek) or type(wrapped) is not bytes:
         return _on_copies(unwrap_padded, kek, wrapped)
     return _unwrap_by(_unwrap_padded, kek, wrapped)[0]
 
@@ -245,7 +242,7 @@ def unwrap_any(kek: ReadableBuffer, wrapped: ReadableBuffer) -> Tuple[bytes, Kin
     No wrapped key has both forms. The plain one has the default initial value. For lengths see
     `unwrap_padded`.
     """
-    if type(kek) not in _AS_IS or type(wrapped) is not bytes:
+    if (type(kek) is not bytes and type(kek) is not Kek) or type(wrapped) is not bytes:
         return _on_copies(unwrap_any, kek, wrapped)
     return _unwrap_by(_unwrap_any, kek, wrapped)
 
@@ -297,7 +294,11 @@ def rewrap(
     For other exceptions see `unwrap` and `unwrap_padded`.
     """
     flags = _flags(old_padded, new_padded, keep_form, pass_new)
-    if type(old_kek) not in _AS_IS or type(new_kek) not in _AS_IS or type(wrapped) is not bytes:
+    if (
+        (type(old_kek) is not bytes and type(old_kek) is not Kek)
+        or (type(new_kek) is not bytes and type(new_kek) is not Kek)
+        or type(wrapped) is not bytes
+    ):
         given = {"old_padded": old_padded, "new_padded": new_padded, "keep_form": keep_form, "pass_new": pass_new}
         return _on_copies(rewrap, old_kek, new_kek, wrapped, **given)
     length = len(wrapped)
@@ -320,7 +321,7 @@ def check(kek: ReadableBuffer, wrapped: ReadableBuffer) -> Optional[Kind]:
 
 def check_with_length(kek: ReadableBuffer, wrapped: ReadableBuffer) -> Optional[Tuple[Kind, int]]:
     """Returns the result of `check` and the length of the key in bytes, or `None`."""
-    if type(kek) not in _AS_IS or type(wrapped) is not bytes:
+    if (type(kek) is not bytes and type(kek) is not Kek) or type(wrapped) is not bytes:
         return _on_copies(check_with_length, kek, wrapped)
     length = len(wrapped)
     room = length - 8 if length > 8 else 0
