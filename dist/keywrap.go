@@ -126,8 +126,8 @@ func result(bytes []byte, status C.int32_t) ([]byte, error) {
 	return nil, Refusal(status)
 }
 
-// A KEK is a KEK that is expanded once. Each call takes it in the place of the KEK's bytes. It is as secret as they are,
-// and is printed without its bytes. After Clear, calls return [ErrBadKEK].
+// A KEK is a KEK that is expanded once. Each call takes it in the place of the KEK's bytes. It is as secret as they
+// are, and is printed without its bytes. After Clear, calls return [ErrBadKEK].
 type KEK []byte
 
 // NewKEK expands a KEK of 16, 24 or 32 bytes, or returns [ErrBadKEK].
