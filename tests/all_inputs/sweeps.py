@@ -1,7 +1,7 @@
 """Leaves out each instruction that the short list runs, and flips each bit of the constants that it reads, one at a
 time. Prints each change. A person reads those that no call refuses: each needs a reason why it changes no result.
-Known reasons: the comparisons of a self test, whose results are right; what only the test of AES instructions uses, since
-the tables are used if it fails; a number that is written and not read; a length that only the long list has.
+Known reasons: the comparisons of a self test, whose results are right; a number that is written and not read; a length
+that only the long list has; if AES instructions fail their test, the tables are used.
 
 usage: sweeps.py OBJECT [ONE_OF [SEED [PROCESSES]]]        a random one of ONE_OF of the changes"""
 
