@@ -39,16 +39,16 @@ fn kek_lengths() {
 #[test]
 fn kept_keks() {
     let (raw, mut out) = ([7; 32], [0; 24]);
+    let kek = KeptKek::new(&raw).unwrap();
     for size in (0..300).filter(|size| ![16, 24, 32].contains(size)) {
-        let due = Error::InvalidKekSize { size };
-        assert_eq!(KeptKek::new(&vec![7; size]).err(), Some(due));
-        let (bad, kek) = (vec![0; size], KeptKek::new(&raw).unwrap());
-        for keks in [(&*kek, KekSlice::new(&bad)), (KekSlice::new(&bad), &*kek)] {
-            let found = keks.0.rewrap(keks.1, &mut out, Forms::Kept, false);
+        let (bytes, due) = (vec![0; size], Error::InvalidKekSize { size });
+        assert_eq!(KeptKek::new(&bytes).err(), Some(due));
+        let bad = KekSlice::new(&bytes);
+        for (old, new) in [(&*kek, bad), (bad, &*kek)] {
+            let found = old.rewrap(new, &mut out, Forms::Kept, false);
             assert_eq!(found, Err(due));
         }
     }
-    let kek = KeptKek::new(&raw).unwrap();
     assert_eq!(kek.clone().wrap(&[5; 16], &mut out), Ok(()));
     let mut key = [0; 16];
     assert_eq!(kek.unwrap(&out, &mut key), Ok(()));

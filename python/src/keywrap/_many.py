@@ -7,7 +7,7 @@ from __future__ import annotations
 
 from typing import TYPE_CHECKING, Iterable, List, NamedTuple, Optional, Tuple, Union
 
-from . import KeywrapError, Kind, _ffi, _flags, _on_copies, _refusals, check
+from . import Kek, KeywrapError, Kind, _ffi, _flags, _on_copies, _refusals, check
 from ._refusals import BadLength
 
 if TYPE_CHECKING:
@@ -94,7 +94,7 @@ def wrap_many(kek: ReadableBuffer, keys: Items, length: Optional[int] = None, *,
     The keys are in a list, or, with their `length` in bytes, behind each other in one buffer. Lengths that differ raise
     `BadLength`. For the other exceptions see these calls.
     """
-    if type(kek) is not bytes:
+    if type(kek) is not bytes and type(kek) is not Kek:
         return _on_copies(wrap_many, kek, keys=keys, length=length, padded=padded)
     slots = _slots(keys, length, "the key", 8, padded)
     size = 8 + slots.length + slots.offset
@@ -119,7 +119,7 @@ def unwrap_many(
     A wrapped key that fails the integrity check has `IntegrityFailed` in the place of the key; it is not raised. For
     everything else see `wrap_many`.
     """
-    if type(kek) is not bytes:
+    if type(kek) is not bytes and type(kek) is not Kek:
         return _on_copies(unwrap_many, kek, wrapped=wrapped, length=length, padded=padded)
     slots = _slots(wrapped, length, "the wrapped key")
     try:
@@ -179,7 +179,7 @@ def rewrap_slots(old_kek: bytes, new_kek: bytes, texts: bytearray, length: int, 
 
 def check_many(kek: ReadableBuffer, wrapped: Items, length: Optional[int] = None) -> List[Optional[Kind]]:
     """Checks wrapped keys of one length, and returns for each what `check` does. For the arguments see `wrap_many`."""
-    if type(kek) is not bytes:
+    if type(kek) is not bytes and type(kek) is not Kek:
         return _on_copies(check_many, kek, wrapped=wrapped, length=length)
     slots = _slots(wrapped, length, "the wrapped key")
     if not slots.length:
