@@ -19,11 +19,6 @@ def fresh(content):
     return bytes(bytearray(content))
 
 
-def kek_of(kind, content):
-    """A KEK of this type. A Kek is made of a legal one."""
-    return (fresh if kind is keywrap.Kek and len(content) not in (16, 24, 32) else kind)(content)
-
-
 def flags_of(call, text):
     bits = [text != "-" and int(text) >> bit & 1 > 0 for bit in range(4)]
     if call.startswith("rewrap"):
@@ -55,7 +50,7 @@ def called(kind, call, kek, new, iv, flags, given):
     items = [bytes_of(item) for item in given.split(",") * (given != "-")] if is_many else bytes_of(given)
     made = [of_key(item) for item in items] if is_many else of_key(items)
     texts = [bytes_of(text) for text in (kek, new)[:1 + call.startswith("rewrap")]]
-    keks = [kek_of(kind, text) for text in texts]
+    keks = [(kind if kind is not keywrap.Kek or len(text) in (16, 24, 32) else fresh)(text) for text in texts]
     try:
         name = call.replace("kind", "check").removesuffix("_with")
         more = flags_of(call, flags) | ({"iv": of_key(bytes_of(iv))} if call.endswith("_with") else {})
@@ -65,7 +60,7 @@ def called(kind, call, kek, new, iv, flags, given):
     except keywrap.KeywrapError as error:
         return error
     finally:
-        assert keks == [kek_of(kind, text) for text in texts] and made == items, "an argument is changed"
+        assert made == items and (kind is keywrap.Kek or keks == texts), "an argument is changed"
 
 
 def status_of(found):
