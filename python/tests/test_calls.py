@@ -1,8 +1,8 @@
 """What the package has around its calls: named flags, names, and around those for many keys the objects that they
 take, and wiping. tests/rows.txt has the calls, and tests/faces.py their messages."""
 
-import gc
 import copy
+import gc
 import pathlib
 import pickle
 import types
@@ -34,6 +34,26 @@ def test_flags():
             keywrap.rewrap(KEK, KEK, WRAPPED, keep_form=True, **flag)
     assert keywrap.rewrap(KEK, KEK, PADDED_OF_7, True, True) == PADDED_OF_7
     assert [keywrap.check(KEK, text) for text in (WRAPPED, PADDED_OF_7, bytes(24), b"")] == [*Kind, None, None]
+
+
+def test_kek():
+    """A `Kek` shows no bytes, and cannot be pickled. A copy of its bytes is a KEK. It is refused once it is closed."""
+    with keywrap.Kek(bytearray(KEK)) as kek:
+        assert keywrap.pyca.aes_key_unwrap(kek, WRAPPED) == keywrap.unwrap(bytes(kek), WRAPPED) == KEK
+        assert f"{kek} {kek!r} {[kek]}" == "<keywrap.Kek> <keywrap.Kek> [<keywrap.Kek>]"
+        for made_of in (copy.copy, copy.deepcopy, pickle.dumps):
+            with pytest.raises(TypeError, match="a Kek cannot be pickled or copied"):
+                made_of(kek)
+        with pytest.raises(keywrap.BadKekLength, match="the KEK is 17 bytes long"):
+            keywrap.rewrap(kek, bytes(17), WRAPPED)
+    kek.close()
+    assert not any(kek)
+    calls = (keywrap.wrap, kek, KEK), (keywrap.check, kek, bytearray()), (keywrap.rewrap, KEK, kek, WRAPPED)
+    for call, *given in (*calls, (keywrap.wrap_many, kek, [KEK])):
+        with pytest.raises(keywrap.BadKekLength, match="the KEK is closed, or 184 bytes long"):
+            call(*given)
+    with pytest.raises(keywrap.BadKekLength, match="the KEK is 15 bytes long"):
+        keywrap.Kek(bytes(15))
 
 
 def test_names():
