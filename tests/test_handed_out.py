@@ -107,5 +107,5 @@ def test_object(thing, name, path, soname, needed, shown):
     assert name == "sdist built" or "BIND_NOW" in elf and "GNU_RELRO" in elf and "TEXTREL" not in elf
     names = {line.split()[-1].partition("@")[0] for line in run("nm", "-D", "--defined-only", file).splitlines()
              if line.split()[-2] != "A"}
-    calls = set(re.findall(r"^(?:u?int(?:32|64)_t|size_t) (keywrap_[a-z_]*)\(", HEADERS, re.M))
+    calls = set(re.findall(r"^(?:u?int(?:32|64)_t|size_t|void) (keywrap_[a-z_]*)\(", HEADERS, re.M))
     assert names == (calls if shown == "the header's" else {shown} - {"(none)"})

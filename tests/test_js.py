@@ -71,9 +71,9 @@ class TestPackage:
         assert sorted(path.name for path in package.iterdir()) == FILES.split()
 
     def test_size(self, package):
-        """The module has at most 40 KB, and README has its size."""
+        """The module has at most 43 KB, and README has its size."""
         size = (package / "keywrap.wasm").stat().st_size
-        assert size <= 40960 and f"`keywrap.wasm` ({(size + 500) // 1000} KB)" in PAGE
+        assert size <= 43000 and f"`keywrap.wasm` ({(size + 500) // 1000} KB)" in PAGE
 
     def test_what_a_bundler_looks_for(self, package):
         assert "new URL('./keywrap.wasm', import.meta.url)" in (package / "keywrap.js").read_text()
