@@ -10,10 +10,10 @@
  *     uint8_t wrapped[KEYWRAP_TEXT_LEN(sizeof key)];      kek and key are arrays of 32 bytes
  *     if (keywrap_wrap(kek, sizeof kek, key, sizeof key, wrapped, sizeof wrapped)) return 1;
  *
- * The calls allocate nothing, keep no state and have no callbacks. Any thread may make them.
+ * The calls allocate nothing, keep no secret and have no callbacks. Any thread may make them.
  *
- * On x86-64 the processor must have SSSE3 and SSE4.1; on aarch64 any will do. The calls do not check
- * this, and end the program with SIGILL on an older x86-64: KEYWRAP_CPU_SUPPORTED() checks it.
+ * On x86-64 libkeywrap needs SSSE3 and SSE4.1; portable C, and aarch64, need nothing. The calls do not
+ * check this, and end the program with SIGILL on an older x86-64: KEYWRAP_CPU_SUPPORTED() checks it.
  *
  * The caller must keep these rules. Nothing checks them:
  *   - A pointer points to as many bytes as the length after it. It is not NULL, not even if the
@@ -150,13 +150,13 @@ int32_t keywrap_self_test(void);
  *   kept_len  KEYWRAP_KEK_LEN(kek_len): 184, 216 or 248
  *
  * keywrap_kek_init keeps a KEK of 16, 24 or 32 bytes:
- *   KEYWRAP_OK          kept is a kept KEK. In the place of the KEK and its length each call takes kept
- *                       and kept_len, and does the same. It is as secret as the KEK
+ *   KEYWRAP_OK          kept is a kept KEK. Each other call takes kept and kept_len in the place of the
+ *                       KEK and its length, and does the same. It is as secret as the KEK
  *   any other           kept is unchanged
  *
  * keywrap_kek_clear writes zeros to it. A kept KEK may be copied, and every library of this version
- * takes it. Each call refuses bytes that do not begin like one, as cleared bytes (KEYWRAP_BAD_KEK).
- * What comes behind the right beginning it takes for round keys, whatever it is. */
+ * takes it. Of kept_len bytes a call refuses those that do not begin like one, as cleared ones
+ * (KEYWRAP_BAD_KEK), and takes all others for round keys. With kek_len, kept would be another KEK. */
 #define KEYWRAP_KEK_LEN(kek_len) (4 * (kek_len) + 120)
 KEYWRAP_CALL KEYWRAP_READS(1, 2) KEYWRAP_WRITES(3, 4)
 int32_t keywrap_kek_init(const uint8_t *kek, size_t kek_len, uint8_t *KEYWRAP_RESTRICT kept,

@@ -90,6 +90,10 @@ func (s *slots) refusals() error {
 // one. An append to one of them does not write to the next.
 func (s *slots) results(status C.int32_t, begin int, lengthOf func(i int) int) ([][]byte, error) {
 	if status != C.KEYWRAP_OK {
+		// The copies may be of keys, and nobody else can clear them.
+		for i := range s.texts {
+			s.texts[i] = 0
+		}
 		return nil, Refusal(status)
 	}
 	results := make([][]byte, len(s.statuses))
