@@ -123,8 +123,7 @@ int32_t keywrap_rewrap_many(const uint8_t *old_kek, size_t old_kek_len, const ui
                             size_t new_kek_len, uint8_t *texts, size_t texts_len, uint32_t flags,
                             uint8_t *statuses, size_t count) {
     OR_PROVED(rewrap_many, old_kek, old_kek_len, new_kek, new_kek_len, texts, texts_len, flags, statuses, count);
-    const int32_t status =
-        keywrap_check_rewrap_many(old_kek, old_kek_len, new_kek, new_kek_len, texts_len, flags, count);
+    int32_t status = keywrap_check_rewrap_many(old_kek, old_kek_len, new_kek, new_kek_len, texts_len, flags, count);
     if (status != KEYWRAP_OK) return status;
     const size_t text_len = texts_len / count;
     if (text_len == 16 || text_len > COPIED) {
