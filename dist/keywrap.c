@@ -21274,9 +21274,9 @@ enum { BLOCK = 16, ROUNDS_AT_MOST = 14, SCHEDULE = BLOCK * (ROUNDS_AT_MOST + 1) 
 
 /* The round keys in the order of the cipher, or of the inverse cipher: its own, or those of a kept KEK. */
 struct aes {
+    uint8_t own[SCHEDULE];
     const uint8_t *keys;
     unsigned rounds;
-    uint8_t own[SCHEDULE];
 };
 
 /* aes_works returns whether the processor has the instructions and they passed a known-answer test.
