@@ -2,7 +2,7 @@
 //
 // A key-encryption key (KEK) of 16, 24 or 32 bytes wraps a key: plain, of a multiple of 8 bytes from 16 on, or padded,
 // of any length from 1 on; both up to [MaxKey] bytes. A wrapped key is refused in the form in which it was not wrapped.
-// Every call also takes a [KEK] in the place of a KEK's bytes, and is faster.
+// Every call also takes a [KEK] in the place of a KEK's bytes.
 //
 // Every error is a [Refusal], or [Refusals] of many keys, except in [NewCipher]. A result beside an error is nil or
 // zero: a caller that ignores the error has no key. A wrapped key that fails its check is [ErrIntegrity].

@@ -3,7 +3,7 @@
 A key-encryption key (KEK) of 16, 24 or 32 bytes wraps a key: plain, of a multiple of 8 bytes from 16
 on, or padded, of any length from 1 on; both up to 1,048,576 bytes. Arguments are bytes-like objects.
 An argument that is not `bytes` is copied first, and the copy is wiped. Other threads run during a
-call. Every call also takes a `Kek` in the place of a KEK, and is faster.
+call. Every call also takes a `Kek` in the place of a KEK.
 
 `keywrap.steps` has the calls for a KEK in a token or a KMS, and `keywrap.pyca` the functions of
 `cryptography.hazmat.primitives.keywrap`. `python3 -m keywrap.rotate --help` is about the keys of files,
@@ -109,7 +109,7 @@ def _on_copies(call: Callable[..., _Answer], *given: object, **more: Any) -> _An
 
 
 class Kek(bytes):
-    """A KEK that is expanded once. Each call takes it in the place of the KEK, and is faster.
+    """A KEK that is expanded once. Each call takes it in the place of the KEK.
 
     The KEK has 16, 24 or 32 bytes (else `BadKekLength`). A `Kek` is as secret as its KEK, and is shown
     without its bytes. It is wiped at the end of its `with` block, or by `close`; afterwards a call raises
