@@ -15,7 +15,7 @@ package keywrap
 // #include "keywrap.h"
 //
 // enum { first_len = KEYWRAP_TEXT_LEN(0) };
-// static size_t kept_len(size_t kek_len) { return KEYWRAP_KEK_LEN(kek_len); }
+// static size_t kept_len(size_t kek_len) { return KEYWRAP_KEK_LEN(kek_len < 32 ? kek_len : 32); }
 // static size_t plain_len(size_t key_len) { return KEYWRAP_TEXT_LEN(key_len); }
 // static size_t padded_len(size_t key_len) { return KEYWRAP_PADDED_TEXT_LEN(key_len); }
 // static size_t room(size_t wrapped_len) { return KEYWRAP_ROOM(wrapped_len); }

@@ -121,7 +121,7 @@ class Kek(bytes):
     def __new__(cls, kek: ReadableBuffer) -> Kek:
         if type(kek) is not bytes:
             return _on_copies(cls, kek)
-        kept = super().__new__(cls, 4 * len(kek) + 120)
+        kept = super().__new__(cls, 4 * min(len(kek), 32) + 120)
         status = _lib.keywrap_kek_init(kek, len(kek), kept, len(kept))
         if status:
             raise _refusals.refusal(status, "", 0, "", kek)
