@@ -155,8 +155,9 @@ int32_t keywrap_self_test(void);
  *   any other           kept is unchanged
  *
  * keywrap_kek_clear writes zeros to it. A kept KEK may be copied, and every library of this version
- * takes it. Of kept_len bytes a call refuses those that do not begin like one, as cleared ones
- * (KEYWRAP_BAD_KEK), and takes all others for round keys. With kek_len, kept would be another KEK. */
+ * takes it. Another version may refuse it: store the KEK instead. Of kept_len bytes a call refuses
+ * those that do not begin like one, as cleared ones (KEYWRAP_BAD_KEK), and takes all others for round
+ * keys. With kek_len, kept would be another KEK. */
 #define KEYWRAP_KEK_LEN(kek_len) (4 * (kek_len) + 120)
 KEYWRAP_CALL KEYWRAP_READS(1, 2) KEYWRAP_WRITES(3, 4)
 int32_t keywrap_kek_init(const uint8_t *kek, size_t kek_len, uint8_t *KEYWRAP_RESTRICT kept,

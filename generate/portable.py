@@ -32,7 +32,7 @@ STEPS, CHECKS = ({f"w2c_{call}" for call in re.findall(
     for header in ("dist/keywrap_steps.h", "c/include/keywrap_checks.h"))
 # The steps of many keys side by side are only in the C library.
 STEPS = {call for call in STEPS if not call.endswith("_many")}
-# What comes between the runs of a rewrap takes more of the stack than a step, of which there are many.
+# A call between two runs of a rewrap takes more of the stack than a step. There are many steps.
 TURNS = {call for call in STEPS if "_next_" in call}
 WHOLE_ONLY, WITH_AES = "#ifndef KEYWRAP_STEPS_ONLY\n", "#ifdef WITH_AES\n"
 # The processor's AES, in the order in which one file can have them.
@@ -214,7 +214,7 @@ def translator(name, parameters, declared):
 
 
 def translators(header, declared):
-    """Those of the calls of a header for one key."""
+    """The CALLs of a header, for its calls for one key."""
     found = re.findall(r"^int32_t (keywrap_\w+)\(([^)]*\*[^)]*)\);", (ROOT / "dist" / header).read_text(), re.M)
     return "\n".join(translator(*call, declared) for call in found if not call[0].endswith("_many"))
 
@@ -223,7 +223,7 @@ def hardware():
     """The calls by the processor's AES as one part of the file, in which nothing but the calls has a name outside."""
     parts = []
     for name in HARDWARE:
-        text = (PARTS if name in ("checks.c", "lanes.c") else ROOT / "c/hardware").joinpath(name).read_text()
+        text = next(path for path in (PARTS / f"{name}.in", ROOT / "c/hardware" / name) if path.exists()).read_text()
         text = re.sub(r"^#include (?:\"(?:aes|run)\.h\"|<keywrap(?:_steps|_checks)?\.h>|<std\w+\.h>|<string\.h>)\n",
                       "", text, flags=re.M)
         if name.endswith(".h"):

@@ -122,10 +122,12 @@ def hashes(sums):
     return "\n".join(f"    {line}" for line in found)
 
 
-def written_lines(directory):
-    """The hundreds of lines of the programs below a directory. program.* is generated."""
-    return round(sum(len(path.read_text(encoding="utf-8").splitlines()) for path in (TOP / directory).rglob("*")
-                     if path.suffix in (".c", ".h", ".java", ".js", ".ts") and path.stem != "program"), -2)
+def written_lines(place):
+    """The hundreds of lines of the programs below a directory or with these names. program.* is generated."""
+    files = TOP.glob(place) if "*" in place else (TOP / place).rglob("*")
+    return round(sum(len(path.read_text(encoding="utf-8").splitlines()) for path in files
+                     if path.suffix in (".c", ".h", ".java", ".js", ".ts", ".go", ".py", ".rs")
+                     and path.stem != "program" and not path.stem.endswith("_test")), -2)
 
 
 def axioms(log):
@@ -162,7 +164,10 @@ def main(arguments):
     by_hand, = re.findall(r"the (\d+) lines\sof\skeywrap.c", (TOP / "dist/README").read_text(encoding="utf-8"))
     wanted = re.sub(r"[\d,]+(?= lines of C around the module)", f"{int(by_hand):,}",
                     f"{head}{begin}\n{text}\n{end}{rest.split(end)[1]}")
-    wanted = re.sub(r"(?<=about )\d+(?= lines of `([a-z/]+)`)", lambda found: str(written_lines(found[1])), wanted)
+    wanted = re.sub(r"(?<=about )[\d,]+(?=\slines\sof\s`([a-z/.*]+)`)",
+                    lambda found: f"{written_lines(found[1]):,}", wanted)
+    tools, = re.findall(r"(binaryen \d+), (wabt [\d.]*\d)", (TOP / "dist/keywrap.c").read_text(encoding="utf-8")[:2000])
+    wanted = re.sub(r"binaryen \d+ and wabt [\d.]*\d", " and ".join(tools), wanted)
     if not arguments or arguments[0] in ("--hashes", "--axioms"):
         PAGE.write_text(wanted, encoding="utf-8")
     elif page != wanted:

@@ -1,7 +1,7 @@
 // AES Key Wrap (RFC 3394) and AES Key Wrap with Padding (RFC 5649), by the module keywrap.wasm: the
 // refusals, the arguments of a call, and the calls over the module's memory. keywrap.js and inline.js
-// find the module, and export what keywrap.d.ts documents. Newer syntax than hosts of the README have
-// is avoided: static blocks, private members, `at`.
+// find the module, and export what keywrap.d.ts documents. The oldest hosts of the README lack static
+// blocks, private members and `at`, so nothing here uses them.
 
 /* The refusals */
 
@@ -20,7 +20,7 @@ for (const [name, error] of Object.entries(ERRORS)) {
     error.prototype.name = name;
 }
 
-/* What a call takes: the longest that is legal, in bytes, and all that are */
+/* What a call takes: the longest legal length in bytes, and the text of all legal ones */
 
 const MAX_KEY = 1048576;
 const MAX_WRAPPED = MAX_KEY + 8;
@@ -58,7 +58,7 @@ function taken(kind, given) {
     return { kind, bytes: new Uint8Array(bufferOf(given), offsetOf(given), lengthOf(given)) };
 }
 
-// The options. None is passed over: neither one of another name, nor an array in their place.
+// The options of a call. An unknown name is an error, and so is an array in their place.
 function optionsOf(given, ...names) {
     if (typeof given !== 'object' || given === null || ArrayBuffer.isView(given)) {
         throw new TypeError('the options must be an object, as { name: value }');
@@ -95,7 +95,7 @@ const isBadKek = ({ kind, bytes }) => kind === KEK && ![16, 24, 32].includes(byt
 const lengthIs = ({ kind, bytes }) =>
     `${kind.what} is ${bytes.length} bytes long; it must be ${kind.legal} bytes`;
 
-// The error that a status is.
+// Returns the error for a status.
 function refusalOf(status, call, inputs) {
     const iv = inputs.find(({ kind }) => kind === IV);
     const kek = inputs.find(isBadKek);

@@ -125,11 +125,6 @@ class TestSources:
         size, = re.findall(r"--memory (\d+)", text_of("generate/module.sh"))
         assert f"An instance has {int(size) / (1 << 20):.1f} MiB of memory." in words_of("js/README.md")
 
-    def test_lines_of_hardware(self):
-        """docs/C_LIBRARY.md counts the C that is trusted beside the processor's AES, in hundreds."""
-        lines = sum(len(file.read_text().splitlines()) for file in ROOT.glob("c/hardware/*.[ch]"))
-        assert f"{round(lines, -2):,} lines of C in `c/hardware/`" in words_of("docs/C_LIBRARY.md")
-
     def test_glibc(self):
         """The pages name what the Debian package depends on, and what the wheel's name says."""
         needed, = re.findall(r"deb keywrap .* Depends .* libc6 \(>= (.*)\)", text_of("tests/handed_out.txt"))

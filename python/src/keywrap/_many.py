@@ -1,4 +1,4 @@
-"""The calls for many keys of one length. They lie in slots behind each other in a buffer; each slot has a status.
+"""The calls for many keys of one length. Each key has a slot in one buffer, and each slot a status.
 
 Item i of a result is what the call for one key returns for item i, or the refusal that it raises.
 """

@@ -16,7 +16,7 @@ WRAPPED_PADDED = f"a multiple of 8 from 16 to {_MAX_WRAPPED}"
 
 
 def _text(status: int) -> str:
-    """What a status says."""
+    """Returns the library's text of a status."""
     text = ffi.new("char[]", 80)
     lib.keywrap_status_text(status, text, len(text))
     said: bytes = ffi.string(text)
@@ -53,12 +53,12 @@ class IntegrityFailed(KeywrapError):
 
 
 def bad_length(what: str, length: int, legal: str) -> BadLength:
-    """A length that is not legal."""
+    """Returns the exception for a length that is not legal."""
     return BadLength(f"{_BAD_LENGTH}: {what} is {length} bytes long; it must be {legal} bytes")
 
 
 def refusal(status: int, what: str, length: int, legal: str, *keks: bytes) -> KeywrapError:
-    """What a call on these KEKs refused by its status, where `what` is of that length."""
+    """Returns the exception for the status of a call under these KEKs, whose `what` has this length."""
     if status == lib.KEYWRAP_BAD_KEK:
         # A KEK that is not refused itself refuses no bytes for their integrity.
         length = next(len(kek) for kek in keks if lib.kind(kek, len(kek), b"", 0, b"", 0) == -status)
@@ -72,7 +72,7 @@ def refusal(status: int, what: str, length: int, legal: str, *keks: bytes) -> Ke
 
 
 def bad_initial_value(iv: bytes) -> BadInitialValue:
-    """An initial value that is refused."""
+    """Returns the exception for a refused initial value."""
     if len(iv) != 8:
         return BadInitialValue(f"the initial value is {len(iv)} bytes long; it must be 8 bytes")
     return BadInitialValue("the initial value is reserved for the padded form: it begins with a6 59 59 a6")
