@@ -1,6 +1,7 @@
 """Numbers in the documents: each is in a recorded measurement, in a source or in what the program writes."""
 
 import csv
+import pathlib
 import re
 
 from test_documents import ROOT, text_of
@@ -149,6 +150,11 @@ class TestSources:
         """SECURITY.md has the longest key with which test_secrets.py looks for branches under qemu."""
         length, = re.findall(r"^LONGEST.* (\d+)$", text_of("tests/test_secrets.py"), re.M)
         assert f"under qemu, with keys of up to {length} bytes" in words_of("SECURITY.md")
+
+    def test_stack_of_the_program(self, keywrap):
+        """docs/PROVED.md has what the kit's compiler writes into the program. The program in C has no such number."""
+        for size in re.findall(rb"stack-bytes=(\d+)\+", pathlib.Path(keywrap.path).read_bytes()):
+            assert f"counts {round(int(size) / 1000)} KB for the program" in words_of("docs/PROVED.md")
 
     def test_vectors(self, keywrap):
         lines = keywrap("vectors").stdout.splitlines()
