@@ -37,9 +37,7 @@ wrapped() { head -c "$1" /dev/urandom | xxd -p -c 32 | keywrap wrap --lines --ke
 STORE = "mkdir store; for n in 1 2; do wrapped 32000 %s > store/$n.hex; done\n"
 # Commands before a recipe.
 STORES_OF_RECIPES = {
-    "Rotate files": STORE % "" + """
-wrapped 3200 | sed '1i key' > keys.csv
-""",
+    "Rotate files": STORE % "" + "wrapped 3200 | sed '1i key' > keys.csv\n",
     "Rotate a table": """
 wrapped 32000 | sed "s/.*/INSERT INTO keys (key) VALUES (x'&');/
     1i CREATE TABLE keys (id INTEGER PRIMARY KEY, key BLOB); BEGIN;
@@ -47,9 +45,7 @@ wrapped 32000 | sed "s/.*/INSERT INTO keys (key) VALUES (x'&');/
 psql -qc 'CREATE TABLE keys (id bigint PRIMARY KEY, key bytea)'
 wrapped 32000 | awk '{ print 1000 + NR "\\t\\\\\\\\x" $0 }' | psql -qc '\\copy keys FROM STDIN'
 """,
-    "Rotate objects": r"""
-mkdir bucket; for name in a 'c d'; do wrapped 32 > "bucket/$name"; done; ls bucket > manifest
-""",
+    "Rotate objects": 'mkdir bucket; for name in a "c d"; do wrapped 32 > "bucket/$name"; done; ls bucket > manifest\n',
     "Verify before the KEK dies": STORE % "new-kek.hex" + "rm kek.hex\n",
     "Rotate on several machines": "mkdir store; for n in {1..40}; do wrapped 3200 > store/$n; done\n",
     "# Rotate a KEK": "rm kek.hex new-kek.hex\n",
@@ -110,13 +106,10 @@ SBATCH = r"""#!/bin/bash
 [ "$2" = --wrap ] && [[ $1 =~ ^--array=1-([0-9]+)$ ]] || exit
 for SLURM_ARRAY_TASK_ID in $(seq "${BASH_REMATCH[1]}"); do export SLURM_ARRAY_TASK_ID; sh -c "$3" || exit; done
 """
-def several_machines():
-    return next(section for section in SECTIONS if section.startswith("Rotate on several machines\n"))
-
-
+SEVERAL_MACHINES = next(section for section in SECTIONS if section.startswith("Rotate on several machines\n"))
 # Each scheduler with the variable that it sets for a task, and the number of its first task.
-SLURM = re.search("(?m)^# Slurm\n(.*)$", several_machines())[1]
-KUBERNETES = re.search(r"command: \[sh, -c, '(.*)'\]", several_machines())[1]
+SLURM = re.search("(?m)^# Slurm\n(.*)$", SEVERAL_MACHINES)[1]
+KUBERNETES = re.search(r"command: \[sh, -c, '(.*)'\]", SEVERAL_MACHINES)[1]
 
 
 @pytest.mark.parametrize("line", [
@@ -137,7 +130,7 @@ def test_line_of_an_array_of_jobs(line, tmp_path, environment):
 
 def test_the_job_and_the_container_file():
     yaml = pytest.importorskip("yaml", reason="no yaml (apt-get install python3-yaml)")
-    job = yaml.safe_load(several_machines().split("```yaml\n")[1].split("```")[0])
+    job = yaml.safe_load(SEVERAL_MACHINES.split("```yaml\n")[1].split("```")[0])
     spec = job["spec"]["template"]["spec"]
     (container,) = spec["containers"]
     assert (job["kind"], job["spec"]["completionMode"], job["spec"]["completions"]) == ("Job", "Indexed", 10)
@@ -147,12 +140,8 @@ def test_the_job_and_the_container_file():
     assert "/10 /store" in container["command"][-1]
 
 
-def test_the_page_is_short():
-    assert len(PAGE.split()) <= 1700
-
-
-def test_there_are_recipes():
-    assert {recipe.id for recipe in recipes()} == {*STORES_OF_RECIPES}
+def test_the_page_is_short_and_its_recipes_run():
+    assert len(PAGE.split()) <= 1700 and {recipe.id for recipe in recipes()} == {*STORES_OF_RECIPES}
 
 
 @pytest.mark.parametrize("change, said", [("", "under no KEK of this rotation"), ("!", "")])

@@ -29,10 +29,10 @@ def database(tmp_path):
     return path
 
 
-def rotated(path, table="keys", column="key", notation="hex"):
+def rotated(path, table="keys", column="key", notation="hex", may_write=True):
     """What is found in one database."""
     store, pair = sqlite.Sqlite(table, column, Notation(notation), Names([str(path)]), None), challenges()
-    return found.found_by(lambda: store.do(Unit(str(path), 1, ""), pair.rings(), True))
+    return found.found_by(lambda: store.do(Unit(str(path), 1, ""), pair.rings(), may_write))
 
 
 def why(answer):
@@ -89,6 +89,7 @@ class TestTable:
     def test_tables_of_each_kind(self, tmp_path, monkeypatch, columns, values, size):
         """Each row is found, whatever its columns are called and however it is ordered."""
         monkeypatch.setattr("keywrap.rotation.keys.ROWS", size)
+        monkeypatch.setattr(sqlite, "ROWS", size)
         path = tmp_path / "keys.db"
         run_sql(path, f"CREATE TABLE keys ({columns}")
         run_many(path, "INSERT INTO keys VALUES (?, ?, ?)",
@@ -187,7 +188,7 @@ class TestWriters:
         ("DELETE FROM keys WHERE id = 120", [], KEYS[:-1])],
         ids=["changed", "changed under the new KEK", "first changed", "added", "removed"])
     @pytest.mark.parametrize("at", [1, 12])
-    @pytest.mark.parametrize("size", [5, 1000])
+    @pytest.mark.parametrize("size", [2, 1000])
     def test_a_table_that_changes_meanwhile(self, database, meanwhile, monkeypatch, statement, values, keys, at, size):
         """The pass knows that others wrote it, and the next one has the rest."""
         monkeypatch.setattr("keywrap.rotation.keys.ROWS", size)
@@ -197,6 +198,16 @@ class TestWriters:
         answer = rotated(database)
         assert (answer.new, answer.keys, answer.moved) == (len(keys), len(keys), 0)
         assert run_sql(database, "SELECT * FROM keys") == rows_under(NEW_KEK, keys)
+
+    @pytest.mark.parametrize("mode, seen", [("WAL", (12, 0)), ("DELETE", (11, 1))])
+    def test_a_row_that_moves_meanwhile(self, database, monkeypatch, mode, seen):
+        """Until it writes, a pass reads a log at one moment. Of a journal it knows that others wrote."""
+        real, move = sqlite.renewed_rows, "UPDATE keys SET id = 5 WHERE id = 120"
+        run_sql(database, f"PRAGMA journal_mode = {mode}")
+        monkeypatch.setattr("keywrap.rotation.keys.ROWS", 2)
+        monkeypatch.setattr(sqlite, "renewed_rows", lambda *words: (run_sql(database, move), real(*words))[1])
+        answer = rotated(database, may_write=False)
+        assert (sum(answer.old.values()), answer.moved) == seen
 
     def test_nobody_waits_while_rows_are_rewrapped(self, database, meanwhile):
         """Another process writes in the middle, without waiting for the lock."""

@@ -49,7 +49,7 @@ class Fields:
 
     def renewed(self, blocks: Iterable[bytes], rings: Rings, found: Found) -> Iterator[Tuple[bytes, bytes]]:
         records = self._csv(_lines(blocks)) if self.is_csv else self._json(_lines(blocks))
-        while batch := some(records, lambda record: record.content):
+        while batch := some(records, lambda record: len(record.content)):
             texts = renewed(rings, self.notation, [record.text for record in batch], found,
                             lambda at: f"line {batch[at].line}", [record.name for record in batch])  # fmt: skip
             content = _bytes("".join(record.content for record in batch))

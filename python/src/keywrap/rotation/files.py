@@ -46,7 +46,6 @@ def lines(notation: Notation, blocks: Iterable[bytes], rings: Rings, found: Foun
 def _renewed_lines(notation: Notation, content: bytes, rings: Rings, found: Found, first: int) -> bytes:
     fresh = all_renewed(rings[None], content, found) if notation == Notation() else None
     if fresh is not None:
-        found.keys += content.count(b"\n")
         return fresh
     each = list(io.BytesIO(content))
     keys = [line.strip(BLANKS) for line in each]

@@ -4,7 +4,8 @@ import base64
 import binascii
 import contextlib
 import hashlib
-from typing import Any, Callable, Dict, Iterator, List, Mapping, NamedTuple, Optional, Sequence, Tuple, TypeVar, Union
+from typing import (Any, Callable, Dict, Iterable, Iterator, List, Mapping, NamedTuple, Optional, Sequence, Tuple,
+                    TypeVar, Union)  # fmt: skip
 
 import keywrap
 from keywrap import _flags, _many
@@ -22,10 +23,10 @@ Text = Union[bytes, str, None]
 Item = TypeVar("Item")
 #: How many rows, and about how many bytes, are read and written at once; how many keys are looked at together.
 ROWS, BYTES, PART = 2000, 1 << 20, 64
-#: A row, its key, whether that is NULL, and the name of its KEK. A key longer than any is not read.
-Row = Tuple[Any, Any, bool, Any]
-#: What each database reads of a key.
-KEY = "CASE WHEN {octets}({key}) <= " + str(LONGEST) + " THEN {key} END, {key} IS NULL, {kek}"
+#: A key, how long it is, the name of its KEK, and its row. A key longer than any is not read.
+Row = Tuple[Any, ...]
+#: What each database reads of a key, before its row.
+KEY = "CASE WHEN {octets}({key}) <= " + str(LONGEST) + " THEN {key} END, {octets}({key}), {kek}"
 
 
 def _from_base64(text: bytes) -> bytes:
@@ -80,16 +81,19 @@ def _under(kek: bytes, keys: Mapping[int, bytes]) -> Dict[int, bool]:
 
 
 def renewed(rings: Rings, notation: Notation, texts: Sequence[Text], found: Found, place: Callable[[int], str],
-            names: Sequence[Optional[str]] = ()) -> Dict[int, bytes]:  # fmt: skip
+            names: Sequence[Any] = ()) -> Dict[int, bytes]:  # fmt: skip
     """Counts the keys, names the refused ones, and returns the new texts of those that are not new, by their places."""
+    if None in rings and (whole := _all_texts(rings[None], notation, range(len(texts)), texts, found)) is not None:
+        return whole
     fresh: Dict[int, bytes] = {}
-    groups: Dict[Tuple[Optional[str], int], Dict[int, Union[bytes, str]]] = {}
+    groups: Dict[Tuple[Any, int], Dict[int, Union[bytes, str]]] = {}
     for at, text in enumerate(texts):
         if text is not None:
             groups.setdefault((None, at // PART) if None in rings else (names[at], 0), {})[at] = text
     for (name, _), some in groups.items():
-        found.keys += len(some)
+        name = name if name is None else str(name)
         fresh.update(_renewed(rings[name], notation, some, found, place) if name in rings else {})
+        found.keys += 0 if name in rings else len(some)
         for at in () if name in rings else some:
             found.refuse(place(at), "it has no name of a KEK" if name is None else f"no KEK for the name {name!r}")
     return fresh
@@ -97,8 +101,9 @@ def renewed(rings: Rings, notation: Notation, texts: Sequence[Text], found: Foun
 
 def _renewed(ring: Ring, notation: Notation, texts: Mapping[int, Union[bytes, str]], found: Found,
              place: Callable[[int], str]) -> Dict[int, bytes]:  # fmt: skip
-    if (all_new := _all_texts(ring, notation, texts, found)) is not None:
+    if (all_new := _all_texts(ring, notation, texts, list(texts.values()), found)) is not None:
         return all_new
+    found.keys += len(texts)
     keys: Dict[int, bytes] = {}
     has_new_prefix: Dict[int, bool] = {}
     for at, text in texts.items():
@@ -138,6 +143,27 @@ def _are_under(kek: bytes, keys: bytearray, length: int) -> bool:
     return not any(any(_many.check_slots(kek, some, length)[0]) for some in (keys[:length], keys))
 
 
+def _all_keys(ring: Ring, keys: bytearray, length: int, found: Found, is_mixed: bool) -> Optional[bytes]:
+    """Rewraps keys of one length, behind each other, that are all new or all under the same KEK, or mixed of both.
+    Returns a status for each, 0 if it was old; or `None` for any others."""
+    count = len(keys) // length
+    if _are_under(ring.new, keys, length):
+        statuses, label = bytes([1]) * count, ""
+    else:
+        for label, old in ring.old:
+            if is_mixed and len(ring.old) == 1 or _are_under(old, keys[:length], length):
+                break
+        else:
+            return None
+        statuses = bytes(_many.rewrap_slots(old, ring.new, keys, length, _FLAGS))
+        if not is_mixed and any(statuses) or not _are_under(ring.new, keys, length):
+            return None
+        found.old[label] += statuses.count(0)
+    found.keys += count
+    found.new += count - statuses.count(0)
+    return statuses
+
+
 def all_renewed(ring: Ring, content: bytes, found: Found) -> Optional[bytes]:
     """Does the same for lines of hex, all as long as one wrapped key, that are all new or all under the same KEK: in a
     tenth of the time. Returns `None` for any other content."""
@@ -151,37 +177,38 @@ def all_renewed(ring: Ring, content: bytes, found: Found) -> Optional[bytes]:
     if (size < 33 or (size - 1) % 16 or len(content) != size * count or content[size - 1 :: size] != b"\n" * count
             or len(keys) != length * count):  # fmt: skip
         return None
-    if _are_under(ring.new, keys, length):
-        found.new += count
-        return content
-    for label, old in ring.old:
-        if _are_under(old, keys[:length], length) and not any(_many.rewrap_slots(old, ring.new, keys, length, _FLAGS)):
-            text = f"{keys.hex(chr(10), length)}\n"
-            if bytearray.fromhex(text) != keys or not _are_under(ring.new, keys, length):
-                raise Refused("a rewrapped key is not under the new KEK")
-            found.old[label] += count
-            return text.encode("ascii")
-    return None
+    if (statuses := _all_keys(ring, keys, length, found, False)) is None or statuses[0]:
+        return None if statuses is None else content
+    text = f"{keys.hex(chr(10), length)}\n"
+    if bytearray.fromhex(text) != keys:
+        raise Refused("a rewrapped key is not under the new KEK")
+    return text.encode("ascii")
 
 
-def _all_texts(ring: Ring, notation: Notation, texts: Mapping[int, Any], found: Found) -> Optional[Dict[int, bytes]]:
+def _all_texts(ring: Ring, notation: Notation, places: Iterable[int], texts: Sequence[Any],
+               found: Found) -> Optional[Dict[int, bytes]]:  # fmt: skip
     """Does the same for texts of hex, and for raw keys."""
-    values, is_raw = list(texts.values()), notation == Notation("raw")
-    if {*map(type, values)} != {bytes} or len({*map(len, values)}) != 1 or not (is_raw or notation == Notation()):
-        return None
-    content = (b"".join(values).hex("\n", len(values[0])).encode() if is_raw else b"\n".join(values)) + b"\n"
-    fresh = all_renewed(ring, content, found) if content.count(b"\n") == len(values) else None
-    new = [] if fresh is None or fresh is content else fresh.split()
-    return None if fresh is None else dict(zip(texts, map(binascii.unhexlify, new) if is_raw else new))
+    length = len(texts[0]) if {*map(type, texts)} == {bytes} and len({*map(len, texts)}) == 1 else 0
+    if notation == Notation("raw"):
+        keys = bytearray(b"".join(texts)) if length >= 16 and length % 8 == 0 else None
+        if keys is None or (statuses := _all_keys(ring, keys, length, found, True)) is None:
+            return None
+        olds = ((place, at * length) for place, at, is_new in zip(places, range(len(texts)), statuses) if not is_new)
+        return {place: bytes(keys[at : at + length]) for place, at in olds}
+    content = b"\n".join([*texts, b""]) if length and notation == Notation() else b""
+    fresh = all_renewed(ring, content, found) if content.count(b"\n") == len(texts) else None
+    return None if fresh is None else dict(zip(places, () if fresh is content else fresh.split()))
 
 
-def some(items: Iterator[Item], text: Callable[[Item], Any]) -> List[Item]:
-    """Takes rows or records until they are many, or their texts are long."""
+def some(items: Iterator[Item], length: Callable[[Item], int], times: int = 1) -> List[Item]:
+    """Takes rows or records until they are many, or that many times as many, or long."""
     taken: List[Item] = []
     size = 0
-    while len(taken) < ROWS and size < BYTES and (item := next(items, None)) is not None:
+    for item in items:
         taken.append(item)
-        size += len(text(item) or b"")
+        size += length(item)
+        if len(taken) == times * ROWS or size >= BYTES:
+            break
     return taken
 
 
@@ -190,31 +217,28 @@ def quoted(name: str) -> str:
     return '"' + name.replace('"', '""') + '"'
 
 
-def key_of(row: Row) -> Any:
-    """The key of a row, if it has a length."""
-    return row[1] if isinstance(row[1], (bytes, str)) else None
-
-
-def _text(value: Any, is_null: bool, of: type) -> Text:
+def _text(value: Any, size: Optional[int], of: type) -> Text:
     if isinstance(value, (bytes, str)):
         if type(value) is not of:
             return None
         return value if isinstance(value, bytes) else str(value).encode("utf-8", "surrogateescape").strip(BLANKS)
+    is_null = size is None
     return None if is_null or of is str else "neither binary nor text" if value is not None else "longer than any key"
 
 
-def renewed_rows(rings: Rings, notation: Notation, rows: Sequence[Row], found: Found,
-                 place: Callable[[Any], str]) -> List[Tuple[Any, Any, Any]]:  # fmt: skip
-    """Returns the new value, the row and the old value of each key that is not new. Binary values are raw. Adds the
-    digests of the values to that of the table: the sum does not depend on how the rows were read."""
-    writes = []
-    for of, how in ((bytes, Notation("raw")), (str, notation))[: 1 + (str in {type(row[1]) for row in rows})]:
-        texts = [_text(value, is_null, of) for _, value, is_null, _ in rows]
-        names = [None if name is None else str(name) for *_, name in rows]
-        for at, text in renewed(rings, how, texts, found, lambda at: place(rows[at][0]), names).items():
-            writes.append((text if of is bytes else text.decode("ascii"), rows[at][0], rows[at][1]))
-    found.nulls += sum(is_null for _, _, is_null, _ in rows)
-    values = (value if isinstance(value, bytes) else repr(value).encode() for _, value, *_ in rows)
-    digests = (int.from_bytes(hashlib.blake2b(value, digest_size=32).digest(), "big") for value in values)
-    found.digest = f"{sum(digests, int(found.digest or '0', 16)) % (1 << 256):064x}"
+def renewed_rows(rings: Rings, notation: Notation, rows: Sequence[Row], found: Found) -> List[Tuple[Any, Row]]:
+    """Returns the new value and the row of each key that is not new. Binary values are raw. Adds the digests of the
+    values to that of the table, if it has one: the sum does not depend on how the rows were read."""
+    writes: List[Tuple[Any, Row]] = []
+    values, sizes, names, *_ = zip(*rows)
+    kinds = {*map(type, values)}
+    for of, how, has_some in ((bytes, Notation("raw"), kinds != {str}), (str, notation, str in kinds)):
+        texts = values if kinds == {of} == {bytes} else [_text(*each, of) for each in zip(values, sizes) if has_some]
+        fresh = renewed(rings, how, texts, found, lambda at: "row " + ", ".join(map(str, rows[at][3:])), names)
+        writes += [(text if of is bytes else text.decode("ascii"), rows[at]) for at, text in fresh.items()]
+    found.nulls += sizes.count(None)
+    if found.digest is not None:
+        each = (value if isinstance(value, bytes) else repr(value).encode() for value in values)
+        digests = (int.from_bytes(hashlib.blake2b(value, digest_size=32).digest(), "big") for value in each)
+        found.digest = f"{sum(digests, int(found.digest, 16)) % (1 << 256):064x}"
     return writes

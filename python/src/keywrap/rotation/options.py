@@ -161,14 +161,15 @@ def store_of(options: argparse.Namespace) -> Store:
     """Makes the store. Only what it needs is imported: the others would double the time of the start."""
     notation = Notation(options.notation, tuple(map(str.encode, options.prefix)), options.new_prefix.encode())
     names = Names(options.files, options.exclude, options.files_from, options.shard)
+    digest = "0" if options.report or options.verify_record else None
     if options.table is not None:
         from .sqlite import Sqlite
 
-        return Sqlite(options.table, options.column, notation, names, options.kek_name)
+        return Sqlite(options.table, options.column, notation, names, options.kek_name, digest)
     if options.postgresql is not None:
         from .postgresql import Postgresql
 
-        return Postgresql(options.postgresql, options.column, notation, options.kek_name)
+        return Postgresql(options.postgresql, options.column, notation, options.kek_name, digest)
     if options.csv is not None or options.json is not None:
         from .fields import Fields
 

@@ -24,8 +24,9 @@ _UPDATE = """WITH n AS (SELECT * FROM unnest(%s::text[]::tid[], %s::{type}[], %s
 class Postgresql:
     noun = "ranges"
 
-    def __init__(self, table: str, column: str, notation: Notation, kek_name: Optional[str]) -> None:
-        self.table, self.column, self.notation, self.kek_name = table, column, notation, kek_name
+    def __init__(self, table: str, column: str, notation: Notation, kek_name: Optional[str],
+                 digest: Optional[str] = None) -> None:  # fmt: skip
+        self.table, self.column, self.notation, self.kek_name, self.digest = table, column, notation, kek_name, digest
         *schema, name = map(quoted, table.split("."))
         self.names = {"table": ".".join((*schema, name)), "name": name, "column": quoted(column),
                       "key": f"{name}.{quoted(column)}", "octets": "octet_length",
@@ -67,17 +68,18 @@ class Postgresql:
     def do(self, unit: Unit, rings: Rings, may_write: bool) -> Found:
         snapshot, type, first, last = unit.identity.split()
         found, writer = Found(), None
+        found.digest = self.digest
         with self._connected(is_moment=True) as reader, contextlib.ExitStack() as stack:
             reader.execute(f"SET TRANSACTION SNAPSHOT '{snapshot}'")
             cursor = stack.enter_context(reader.cursor("rows"))
             some_blocks = f"{{name}}.ctid >= '({first},0)' AND {{name}}.ctid < '({last},0)'"
-            self.run(cursor, "SELECT {name}.ctid::text, " + KEY + " FROM {table} WHERE " + some_blocks, type=type)
+            self.run(cursor, "SELECT " + KEY + ", {name}.ctid::text FROM {table} WHERE " + some_blocks, type=type)
             # Few at once: each stays locked until the others are written, too.
             while rows := cursor.fetchmany(ROWS // 8):
-                writes = renewed_rows(rings, self.notation, rows, found, lambda row: f"row {row}")
+                writes = renewed_rows(rings, self.notation, rows, found)
                 if writes and may_write:
                     writer = writer or stack.enter_context(self._connected(autocommit=True))
-                    new, at, old = map(list, zip(*writes))
+                    new, old, at = map(list, zip(*((new, row[0], row[3]) for new, row in writes)))
                     found.unwritten += len(writes) - self.run(writer, _UPDATE, at, old, new, type=type).rowcount
                 signs.beat(len(rows))
             reader.rollback()

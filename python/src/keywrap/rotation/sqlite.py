@@ -7,12 +7,12 @@ import sqlite3
 import stat
 import time
 from pathlib import Path
-from typing import Any, ContextManager, Dict, Optional, Tuple
+from typing import Any, ContextManager, Dict, List, Optional, Tuple
 
 from . import signs
 from .found import Found, Gone, Refused, Unanswered
 from .keks import Rings
-from .keys import KEY, Notation, key_of, quoted, renewed_rows, some
+from .keys import KEY, ROWS, Notation, quoted, renewed_rows, some
 from .listing import FileListing, Listing, Names, Unit
 from .replacing import at_once
 
@@ -52,8 +52,10 @@ def _mode(path: str, may_write: bool) -> str:
 class Sqlite:
     noun = "databases"
 
-    def __init__(self, table: str, column: str, notation: Notation, names: Names, kek_name: Optional[str]) -> None:
+    def __init__(self, table: str, column: str, notation: Notation, names: Names, kek_name: Optional[str],
+                 digest: Optional[str] = None) -> None:  # fmt: skip
         self.table, self.column, self.notation, self.names, self.kek_name = table, column, notation, names, kek_name
+        self.digest = digest
 
     def listed(self, may_write: bool) -> ContextManager[Listing]:
         return contextlib.nullcontext(_Listing(self.names, may_write))
@@ -95,33 +97,37 @@ class Sqlite:
             rows = [f"{table}.{quoted(name)}" for place, name in sorted(columns) if place]
         if not rows:
             raise Refused("its rows have neither a rowid nor a primary key")
-        return {**names, "row": ", ".join(rows), "places": ", ".join("?" * len(rows)), "width": str(len(rows))}
+        return {**names, "row": ", ".join(rows), "places": ", ".join("?" * len(rows))}
 
     def _rows(self, database: sqlite3.Connection, rings: Rings, may_write: bool, size: int) -> Found:
-        found, names, read, last = Found(), self._names(database), 0, None
-        found.digest = "0"
-        width, free = int(names["width"]), 0.0
-        select = ("SELECT {row}, " + KEY + " FROM {table} WHERE {where} ORDER BY {row}").format
+        found, names, read, free = Found(), self._names(database), 0, 0.0
+        found.digest, last = self.digest, ()
+        writes: List[Any] = []
+        select = ("SELECT " + KEY + ", {row} FROM {table} WHERE {where} ORDER BY {row}").format
         update = "UPDATE {table} SET {set} = ? WHERE ({row}) = ({places}) AND {key} = ?".format(**names)
+        # A reader of a log keeps nobody waiting: until it writes, it reads one moment.
+        if database.execute("PRAGMA journal_mode").fetchone() == ("wal",):
+            database.execute("BEGIN")
         version = database.execute("PRAGMA data_version").fetchone()
         (count,) = database.execute("SELECT count(*) FROM {table}".format(**names)).fetchone()
         while True:
-            where = "TRUE" if last is None else "({row}) > ({places})".format(**names)
-            cursor = database.execute(select(where=where, **names), last or ())
-            each: Any = ((row[:width], *row[width:]) for row in cursor)
-            rows = some(each, key_of)
+            where = "({row}) > ({places})".format(**names) if last else "TRUE"
+            cursor = database.execute(select(where=where, **names), last)
+            rows = some(cursor, lambda row: row[1] or 0, 1 if writes else 4)  # Each begin may have to wait for others.
             cursor.close()
             if not rows:
                 break
-            last, read = rows[-1][0], read + len(rows)
-            writes = renewed_rows(rings, self.notation, rows, found, lambda row: "row " + ", ".join(map(str, row)))
-            if writes and may_write:
+            last, read = rows[-1][3:], read + len(rows)
+            writes = renewed_rows(rings, self.notation, rows, found)
+            for at in range(0, len(writes) if may_write else 0, ROWS):
+                if database.in_transaction:
+                    database.execute("COMMIT")
                 time.sleep(max(0.0, free - time.monotonic()))  # Others have the lock for as long as we had it.
-                began = time.monotonic()
+                began, part = time.monotonic(), writes[at : at + ROWS]
                 database.execute("BEGIN IMMEDIATE")
-                done = database.executemany(update, ((new, *row, old) for new, row, old in writes)).rowcount
+                done = database.executemany(update, ((new, *row[3:], row[0]) for new, row in part)).rowcount
                 database.execute("COMMIT")
-                found.unwritten += len(writes) - done
+                found.unwritten += len(part) - done
                 free = 2 * time.monotonic() - began
             signs.beat(size * len(rows) // max(count, len(rows)))
         if database.execute("PRAGMA data_version").fetchone() != version:
