@@ -1,80 +1,108 @@
-# Proves the crates of the program side by side, each after the crates below it, and then builds the program. The
-# launcher calls this from the top of the repository.
+# Proves crates side by side, each after the crates below it, and then builds the program, for the launcher, or archives
+# of the C library, for tests/library/build.sh. They call this from the top of the repository.
 #
 # It calls the kit's compiler, rattle, as `rt ci` does. So a crate loads what the crates below it state, and not their
 # proofs: loading these takes long, and `rt lib` has no option to leave them out.
 #
-# A kit that refuses the options of `rattle` here proves and builds the program by `rt lib`: that takes longer.
+# A kit that refuses the options of `rattle` here proves and builds by `rt lib`: that takes longer.
 #
-# CRATES are the crates below the program that have a directory here, and JOBS is the greatest number of jobs of rattle.
-# The directory LOGS, of the environment, gets the output for crates/NAME: NAME.log while rattle works on it and if it
-# fails, and NAME.proved afterwards.
+# CRATES are the crates below the goals that have a directory here, ARCHIVES the goals of build.sh, and JOBS is the
+# greatest number of jobs of rattle. The directory LOGS, of the environment, gets the output for crates/NAME: NAME.log
+# while rattle works on it and if it fails, and NAME.proved afterwards.
 #
 # Rattle's own compiler compiles the program: clang takes a minute and a half, and the result is not faster. The gate
 # runs both.
 
 .DEFAULT_GOAL = keywrap
 options = --statements --links --antt-project --logic-built --backend
-.PHONY: keywrap $(CRATES)
+# The archives: of which crate, for which machine, and by which compiler.
+of.llvm.a = keywrap_c x86_64-unknown-linux-gnu llvm
+of.rattle.a = keywrap_c x86_64-unknown-linux-gnu rattle
+of.arm64.a = keywrap_c aarch64-unknown-linux-gnu llvm
+of.wasm64.a = keywrap_wasm wasm64-unknown-unknown llvm
+crate_of = $(firstword $(of.$(1)) $(1))
+# What each compiler takes: the check of this crate for this machine.
+check_of = $(word 1,$(of.$(1)))-for-$(word 2,$(of.$(1)))
+$(foreach made,$(ARCHIVES),$(eval of.$(call check_of,$(made)) = $(of.$(made))))
+CHECKS := $(sort $(foreach made,$(ARCHIVES),$(call check_of,$(made))))
+.PHONY: keywrap $(CRATES) $(ARCHIVES) $(CHECKS)
 
 kit := $(shell dirname -- "$$(dirname -- "$$(readlink -f -- "$$(command -v rt)")")")
 # A build leaves two files of each crate for the next one: NAME.rlib for the crates above, and NAME.sums, the checksums
-# of the sources of NAME and of the crates below it, and of the kit.
+# of the sources of NAME and of the crates below it, and of the kit. Of an archive it leaves NAME.a and NAME.a.sums.
 kept = crates/keywrap/out/kept
 refused := $(shell help=$$('$(kit)/bin/rattle' build --help 2>/dev/null); \
     for option in $(options); do case $$help in (*"$$option"*) ;; (*) echo $$option ;; esac; done)
-# The crates that a crate names in crates.txt, also for its tests; the ones of the program that have a directory here;
-# and all crates below it. The kit has the others that have no directory here.
-named = $(shell sed -n 's/^$(1): *//p' crates.txt)
+# The crates that a crate names in crates.txt, also for its tests; those of them in CRATES; and all crates below it. The
+# kit has the others that have no directory here.
+named = $(shell sed -n 's/^$(crate_of)\( staticlib\)*: *//p' crates.txt)
 below = $(filter $(CRATES),$(call named,$(1)))
 all_below = $(sort $(foreach crate,$(call below,$(1)),$(crate) $(call all_below,$(crate))))
-is_kept = $(shell [ -e $(kept)/$(1).rlib ] && b2sum --check --status $(kept)/$(1).sums 2>/dev/null && echo yes)
-changed := $(foreach crate,$(CRATES),$(if $(call is_kept,$(crate)),,$(crate)))
+is_kept = $(shell [ -e $(kept)/$(1)$(if $(of.$(1)),,.rlib) ] && \
+    b2sum --check --status $(kept)/$(1).sums 2>/dev/null && echo yes)
+changed := $(foreach made,$(CRATES) $(ARCHIVES),$(if $(call is_kept,$(made)),,$(made)))
 # The checksums are of the sources as they are at the start: a source that changes meanwhile differs from them.
-sources = $(patsubst %,crates/%,$(1) $(call all_below,$(1)))
+sources = $(patsubst %,crates/%,$(crate_of) $(call all_below,$(1)))
 sums = { scripts/sources.sh $(call sources,$(1)); b2sum '$(kit)/WHAT'; } >"$$LOGS/$(1).sums"
-$(foreach crate,$(changed),$(shell $(call sums,$(crate))))
+$(foreach made,$(changed),$(shell $(call sums,$(made))))
 
+$(CRATES): jobs = $(if $(filter 1,$(JOBS)),1,2)
+keywrap keywrap_cli $(CHECKS): jobs = $(JOBS)
+ifeq ($(ARCHIVES),)
 # The chain key_files, key_lines, keywrap_cli, keywrap takes the longest, so it comes first. The other crates, which
 # only the program needs, get the time that it leaves.
-$(CRATES): jobs = $(if $(filter 1,$(JOBS)),1,2)
-keywrap keywrap_cli: jobs = $(JOBS)
 $(filter-out key_files key_lines keywrap_cli,$(CRATES)): gently = nice -n 10
 keywrap_io keywrap_args: gently = nice -n 19
 # A second job costs a seventh of a crate's processor time, and these are done before anything waits for them.
 keywrap_io keywrap_args aes_vector: jobs = 1
+endif
 
 externs = $(foreach crate,std $(filter-out $(notdir $(wildcard crates/*)),$(call named,$@)),\
     --extern $(crate)='$(kit)/rlibs/$(crate).rlib') \
     $(foreach crate,$(call below,$@),--extern $(crate)=../../$(kept)/$(crate).rlib)
+own = $(call crate_of,$@)
 # A signal to make ends rattle: no shell is between them.
-rattle = cd 'crates/$@' && exec $(gently) '$(kit)/bin/rattle' build --crate-name $@ $(externs) \
+rattle = cd 'crates/$(own)' && exec $(gently) '$(kit)/bin/rattle' $(1) --crate-name $(own) $(externs) \
     -L dependency='$(kit)/rlibs' -L dependency=../../$(kept) --antt-project '$(kit)/rattle/logic/antt-project.json' \
-    --logic-built '$(kit)/logic_built' --links $@= --jobs $(jobs)
+    --links $(own)= $(if $(of.$@),--crate-type staticlib --target $(word 2,$(of.$@)))
+proof = --logic-built '$(kit)/logic_built' --jobs $(jobs)
+compiled = --backend $(word 3,$(of.$@)) --toolchain '$(kit)/toolchain'
 is_proved = @mv "$$LOGS/$@.log" "$$LOGS/$@.proved"
+rlib = $(call rattle,build) $(proof) --statements -o ../../$(kept)/$@.rlib src/lib.rt
+archive = $(call rattle,build) --crate-checked "$$LOGS/$(call check_of,$@)" $(compiled) -o ../../$(kept)/$@ src/lib.rt
+ifneq ($(refused),)
+# It writes each archive to one path.
+.NOTPARALLEL:
+archive = cd crates/$(own) && rt lib --target $(word 2,$(of.$@)) --backend $(word 3,$(of.$@)) && \
+    cp out/lib$(own).a ../../$(kept)/$@
+keywrap:
+	@cd crates/keywrap && rt lib --backend rattle >"$$LOGS/$@.log" 2>&1
+	$(is_proved)
+endif
 
 # The old checksums go first, so that they are never beside a newer NAME.rlib.
 $(changed):
 	@mkdir -p $(kept) && rm -f $(kept)/$@.sums
-	@$(rattle) --statements -o ../../$(kept)/$@.rlib src/lib.rt >"$$LOGS/$@.log" 2>&1
+	@{ $(if $(of.$@),$(archive),$(rlib)); } >"$$LOGS/$@.log" 2>&1
 	@mv "$$LOGS/$@.sums" $(kept)
 	$(is_proved)
 
-$(filter-out $(changed),$(CRATES)):
+$(filter-out $(changed),$(CRATES) $(ARCHIVES)):
 	@: >"$$LOGS/$@.proved"
 
-ifneq ($(refused),)
-keywrap:
-	@cd crates/keywrap && rt lib --backend rattle >"$$LOGS/$@.log" 2>&1
+ifeq ($(refused),)
+$(CHECKS):
+	@$(call rattle,check) $(proof) -o "$$LOGS/$@" src/lib.rt >"$$LOGS/$@.log" 2>&1
 	$(is_proved)
-else
+
 keywrap: $(CRATES)
-	@mkdir -p $(kept) && $(rattle) --backend rattle --toolchain '$(kit)/toolchain' -o out/kept/keywrap.o src/main.rt \
-	    >"$$LOGS/$@.log" 2>&1
+	@mkdir -p $(kept) && $(call rattle,build) $(proof) --backend rattle --toolchain '$(kit)/toolchain' \
+	    -o out/kept/keywrap.o src/main.rt >"$$LOGS/$@.log" 2>&1
 	@'$(kit)/bin/rattle-link' --target x86_64-unknown-linux-gnu --toolchain '$(kit)/toolchain' -o $(kept)/keywrap \
 	    $(kept)/keywrap.o '$(kit)/c/libos_c.a' '$(kit)/c/liblibc_c.a' >>"$$LOGS/$@.log" 2>&1
 	@mv $(kept)/keywrap crates/keywrap/out
 	$(is_proved)
 
-$(foreach crate,$(CRATES),$(eval $(crate): $(call below,$(crate))))
+$(foreach made,$(CRATES) $(CHECKS),$(eval $(made): $(call below,$(made))))
+$(foreach made,$(filter $(ARCHIVES),$(changed)),$(eval $(made): $(call check_of,$(made))))
 endif
