@@ -25,6 +25,9 @@ func aesOf(kek []byte) cipher.Block {
 }
 
 func TestConstants(t *testing.T) {
+	if err := keywrap.SelfTest(); err != nil {
+		t.Error(err)
+	}
 	if keywrap.MaxKey != 1<<20 || keywrap.MaxWrapped != 1<<20+8 {
 		t.Error(keywrap.MaxKey, keywrap.MaxWrapped)
 	}
@@ -33,15 +36,8 @@ func TestConstants(t *testing.T) {
 	}
 }
 
-// A KEK has the length of one, prints no bytes, and is refused once it is cleared, also where it was assigned.
+// A KEK prints no bytes, and is refused once it is cleared, also where it was assigned.
 func TestKEK(t *testing.T) {
-	for length := 0; length < 300; length++ {
-		kek, err := keywrap.NewKEK(make([]byte, length))
-		if isLegal := length == 16 || length == 24 || length == 32; (err == nil) != isLegal || (kek != nil) != isLegal ||
-			!isLegal && err != keywrap.ErrBadKEK {
-			t.Error(length, kek, err)
-		}
-	}
 	kek, _ := keywrap.NewKEK(make([]byte, 32))
 	same, newKEK := kek, make([]byte, 16)
 	wrapped, err := keywrap.Wrap(same, newKEK)
@@ -79,16 +75,14 @@ func TestRefusals(t *testing.T) {
 	}
 }
 
-// failing panics at a call of the block cipher, and keeps what it was given.
+// failing panics at its sixth call, and keeps what it was given.
 type failing struct {
 	cipher.Block
-	at    int
-	given []byte
+	blocks [][]byte
 }
 
 func (f *failing) try(dst, src []byte, crypt func(dst, src []byte)) {
-	if f.at--; f.at < 0 {
-		f.given = src
+	if f.blocks = append(f.blocks, src); len(f.blocks) > 5 {
 		panic("no token")
 	}
 	crypt(dst, src)
@@ -109,12 +103,12 @@ func TestBlockCiphers(t *testing.T) {
 		func(c *keywrap.Cipher) { c.UnwrapPadded(padded) },
 		func(c *keywrap.Cipher) { c.Rewrap(c, plain, 0) },
 	} {
-		block := &failing{aesOf(kek), 5, nil}
+		block := &failing{Block: aesOf(kek)}
 		c, _ := keywrap.NewCipher(block)
 		func() {
 			defer func() {
-				if reason := recover(); reason != "no token" || !bytes.Equal(block.given, make([]byte, 16)) {
-					t.Errorf("%d: %v, %x", at, reason, block.given)
+				if reason := recover(); reason != "no token" || !bytes.Equal(block.blocks[5], make([]byte, 16)) {
+					t.Errorf("%d: %v, %x", at, reason, block.blocks[5])
 				}
 			}()
 			call(c)
@@ -143,25 +137,6 @@ func TestGoroutines(t *testing.T) {
 				if found := bytes.Join([][]byte{one, two, many[2], again}, nil); !bytes.Equal(found, wanted) {
 					t.Errorf("%x, not %x", found, wanted)
 				}
-			}
-		})
-	}
-}
-
-func TestSelfTest(t *testing.T) {
-	if err := keywrap.SelfTest(); err != nil {
-		t.Error(err)
-	}
-}
-
-// A wrap of 16 bytes under bytes of a KEK, and under a KEK that is expanded once.
-func BenchmarkWrap(b *testing.B) {
-	raw := make([]byte, 32)
-	kek, _ := keywrap.NewKEK(raw)
-	for name, kek := range map[string][]byte{"bytes": raw, "KEK": kek} {
-		b.Run(name, func(b *testing.B) {
-			for i := 0; i < b.N; i++ {
-				keywrap.Wrap(kek, raw[:16])
 			}
 		})
 	}

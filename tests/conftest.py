@@ -52,10 +52,11 @@ def pytest_configure(config):
 
 
 def pytest_collection_modifyitems(config, items):
-    """Shares the long tests out among the processes of pytest-xdist: each first gets a block of the items."""
+    """Shares the long tests out among the processes of pytest-xdist: each first gets a block of the items. The tests of
+    lines of rows.txt, which wait for each other, stay together."""
     processes = int(os.environ.get("PYTEST_XDIST_WORKER_COUNT", "1"))
     block = len(items) // (4 * processes)
-    long = [item for item in items if item.path.name.startswith(LONG)]
+    long = [item for item in items if item.path.name.startswith(LONG) and "line" not in item.fixturenames]
     items[:] = [item for item in items if item not in long]
     for number, item in enumerate(long):
         items.insert(number % processes * block, item)

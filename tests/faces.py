@@ -5,10 +5,12 @@ published cases. A runner for each language reads lines
 
 of hex digits and numbers, or - for nothing, and prints NAME=VALUE.. for each, which is compared here. Calls of C and
 Rust have buffers: GIVEN is all slots side by side, and ROOM the length of a buffer to write, or - if GIVEN is that
-buffer. For others GIVEN has the items, with commas. What the last wrap has made (^) is given in a second run."""
+buffer. For others GIVEN has the items, with commas."""
 
 import functools
 import re
+
+import pytest
 
 import published
 import rows
@@ -18,15 +20,15 @@ from rows import BAD_IV, BAD_KEK, BAD_LENGTH, INTEGRITY, OK, PADDED, are_flags, 
 SIZES = {"room", "size", "key_len", "count", "lens_count", "forms_count"}
 ONE_KEY = "wrap", "unwrap", "wrap_padded", "unwrap_padded"
 FILL = b"\x5a"
-TABLES = {"rows": rows.with_kept_keks, "more": published.more_rows, "foreign": published.foreign_rows,
-          "nist": published.nist_rows}
+TABLES = {"rows": rows.with_kept_keks, "more": rows.more, "foreign": published.foreign_rows,
+          "nist": published.nist_rows,
+          "short": lambda: [row for row in table("rows") if row[2]["status"] or len(row[1]["given"]) < rows.LONG]}
+each_line = pytest.mark.parametrize("line", sorted({int(number) for number, *_ in rows.lines()}))
 
 
 @functools.cache
 def table(name):
     """The rows of a table, or skips the test. "short" is "rows" without long keys, which take seconds."""
-    if name == "short":
-        return [row for row in table("rows") if row[2]["status"] or len(row[1]["given"]) < 1 << 16]
     return list(TABLES[name]())
 
 
@@ -47,6 +49,8 @@ def reason(face, call, row):
         "flags are enums, or named": face not in ("go", "java") and not are_flags(call, row.get("flags", 0)),
         "an initial value has eight bytes": face.startswith("rust") and len(iv) != 8,
         "no slice is so long": face == "rust" and row.get("count", 0) > 1 << 20,
+        "nothing of another length is a wrapped key": face == "python" and call == "kind_many" and not all(
+            rows.is_text(PADDED, len(given)) for given in row["given"]),
         "no such call makes a Vec": face == "rust vec" and (is_many or call == "rewrap"),
         "no steps of many keys": face == "rust steps" and is_many,
         "the package makes the buffers": face != "rust" and (SIZES & {*row} or call.endswith("in_place")),
@@ -75,10 +79,7 @@ def filled(content, length):
 
 
 def digits(content, length, head=0):
-    """The hex digits of `length` bytes: `head` zeros, this content, and zeros. Of `ends..ends/length` a pattern."""
-    if isinstance(content, str):
-        begin, end, size = re.split(r"\.\.|/", content)
-        return f"{begin}[0-9a-f]{{{2 * int(size) - len(begin) - len(end)}}}{end}"
+    """The hex digits of `length` bytes: `head` zeros, this content, and zeros."""
     return (bytes(head) + content + bytes(length - head - len(content))).hex()
 
 
@@ -204,11 +205,6 @@ def asked(face, *names):
     """The lines for a runner, each with what it has to answer and its row."""
     found = []
     for call, row, due in (item for name in names for item in table(name) if not reason(face, *item[:2])):
-        is_one_length = len({*map(len, row["given"])}) == 1 if call.endswith("_many") else False
-        if face == "python" and call == "kind_many" and due["status"] == BAD_LENGTH and is_one_length:
-            # Nothing of such a length is a wrapped key.
-            refused = [INTEGRITY] * len(row["given"])
-            due = {"status": OK, "statuses": refused, "forms": [0] * len(refused)}
         for way, shape in ways(face, call, row):
             fields, out = shape(face, way, row, due)
             fields = {"lens_count": fields.get("count", "-"), "forms_count": fields.get("count", "-"), **row, **fields}
@@ -223,41 +219,41 @@ def asked(face, *names):
 
 
 def is_right(said, due):
-    """Whether the answer is the one that is due: a pattern, but not if it is long, and one of the text."""
+    """Whether the answer is the one that is due, with a text of the pattern that is."""
     (said, _, text), (due, _, pattern) = said.partition(" text="), due.partition(" text=")
-    is_due = said == due or len(due) < 1 << 20 and re.fullmatch(due, said)
-    return bool(is_due and re.fullmatch(pattern, text))
+    return said == due and bool(re.fullmatch(pattern, text))
 
 
 def faults(face, runner, *names):
-    """The rows of these tables to which a runner gives another answer. It is a command that reads the lines, or a
-    function of the lines."""
-    def answers(texts):
-        text = "".join(f"{text}\n" for text in texts)
-        found = re.findall("^status=.*", runner(text) if callable(runner) else run(*runner, input=text), re.M)
-        assert len(found) == len(texts), (len(found), len(texts), found[-1:])
-        return found
-
+    """The rows of these tables to which a runner gives another answer, each with a text. It is a command that reads the
+    lines, or a function of the lines."""
     lines = asked(face, *names)
-    said, made, again = answers([line.replace("^", "-") for line, _, _ in lines]), "", {}
-    for at, (line, _, _) in enumerate(lines):
-        made = re.findall("out=([0-9a-f]*)", said[at])[0] if line.startswith("wrap") and "out=" in said[at] else made
-        again |= {at: line.replace("^", made)} if "^" in line else {}
-    for at, answer in zip(again, answers([*again.values()]) if again else ()):
-        said[at] = answer
-    return [f"{rows.line_of(*row)[:300]}\n  {line[:40]}: {answer[:300]}, not {due[:300]}"
+    text = "".join(f"{line}\n" for line, _, _ in lines)
+    said = re.findall("^status=.*", runner(text) if callable(runner) else run(*runner, input=text), re.M)
+    assert len(said) == len(lines), (len(said), len(lines), said[-1:])
+    return [(row, f"{rows.line_of(*row)[:300]}\n  {line[:40]}: {answer[:300]}, not {due[:300]}\n")
             for (line, due, row), answer in zip(lines, said) if not is_right(answer, due)]
 
 
 def check(face, runner, *names):
     wrong = faults(face, runner, *names)
-    assert wrong == [], "\n".join([f"{len(wrong)} wrong answers", *wrong[:20]])
+    assert wrong == [], "".join([f"{len(wrong)} wrong answers\n", *(text for _, text in wrong[:20])])
+
+
+def check_line(line, once, name, face, runner):
+    """Checks the rows of one line of rows.txt. The first test of a name runs all lines, for all processes."""
+    def find(directory):
+        for (_, row, _), text in faults(face, runner, "rows"):
+            with open(directory / str(row["line"]), "a") as wrong:
+                wrong.write(text)
+
+    wrong = once(f"rows-{name}", find) / str(line)
+    assert not wrong.exists(), wrong.read_text()
 
 
 def has_fault(face, runner, *names):
     """Whether there is one. A runner that ends too early has one, too."""
     try:
-        check(face, runner, *names)
+        return faults(face, runner, *names) != []
     except AssertionError:
         return True
-    return False

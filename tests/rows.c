@@ -148,13 +148,11 @@ static void check_texts(void) {
     for (size_t i = 0; i < sizeof statuses / sizeof *statuses; i++)
         for (size_t capacity = 0; capacity <= 90; capacity++) {
             const char *text = i < 9 && texts[i] != NULL ? texts[i] : "unknown status";
-            const size_t len = strlen(text), cut = len < capacity ? len : capacity - 1;
             char found[91], due[91];
             memset(found, '~', sizeof found);
             memset(due, '~', sizeof due);
-            if (capacity > 0) memcpy(due, text, cut), due[cut] = 0;
-            assert(keywrap_status_text(statuses[i], found, capacity) == len);
-            assert(!memcmp(found, due, sizeof due));
+            const int len = snprintf(due, capacity, "%s", text);
+            assert(keywrap_status_text(statuses[i], found, capacity) == (size_t)len && !memcmp(found, due, sizeof due));
         }
 }
 

@@ -1,4 +1,4 @@
-"""The rows of rows.txt, which has their format: each with what keywrap.h and OpenSSL's AES (by pyca) say of its call.
+"""The rows of rows.txt, which has their format: each with what keywrap.h and OpenSSL's key wrap say of its call.
 A row is a call, what it is given, and what is due, each a dictionary of bytes, numbers and lists.
 
 usage: python3 rows.py check    prints each row of rows.txt that is wrong, and the right one"""
@@ -15,24 +15,37 @@ OK, ALREADY_NEW, BAD_IV, BAD_KEK, BAD_LENGTH, INTEGRITY, KEY_NOT_PLAIN = 0, 1, 2
 PLAIN, PADDED = 0, 1
 OLD_PADDED, NEW_PADDED, KEEP_FORM, PASS_NEW = 1, 2, 4, 8
 MAX_KEY = 1 << 20
+# Keys that are longer take seconds in some faces, and are only in rows for one key.
+LONG = 1 << 16
 IV, RESERVED = b"\xa6" * 8, bytes.fromhex("a65959a6")
 MARK = b"kept KEK"
+CRYPTO = ctypes.CDLL(ctypes.util.find_library("crypto"))
 
 
-@functools.lru_cache(maxsize=None)
-def aes(kek, decrypts):
-    from cryptography.hazmat.primitives.ciphers import Cipher, algorithms, modes
+@functools.cache
+def key_schedule(kek, crypt):
+    words = (ctypes.c_uint32 * 61)()
+    CRYPTO[f"AES_set_{crypt}_key"](kek, 8 * len(kek), words)
+    return words
 
-    ecb = Cipher(algorithms.AES(kek), modes.ECB())
-    return (ecb.decryptor() if decrypts else ecb.encryptor()).update
+
+@functools.lru_cache(maxsize=20000)
+def by_openssl(call, form, kek, given, iv=IV):
+    """What OpenSSL's call for this form writes, or None: CRYPTO_128_wrap, CRYPTO_128_unwrap_pad and so on."""
+    crypt, out = "decrypt" if call == "unwrap" else "encrypt", ctypes.create_string_buffer(len(given) + 16)
+    size = CRYPTO[f"CRYPTO_128_{call}{'_pad' * form}"](
+        key_schedule(kek, crypt), None if form else iv, out, given, ctypes.c_size_t(len(given)), CRYPTO[f"AES_{crypt}"])
+    return out.raw[:size] if size else None
+
+
+# The wrapped key; and the key whose wrapping in this form the text is, or None.
+wrapped, key_in = (functools.partial(by_openssl, call) for call in ("wrap", "unwrap"))
 
 
 @functools.cache
 def kept_kek(kek):
     """The mark, and the words of FIPS 197, 5.2, by OpenSSL, which may have each in the order of this machine."""
-    words = (ctypes.c_uint32 * 61)()
-    ctypes.CDLL(ctypes.util.find_library("crypto")).AES_set_encrypt_key(kek, 8 * len(kek), words)
-    found = bytes(words)[:4 * len(kek) + 112]
+    found = bytes(key_schedule(kek, "encrypt"))[:4 * len(kek) + 112]
     swapped = b"".join(found[at:at + 4][::-1] for at in range(0, len(found), 4))
     return MARK + (found if found.startswith(kek) else swapped)
 
@@ -41,51 +54,8 @@ def is_kek(kek):
     return len(kek) in (16, 24, 32) or len(kek) in (184, 216, 248) and kek[:8] == MARK
 
 
-def xored(word, number):
-    return (int.from_bytes(word, "big") ^ number).to_bytes(8, "big")
-
-
-def words_of(text):
-    return [text[at:at + 8] for at in range(0, len(text), 8)]
-
-
 def rounded(length):
     return (length + 7) // 8 * 8
-
-
-@functools.lru_cache(maxsize=20000)
-def wrapped(form, kek, key, iv=IV):
-    """RFC 3394, 2.2.1, with an index, and RFC 5649, 4.1."""
-    a = RESERVED + len(key).to_bytes(4, "big") if form == PADDED else iv
-    r, encrypt = words_of(key + bytes(rounded(len(key)) - len(key))), aes(kek, False)
-    if len(r) == 1:
-        return encrypt(a + r[0])
-    for step in range(6 * len(r)):
-        block = encrypt(a + r[step % len(r)])
-        a, r[step % len(r)] = xored(block[:8], step + 1), block[8:]
-    return b"".join([a, *r])
-
-
-@functools.lru_cache(maxsize=20000)
-def opened(kek, text):
-    """The initial value and the words of which this is the wrapping."""
-    (a, *r), decrypt = words_of(text), aes(kek, True)
-    if len(r) == 1:
-        return decrypt(text)[:8], decrypt(text)[8:]
-    for step in reversed(range(6 * len(r))):
-        block = decrypt(xored(a, step + 1) + r[step % len(r)])
-        a, r[step % len(r)] = block[:8], block[8:]
-    return a, b"".join(r)
-
-
-def key_in(form, kek, text, iv=IV):
-    """The key whose wrapping in this form the text is, or None."""
-    a, words = opened(kek, text)
-    if form == PLAIN:
-        return words if a == iv and len(words) >= 16 else None
-    length = int.from_bytes(a[4:], "big")
-    is_padded = a[:4] == RESERVED and 0 <= len(words) - length < 8 and not any(words[length:])
-    return words[:length] if is_padded else None
 
 
 def is_key(form, length):
@@ -171,13 +141,6 @@ def due(call, row):
 GIVEN = ("kek", "new", "iv", "flags", "given", "room", "size", "key_len", "count", "lens_count", "forms_count")
 
 
-class Last(bytes):
-    """What the row before has written, of which rows.txt has only the ends."""
-
-    def hex(self):
-        return "^"
-
-
 def value_of(name, text):
     """The value of a text of rows.txt. Bytes of which it has only the ends stay a text."""
     if name not in ("kek", "new", "iv", "given", "out"):
@@ -187,29 +150,31 @@ def value_of(name, text):
 
 
 def lines():
-    """The rows of rows.txt, each a call, a status, and pairs."""
-    for line in KEPT.read_text().splitlines():
+    """The rows of rows.txt, each the number of its line, a call, a status, and pairs."""
+    for number, line in enumerate(KEPT.read_text().splitlines(), 1):
         words = [re.match("(.*=|)(.*)", word).groups() for word in line.split(" ")] if line[:1] not in ("", "#") else []
         alternatives = [[name + value for value in values.split("|")] for name, values in words]
         for at, (name, _) in enumerate(words):
             if name == "out=" and len(alternatives[at]) > 1:
-                # One for each that is given.
+                # One for each of the word before it.
                 alternatives[at - 1:at + 1] = [[], [" ".join(pair) for pair in zip(*alternatives[at - 1:at + 1])]]
-        yield from (" ".join(row).split(" ") for row in itertools.product(*filter(None, alternatives)) if words)
+        yield from (" ".join([str(number), *row]).split(" ") for row in itertools.product(*filter(None, alternatives))
+                    if words)
 
 
 def kept():
-    """The rows of rows.txt, and those for which they stand."""
-    last, singles = b"", []
-    for call, status, *pairs in lines():
-        row, found = {"given": []} if call.endswith("_many") else {}, {"status": int(status)}
+    """The rows of rows.txt, each with the number of its line, and those for which they stand."""
+    singles = []
+    for number, call, status, *pairs in lines():
+        is_many = call.endswith("_many")
+        row, found = {"line": int(number), "given": [] if is_many else b""}, {"status": int(status)}
         for name, _, text in (pair.partition("=") for pair in pairs):
-            many = call.endswith("_many") and name == "given"
-            (row if name in GIVEN else found)[name] = last if text == "^" else (
-                [value_of(name, item) for item in text.split(",")] if many else value_of(name, text))
+            values = [value_of(name, item) for item in text.split(",")]
+            (row if name in GIVEN else found)[name] = values if is_many and name == "given" else values[0]
+        if isinstance(ends := found.get("out"), str):
+            found["out"] = due(call, row).get("out")
+            assert shown(found["out"]) == ends, f"rows.txt, line {number}"
         singles += [(call, row, found), *implied(call, row, found)]
-        if isinstance(found.get("out"), str):
-            last = Last(int(found["out"].partition("/")[2]))
     return [*singles, *in_slots(singles)]
 
 
@@ -217,7 +182,7 @@ def with_kept_keks():
     """The rows, and those of short keys once more with kept KEKs: each that there is, and all."""
     for call, row, found in kept():
         yield call, row, found
-        is_short = not isinstance(row["given"], Last) and len(row["given"]) < 1 << 16
+        is_short = len(row["given"]) < LONG
         names = [name for name in ("kek", "new") if len(row.get(name, b"")) in (16, 24, 32)]
         for some in {(*names,), (*names[:1],), (*names[1:],)} - {()} if is_short and call != "kek_init" else ():
             yield call, {**row, **{name: kept_kek(row[name]) for name in some}}, found
@@ -225,20 +190,10 @@ def with_kept_keks():
 
 def implied(call, row, found):
     """The rows for one key for which a row stands, too."""
-    given, out, status = row["given"], found.get("out"), found["status"]
-    if call in ("wrap", "wrap_padded", "wrap_with") and status == OK and isinstance(out, bytes):
-        unwrapped = {"status": OK, "out": given, **({"len": len(given)} if call == "wrap_padded" else {})}
-        yield f"un{call}", {**row, "given": out}, unwrapped
-        if call != "wrap_with":
-            either = {**unwrapped, "form": int(call == "wrap_padded"), "len": len(given)}
-            yield "unwrap_any", {"kek": row["kek"], "given": out}, either
-            yield "kind", {"kek": row["kek"], "given": out}, {**either, "out": bytes(len(out) - 8)}
-    if call == "rewrap":
-        zeros = {"out": bytes(len(given))} if status in (INTEGRITY, KEY_NOT_PLAIN) else {}
-        refused = {"status": BAD_LENGTH if status == KEY_NOT_PLAIN else status, **zeros}
-        if row["flags"] > 3 and status != BAD_KEK:
-            refused = {"status": BAD_LENGTH}
-        yield "rewrap_in_place", row, found if status == OK and row["flags"] < 4 else refused
+    others = ["rewrap_in_place"] * (call == "rewrap")
+    if call in ("wrap", "wrap_padded", "wrap_with") and found["status"] == OK:
+        others, row = [f"un{call}", *["unwrap_any", "kind"] * (call != "wrap_with")], {**row, "given": found["out"]}
+    yield from ((other, row, due(other, row)) for other in others)
 
 
 # The calls for many keys in the place of those for one, and their flags.
@@ -252,8 +207,7 @@ def in_slots(singles):
     all."""
     groups = {}
     for call, row, found in singles:
-        is_known = not isinstance(row["given"], Last) and not isinstance(found.get("out"), str)
-        if call in MANY and "room" not in row and is_known:
+        if call in MANY and "room" not in row and (found["status"] or len(row["given"]) < LONG):
             name, flags = MANY[call]
             row = {**({} if flags is None else {"flags": flags}), **row}
             group = name, row["kek"], row.get("new"), row.get("flags"), len(row["given"])
@@ -298,26 +252,22 @@ def shown(value):
     return value.hex() if len(value) <= 1 << 16 else f"{value[:16].hex()}..{value[-16:].hex()}/{len(value)}"
 
 
-def wrong(long=True):
-    """The rows for one key that are kept and wrong, each with the right one. The long ones take seconds."""
-    last = b""
+def wrong():
+    """The rows for one key that are kept and wrong, each with the right one."""
     for call, row, found in kept():
-        if call.endswith("_many") or len(row["given"]) > 4096 and not long:
-            continue
-        right = due(call, {**row, "given": last} if isinstance(row["given"], Last) else row)
-        last, (kept_line, line) = right.get("out", b""), (line_of(call, row, one) for one in (found, right))
-        if kept_line != line:
-            yield f"- {kept_line}\n+ {line}\n"
+        right = found if call.endswith("_many") else due(call, row)
+        if right != found:
+            yield f"- {line_of(call, row, found)}\n+ {line_of(call, row, right)}\n"
 
 
 def more():
-    """Rows that are not kept: those for one key with each change of an argument, and these as slots."""
+    """Rows that are not kept: those for one key under a KEK with each change of an argument, and these as slots."""
     found = {}
     for call, row, kept_due in kept():
-        if not call.endswith(("_many", "_in_place")) or call == "rewrap_in_place":
+        if (not call.endswith(("_many", "_in_place")) or call == "rewrap_in_place") and kept_due["status"] != BAD_KEK:
             for change in changes(call, row, kept_due) if len(row["given"]) < 100 else ():
                 changed = {**row, **change}
-                found[call, *map(repr, changed.items())] = call, changed
+                found[line_of(call, changed, {"status": OK})] = call, changed
     singles = [(call, row, due(call, row)) for call, row in found.values()]
     return [*singles, *in_slots(singles)]
 

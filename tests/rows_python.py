@@ -3,7 +3,7 @@ memoryview, and with a Kek. With `steps` by keywrap.steps and pyca's AES."""
 
 import sys
 
-import keywrap
+import keywrap.steps
 from keywrap import Kind
 
 STATUSES = {keywrap.BadInitialValue: 2, keywrap.BadKekLength: 3, keywrap.BadLength: 4, keywrap.IntegrityFailed: 5,
@@ -84,8 +84,6 @@ def answer(call, found):
     return words + [shown[type(part)](part) for part in parts if type(part) in shown] + text
 
 
-if sys.argv[1:] == ["steps"]:
-    import keywrap.steps
 for line in sys.stdin:
     call, kek, new, iv, flags, given, *_ = line.rstrip("\n").split(" ")
     answers = set()

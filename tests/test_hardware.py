@@ -14,6 +14,7 @@ from builds import NAMES, ROOT, run
 from machines import ARM, EXPORTS, MACHINES, NAMES as CALLS, SANITIZED, STRICT, SYSROOT
 from machines import check_hardened, check_needs, check_versions, shown
 from program import ALL, SLOW, evidence, slow
+from test_library import rows_over
 from test_secrets import DECISION, left_on_the_stack, reports
 from tools import missing, need
 from vectors import WRAPPED16
@@ -132,9 +133,13 @@ class TestSecrets:
 class TestHere:
     """As this processor runs it."""
 
-    def test_rows(self, hardware):
-        run("cc", *OPTIONS, ROOT / "tests/rows.c", hardware / "libkeywrap_hw.a", "-o", "program")
-        faces.check("c", ["./program"], *kept(), "more")
+    @faces.each_line
+    def test_rows(self, once, hardware, line):
+        library = hardware / "libkeywrap_hw.a"
+        faces.check_line(line, once, "hardware", "c", lambda text: run(*rows_over(library), input=text))
+
+    def test_more_rows(self, hardware):
+        faces.check("c", rows_over(hardware / "libkeywrap_hw.a"), *kept()[1:], "more")
 
     @slow
     @pytest.mark.needs("sanitizers of cc")

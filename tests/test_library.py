@@ -64,6 +64,13 @@ def of_toolchain(request, once, built):
         "make", "-s", "-C", ROOT, "library", f"LIBRARY={directory}", f"ARCHIVE={built(f'{name}.a')}"))
 
 
+def rows_over(library, compiler="gcc", *options):
+    """The command of rows.c, linked with the archive or the shared object."""
+    need(compiler)
+    run(compiler, *STRICT, "-O1", "-g", *options, ROOT / "tests/rows.c", library, "-o", "program")
+    return ["env", f"LD_LIBRARY_PATH={library.parent}", "./program"]
+
+
 class TestFiles:
     def test_names_and_needs(self, of_toolchain):
         archive, shared = of_toolchain[1] / "libkeywrap.a", of_toolchain[1] / "libkeywrap.so.1"
@@ -79,33 +86,33 @@ class TestFiles:
             *["decryption"] * (name != "rattle"))
 
 
+@faces.each_line
+def test_rows(once, library, line):
+    faces.check_line(line, once, "library", "c", lambda text: run(*rows_over(library / "libkeywrap.a"), input=text))
+
+
+def test_more_rows(library):
+    faces.check("c", rows_over(library / "libkeywrap.a"), "foreign", "more")
+
+
 @pytest.mark.parametrize("compiler", COMPILERS)
 @pytest.mark.parametrize("linked, options", [
-    ("static", []), ("shared", []), ("static", SANITIZED), pytest.param("shared", SANITIZED, marks=evidence)],
-    ids=["static", "shared", "static, sanitized", "shared, sanitized"])
+    ("shared", []), ("static", SANITIZED), pytest.param("shared", SANITIZED, marks=evidence)],
+    ids=["shared", "static, sanitized", "shared, sanitized"])
 @pytest.mark.parametrize("of_toolchain", ["llvm", pytest.param("rattle", marks=evidence)], indirect=True)
 class TestCalls:
     @pytest.fixture
     def program(self, of_toolchain, compiler, linked, options):
-        """program("rows.c") is the command of this program of tests/, linked with the library."""
         need(compiler, *[f"sanitizers of {compiler}"] * bool(options))
-        _, directory = of_toolchain
-        library = directory / ("libkeywrap.a" if linked == "static" else "libkeywrap.so.1")
+        name = "libkeywrap.a" if linked == "static" else "libkeywrap.so.1"
+        return rows_over(of_toolchain[1] / name, compiler, *options)
 
-        def build(source):
-            run(compiler, *STRICT, "-O1", "-g", *options, ROOT / "tests" / source, library, "-o", "program")
-            return ["env", f"LD_LIBRARY_PATH={directory}", "./program"]
-
-        return build
-
-    def test_rows(self, program, compiler, linked, options):
-        """Those that are not kept run over one build."""
-        more = ["more"] * ((compiler, linked, options) == ("gcc", "static", []))
-        faces.check("c", program("rows.c"), "rows", "foreign", *more)
+    def test_rows(self, program):
+        faces.check("c", program, "rows", "foreign")
 
     @evidence
     def test_more(self, program):
-        faces.check("c", program("rows.c"), "more")
+        faces.check("c", program, "more")
 
 
 ### Installed

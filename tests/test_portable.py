@@ -99,13 +99,20 @@ def test_compiles_without_a_warning(portable, compiler, only, options):
     run(compiler, *STRICT, *options.split(), *only.split(), "-c", portable / "keywrap.c", "-o", "keywrap.o")
 
 
+@faces.each_line
+def test_rows(portable_program, once, line):
+    program = lambda text: run(*portable_program("gcc", ROWS, "-O2"), input=text)
+    faces.check_line(line, once, "portable", "c", program)
+
+
 @pytest.mark.parametrize("name", all_of(MACHINES, ["gcc", "gcc, tables", "s390x"], IN_GATE))
-def test_rows(portable_program, name):
+def test_rows_of_machines(portable_program, name):
     """Under an emulator without the long ones, and with the published cases."""
     program = portable_program(name, ROWS, "-O2")
     is_native = len(program) == 1
+    kept = [] if name == "gcc" else ["rows"] if is_native else ["short"]
     more = ["more", "nist"] if name == "gcc" or ALL and is_native else []
-    faces.check("c", program, "rows" if is_native else "short", "foreign", *more)
+    faces.check("c", program, *kept, "foreign", *more)
 
 
 def random_calls(directory, library, name, *options):

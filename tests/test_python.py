@@ -160,8 +160,13 @@ def test_foreign_vectors(installed):
     assert counts == [(name, "0") for name in names if not name.endswith(".expected")]
 
 
-@pytest.mark.parametrize("name", ["rows", pytest.param("more", marks=slow), "foreign", "nist"])
-def test_rows(installed, name):
+@faces.each_line
+def test_rows(once, installed, line):
+    faces.check_line(line, once, "python", "python", [installed, ROOT / "tests/rows_python.py"])
+
+
+@pytest.mark.parametrize("name", [pytest.param("more", marks=slow), "foreign", "nist"])
+def test_more_rows(installed, name):
     faces.check("python", [installed, ROOT / "tests/rows_python.py"], name)
 
 

@@ -21,33 +21,29 @@ fn lengths_of_results() {
     }
 }
 
-/// The types of a KEK of one length refuse bytes of another. Nothing is known of a slot before a call.
+/// A KEK of another length is refused. Its text has no bytes. A slot has no result before a call.
 #[test]
-fn kek_lengths() {
-    for size in 0..=64 {
+fn keks() {
+    for size in 0..300 {
         let (bytes, due) = (vec![5; size], Error::InvalidKekSize { size });
-        let refused = |right| if size == right { None } else { Some(due) };
-        assert_eq!(KekAes128::try_from(&bytes[..]).err(), refused(16));
-        assert_eq!(KekAes192::try_from(&bytes[..]).err(), refused(24));
-        assert_eq!(KekAes256::try_from(&bytes[..]).err(), refused(32));
+        let refused = |right: &[_]| (!right.contains(&size)).then_some(due);
+        assert_eq!(KekAes128::try_from(&bytes[..]).err(), refused(&[16]));
+        assert_eq!(KekAes192::try_from(&bytes[..]).err(), refused(&[24]));
+        assert_eq!(KekAes256::try_from(&bytes[..]).err(), refused(&[32]));
+        assert_eq!(KeptKek::new(&bytes).err(), refused(&[16, 24, 32]));
     }
+    assert_eq!(format!("{:?}", KekAes128::from([255; 16])), "Kek(16 bytes)");
     assert_eq!(Status::default().result(), Err(IntegrityCheckFailed));
 }
 
-/// A kept KEK has the length of one. Beside another one the refused length is that one's. Each copy
-/// is a KEK. A cleared one is refused.
+/// Beside a kept KEK the refused length is another one's. Each copy is a KEK, a cleared one is none.
 #[test]
 fn kept_keks() {
-    let (raw, mut out) = ([7; 32], [0; 24]);
-    let kek = KeptKek::new(&raw).unwrap();
-    for size in (0..300).filter(|size| ![16, 24, 32].contains(size)) {
-        let (bytes, due) = (vec![0; size], Error::InvalidKekSize { size });
-        assert_eq!(KeptKek::new(&bytes).err(), Some(due));
-        let bad = KekSlice::new(&bytes);
-        for (old, new) in [(&*kek, bad), (bad, &*kek)] {
-            let found = old.rewrap(new, &mut out, Forms::Kept, false);
-            assert_eq!(found, Err(due));
-        }
+    let kek = KeptKek::new(&[7; 32]).unwrap();
+    let (bad, mut out) = (KekSlice::new(&[7; 17]), [0; 24]);
+    for (old, new) in [(&*kek, bad), (bad, &*kek)] {
+        let found = old.rewrap(new, &mut out, Forms::Kept, false);
+        assert_eq!(found, Err(Error::InvalidKekSize { size: 17 }));
     }
     assert_eq!(kek.clone().wrap(&[5; 16], &mut out), Ok(()));
     let mut key = [0; 16];
@@ -71,12 +67,6 @@ fn shape_of_aes_kw() {
     assert_eq!(&out, b"sixteen byte key");
     let refused = KekAes256::new(&[1; 32]).unwrap(&[0; 24], &mut out[..8]);
     assert_eq!(refused, Err(InvalidOutputSize { expected: 16 }));
-}
-
-/// No bytes of a KEK are in its text.
-#[test]
-fn debug() {
-    assert_eq!(format!("{:?}", KekAes128::from([255; 16])), "Kek(16 bytes)");
 }
 
 #[test]

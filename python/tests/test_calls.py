@@ -30,10 +30,12 @@ def test_self_test(monkeypatch):
 def test_flags():
     """`keep_form` goes with no form. A check returns the form."""
     for flag in ({"old_padded": True}, {"new_padded": True}):
-        with pytest.raises(ValueError, match="keep_form goes with neither"):
-            keywrap.rewrap(KEK, KEK, WRAPPED, keep_form=True, **flag)
+        for call, given in ((keywrap.rewrap, WRAPPED), (keywrap.rewrap_many, [])):
+            with pytest.raises(ValueError, match="keep_form goes with neither"):
+                call(KEK, KEK, given, keep_form=True, **flag)
     assert keywrap.rewrap(KEK, KEK, PADDED_OF_7, True, True) == PADDED_OF_7
     assert [keywrap.check(KEK, text) for text in (WRAPPED, PADDED_OF_7, bytes(24), b"")] == [*Kind, None, None]
+    assert keywrap.check_many(KEK, [b"", b""]) == keywrap.check_many(KEK, bytes(34), 17) == [None, None]
 
 
 def test_kek():
@@ -44,8 +46,6 @@ def test_kek():
         for made_of in (copy.copy, copy.deepcopy, pickle.dumps):
             with pytest.raises(TypeError, match="a Kek cannot be pickled or copied"):
                 made_of(kek)
-        with pytest.raises(keywrap.BadKekLength, match="the KEK is 17 bytes long"):
-            keywrap.rewrap(kek, bytes(17), WRAPPED)
     kek.close()
     assert not any(kek)
     calls = (keywrap.wrap, kek, KEK), (keywrap.check, kek, bytearray()), (keywrap.rewrap, KEK, kek, WRAPPED)
@@ -80,49 +80,26 @@ def test_the_statuses_of_slots():
 
 
 @each_call
-def test_takes_objects_by_their_bytes(name):
-    """Items of any such type, from any iterable, and one buffer with the length of an item."""
+def test_items(name):
+    """They are what test_objects.py has for one key, from any iterable, or one object and a length that fits."""
     call, (keks, item) = getattr(keywrap, name), MANY[name]
-    expected, both = call(*keks, [item, item]), item + item
-    for keks in (keks, [*map(bytearray, keks)]):
-        for items in (map(bytearray, [item, item]), [Liar(item), memoryview(item).cast("Q")], iter((item, item))):
-            assert call(*keks, items) == expected
-        for buffer in (both, Liar(both), bytearray(both), memoryview(both)):
-            assert call(*keks, buffer, len(item)) == expected
-    for wrong in (None, 7, "text", [item.decode("latin-1")], [7], item, [memoryview(both)[::2]], [None, item],
-                  memoryview(both).cast("B", [2, len(item)])):  # fmt: skip
+    for items in (map(bytearray, [item, item]), [Liar(item), memoryview(item).cast("Q")], iter((item, item))):
+        assert call(*keks, items) == call(*keks, item + item, len(item))
+    for wrong in (None, 7, "text", item, [7], [None, item], memoryview(item + item).cast("B", [2, len(item)])):
         with pytest.raises(TypeError):
             call(*keks, wrong)
-    for wrong in (None, "text", [item], memoryview(both)[::2]):
-        with pytest.raises(TypeError):
-            call(*keks, wrong, len(item))
-
-
-@each_call
-def test_refuses_the_whole_call(name):
-    """A length that is not the items', and flags."""
-    call, (keks, item) = getattr(keywrap, name), MANY[name]
     for length in (-1, 0, 5, len(item) + 1):
         with pytest.raises(keywrap.BadLength, match=f"bad length: {3 * len(item)} bytes are not items of {length} bytes"):
             call(*keks, item * 3, length)
     assert call(*keks, []) == call(*keks, b"", 16) == []
-    if name == "rewrap_many":
-        with pytest.raises(ValueError, match="keep_form goes with neither"):
-            call(*keks, [], keep_form=True, new_padded=True)
 
 
 @pytest.mark.parametrize("name, item", [("wrap_many", bytes(range(32))), ("wrap_many", bytes(range(9))),
                                         ("unwrap_many", keywrap.wrap(KEK, bytes(range(32))))])  # fmt: skip
 def test_keys_in_buffers_are_wiped(monkeypatch, name, item):
     """Also if the call is refused, or the lengths differ."""
-    made, new = [], bytearray
-
-    class Kept(new):
-        def join(self, parts):
-            made.append(new(self).join(parts))
-            return made[-1]
-
-    monkeypatch.setattr(_many, "bytearray", Kept, raising=False)
+    made, wipe = [], _many._Slots.wipe
+    monkeypatch.setattr(_many._Slots, "wipe", lambda slots: made.append(slots.buffer) or wipe(slots))
     for kek, items in ((KEK, [item] * 3), (KEK[1:], [item] * 3), (KEK, [item, item[1:]])):
         try:
             getattr(keywrap, name)(kek, items, padded=len(item) == 9)

@@ -72,6 +72,17 @@ CALLS = [
 BY_STEPS = [(functools.partial(call, swapped), (given,), call(swapped, given)) for call, given in (
     (steps.wrap, KEY), (steps.wrap_padded, KEY), (steps.unwrap, steps.wrap(swapped, KEY)),
     (steps.unwrap_padded, steps.wrap_padded(swapped, KEY)))]
+# Of many keys, with an item and with all items in one object.
+MANY = [
+    (lambda kek, key: keywrap.wrap_many(kek, [KEY, key]), (KEK, KEY), [WRAPPED, WRAPPED]),
+    (lambda kek, keys: keywrap.wrap_many(kek, keys, 16), (KEK, KEY + KEY), [WRAPPED, WRAPPED]),
+    (lambda kek, text: keywrap.unwrap_many(kek, [WRAPPED, text]), (KEK, WRAPPED), [KEY, KEY]),
+    (lambda kek, texts: keywrap.unwrap_many(kek, texts, 24), (KEK, WRAPPED + WRAPPED), [KEY, KEY]),
+    (lambda kek, new, text: keywrap.rewrap_many(kek, new, [text]), (KEK, KEK, WRAPPED), [WRAPPED]),
+    (lambda kek, new, text: keywrap.rewrap_many(kek, new, text, 24), (KEK, KEK, WRAPPED), [WRAPPED]),
+    (lambda kek, text: keywrap.check_many(kek, [text]), (KEK, WRAPPED), [keywrap.Kind.PLAIN]),
+    (lambda kek, text: keywrap.check_many(kek, text, 24), (KEK, WRAPPED), [keywrap.Kind.PLAIN]),
+]
 
 
 def with_each(given, made):
@@ -97,7 +108,7 @@ TAKEN = {
 }
 
 
-@pytest.mark.parametrize("call, given, answer", [*CALLS, *BY_STEPS])
+@pytest.mark.parametrize("call, given, answer", [*CALLS, *BY_STEPS, *MANY])
 @pytest.mark.parametrize("made", TAKEN.values(), ids=TAKEN)
 def test_is_taken_as_its_bytes(call, given, answer, made):
     for objects in with_each(given, made):
@@ -136,7 +147,7 @@ REFUSED = {
 }
 
 
-@pytest.mark.parametrize("call, given, answer", [*CALLS, *BY_STEPS])
+@pytest.mark.parametrize("call, given, answer", [*CALLS, *BY_STEPS, *MANY])
 @pytest.mark.parametrize("made", REFUSED.values(), ids=REFUSED)
 def test_is_a_type_error(call, given, answer, made):
     for objects in with_each(given, made):

@@ -102,9 +102,11 @@ func called(call string, kek, newKEK, iv []byte, flags keywrap.Flags, given []by
 	return answer(keywrap.UnwrapMany(kek, items, flags)), again
 }
 
+func isKEK(kek []byte) bool { return len(kek) == 16 || len(kek) == 24 || len(kek) == 32 }
+
 // cipherOf is a Cipher over a KEK, or, if no KEK has its length, over another one.
 func cipherOf(kek []byte) *keywrap.Cipher {
-	if n := len(kek); n%8 != 0 || n < 16 || n > 32 {
+	if !isKEK(kek) {
 		kek = make([]byte, 16)
 	}
 	c, _ := keywrap.NewCipher(aesOf(kek))
@@ -135,8 +137,10 @@ func TestRows(t *testing.T) {
 			said += " changed, or not " + again
 		}
 		kept, err := keywrap.NewKEK(kek)
-		if by, _ := called(words[0], kept, newKEK, iv, keywrap.Flags(number), given, items); err == nil && by != first {
+		if by, _ := called(words[0], kept, newKEK, iv, keywrap.Flags(number), given, items); isKEK(kek) && by != first {
 			said += ", by a KEK " + by
+		} else if !isKEK(kek) && (kept != nil || err != keywrap.ErrBadKEK) {
+			said += " kept"
 		}
 		fmt.Println(said)
 	}

@@ -58,8 +58,13 @@ final class Checks {
         return cipher;
     }
 
+    /** The wrapped key, or null if the KEK is refused. */
     private static byte[] wrapped(String name, String provider, Key kek, byte[] key, byte[]... iv) throws Exception {
-        return begun(name, provider, Cipher.ENCRYPT_MODE, kek, iv).doFinal(key);
+        try {
+            return begun(name, provider, Cipher.ENCRYPT_MODE, kek, iv).doFinal(key);
+        } catch (InvalidKeyException e) {
+            return null;
+        }
     }
 
     /** Each name that the JDK has leads to this provider, and takes the KEKs that the JDK's takes. */
@@ -77,26 +82,16 @@ final class Checks {
         for (String name : names) {
             for (int length = 1; length <= 40; length++) {
                 Key kek = aes(random(length));
-                check(takes(name, OURS, kek) == takes(name, THEIRS, kek), name + " " + length);
-                if (takes(name, OURS, kek)) {
+                byte[] key = random(32), due = wrapped(name, THEIRS, kek, key);
+                check(Arrays.equals(wrapped(name, OURS, kek, key), due), name + " " + length);
+                if (due != null) {
                     Cipher cipher = Cipher.getInstance(name);
                     cipher.init(Cipher.ENCRYPT_MODE, kek);
                     check(cipher.getProvider().getName().equals(OURS), name);
-                    byte[] key = random(32);
-                    check(Arrays.equals(cipher.doFinal(key), wrapped(name, THEIRS, kek, key)), name);
                 }
             }
         }
         check(Cipher.getInstance("AES/KW/PKCS5Padding").getProvider().getName().equals(THEIRS), "KW/PKCS5Padding");
-    }
-
-    private static boolean takes(String name, String provider, Key kek) throws Exception {
-        try {
-            begun(name, provider, Cipher.WRAP_MODE, kek);
-            return true;
-        } catch (InvalidKeyException e) {
-            return false;
-        }
     }
 
     /** The initial values of both forms, by a specification and by parameters. */
@@ -140,13 +135,10 @@ final class Checks {
                 throwsOne(ShortBufferException.class, () -> cipher.doFinal(in, 100, in.length - 100, small, 0));
                 check(Arrays.equals(small, new byte[small.length]), "a small array was written");
                 check(Arrays.equals(cipher.doFinal(in, 100, in.length - 100), out), "after a small array");
-                for (boolean direct : new boolean[] {false, true}) {
-                    int size = out.length;
-                    ByteBuffer result = direct ? ByteBuffer.allocateDirect(size) : ByteBuffer.allocate(size);
-                    ByteBuffer given = ByteBuffer.allocateDirect(in.length).put(in).flip();
-                    check(cipher.doFinal(given, result) == out.length && given.remaining() == 0, "a buffer");
-                    check(result.flip().equals(ByteBuffer.wrap(out)), "in buffers");
-                }
+                ByteBuffer given = ByteBuffer.allocateDirect(in.length).put(in).flip();
+                ByteBuffer result = ByteBuffer.allocateDirect(out.length);
+                check(cipher.doFinal(given, result) == out.length && given.remaining() == 0, "a buffer");
+                check(result.flip().equals(ByteBuffer.wrap(out)), "in buffers");
                 check(cipher.getOutputSize(in.length) == out.length, "the length of the result");
             }
         }

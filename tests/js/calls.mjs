@@ -124,11 +124,8 @@ test('after 300 calls in which the stack of the host ended, calls work', async (
 test('a host without WebAssembly', async () => {
     const { WebAssembly: kept } = globalThis;
     globalThis.WebAssembly = undefined;
-    try {
-        await assert.rejects(keywrapModule.load(), { message: 'this host has no WebAssembly' });
-    } finally {
-        globalThis.WebAssembly = kept;
-    }
+    await assert.rejects(keywrapModule.load(), { message: 'this host has no WebAssembly' })
+        .finally(() => { globalThis.WebAssembly = kept; });
 });
 
 test('the exports, and the classes of the errors', () => {

@@ -31,7 +31,7 @@ const digits = (given) => given.reduce((text, byte) => text + PAIRS[byte], '');
 
 function optionsOf(call, iv, flags) {
     const set = FLAGS.filter((_, bit) => Number(flags) >> bit & 1);
-    return call.endsWith('_with') ? { iv: bytes(iv) } : flags === '-' ? undefined
+    return call.endsWith('_with') ? { iv: bytes(iv) } : flags === '-' || call === 'kind_many' ? undefined
         : call.startsWith('rewrap') ? Object.fromEntries(set.map((name) => [name, true])) : { padded: set.length > 0 };
 }
 

@@ -96,11 +96,3 @@ def foreign_rows():
 
 def nist_rows():
     return rows_of(nist_or_skip())
-
-
-def more_rows():
-    """Those of rows.py that are not kept, or skips the test."""
-    from tools import need
-
-    need("import cryptography")
-    return rows.more()

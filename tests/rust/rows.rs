@@ -140,29 +140,21 @@ fn many(line: &Line, call: &str, kek: &KekSlice, out: &mut Vec<u8>) -> Result<St
     let (padded, (forms, pass_new)) = ([Form::Plain, Form::Padded][line.number(4).min(1)], line.forms());
     let mut statuses = vec![Status::default(); line.number(8)];
     let (mut lens, mut found) = (vec![77; line.number(9)], vec![77; line.number(10)]);
+    let (new_kek, given, of_rewrapped) = (line.bytes(2), line.bytes(5), |one: Rewrapped| vec![one as u8]);
+    let (new_kek, of_kind) = (KekSlice::new(&new_kek), |one: Kind| vec![one.form as u8, one.key_len as u8]);
+    let (all, each_len) = (&mut statuses, &mut lens);
     // What the iterators return of each slot.
-    let mut each: Vec<Result<Vec<u8>>> = vec![];
-    match call {
-        "wrap_many" => kek.wrap_many(padded, out, line.number(7), &mut statuses)?,
-        "unwrap_many" => {
-            let keys = kek.unwrap_many(padded, out, &mut lens, &mut statuses)?;
-            each.extend(keys.map(|key| key.map(<[u8]>::to_vec)));
-        }
-        "rewrap_many" => {
-            let new_kek = line.bytes(2);
-            let all = kek.rewrap_many(KekSlice::new(&new_kek), out, forms, pass_new, &mut statuses)?;
-            each.extend(all.map(|one| one.map(|one| vec![one as u8])));
-        }
-        _ => {
-            let all = kek.kind_many(&line.bytes(5), out, &mut found, &mut lens, &mut statuses)?;
-            each.extend(all.map(|kind| kind.map(|kind| vec![kind.form as u8, kind.key_len as u8])));
-        }
+    let each: Vec<Result<Vec<u8>>> = match call {
+        "wrap_many" => kek.wrap_many(padded, out, line.number(7), all).map(|()| vec![])?,
+        "unwrap_many" => kek.unwrap_many(padded, out, each_len, all)?.map(|key| key.map(<[u8]>::to_vec)).collect(),
+        "rewrap_many" => kek.rewrap_many(new_kek, out, forms, pass_new, all)?.map(|it| it.map(of_rewrapped)).collect(),
+        _ => kek.kind_many(&given, out, &mut found, each_len, all)?.map(|kind| kind.map(of_kind)).collect(),
     };
     let slot = out.len() / statuses.len().max(1);
     let due = statuses.iter().enumerate().map(|(at, status)| match call {
         "unwrap_many" => status.result().map(|()| out[slot * at + 8..][..lens[at]].to_vec()),
         "kind_many" => status.result().map(|()| vec![found[at], lens[at] as u8]),
-        _ => status.rewrapped().map(|one| vec![one as u8]),
+        _ => status.rewrapped().map(of_rewrapped),
     });
     assert!(call == "wrap_many" || due.eq(each));
     let status = |one: &Status| one.rewrapped().map_or_else(status_of, |one| one as u8);
