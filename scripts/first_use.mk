@@ -55,6 +55,9 @@ $(filter-out key_files key_lines keywrap_cli,$(CRATES)): gently = nice -n 10
 keywrap_io keywrap_args: gently = nice -n 19
 # A second job costs a seventh of a crate's processor time, and these are done before anything waits for them.
 keywrap_io keywrap_args aes_vector: jobs = 1
+else
+# All archives wait for it.
+keywrap_calls: jobs = $(JOBS)
 endif
 
 externs = $(foreach crate,std $(filter-out $(notdir $(wildcard crates/*)),$(call named,$@)),\
