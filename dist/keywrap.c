@@ -4,7 +4,7 @@
  *     cc -O2 -c keywrap.c
  *
  * Version 1.2.0-dev. `make dist-sources` of the repository writes this file; do not edit it.
- * By Rattle rattle-kit-13f logic dac8208d650f15bf, binaryen 108, wabt 1.0.32.
+ * By Rattle rattle-kit-13b logic dac8208d650f15bf, binaryen 108, wabt 1.0.32.
  * docs/TRUST.md of the repository says what is proved, what is translated and what is trusted.
  *
  * It has four parts: the runtime; the module, which wasm2c translated from the WebAssembly that the
@@ -21291,15 +21291,15 @@ static APART int aes_known_answers(void);
 static APART void aes_set_encrypt(struct aes *aes, const uint8_t *kek, size_t kek_len);
 static APART void aes_set_decrypt(struct aes *aes, const uint8_t *kek, size_t kek_len);
 
-static APART void aes_encrypt(const struct aes *aes, uint8_t block[BLOCK]);
-static APART void aes_decrypt(const struct aes *aes, uint8_t block[BLOCK]);
-
 /* Work on the blocks side by side, 8 at once: count is a multiple of 8. */
 static APART void aes_encrypt_many(const struct aes *aes, uint8_t *blocks, size_t count);
 static APART void aes_decrypt_many(const struct aes *aes, uint8_t *blocks, size_t count);
 
 /* wipe clears memory even if nothing reads it afterwards, and aes_clear the round keys that are its own. */
-static APART void wipe(void *memory, size_t len);
+static inline void wipe(void *memory, size_t len) {
+    memset(memory, 0, len);
+    __asm__ volatile("" : : "r"(memory) : "memory");
+}
 static APART void aes_clear(struct aes *aes);
 
 /* What each processor provides, in x86_64.c and aarch64.c. expand writes the round keys of a KEK, and
@@ -21455,15 +21455,24 @@ BY_AES static __m128i load(const uint8_t block[BLOCK]) {
     return _mm_unpacklo_epi64(low, high);
 }
 
+/* Adds the first round key. Only the lower half of a block depends on the AES of the block before, so
+ * it is added last: the empty asm keeps the compiler from another order. */
+BY_AES static __m128i begin(const struct aes *aes, const uint8_t block[BLOCK]) {
+    __m128i high = _mm_loadl_epi64((const __m128i *)(block + 8));
+    __m128i state = _mm_xor_si128(_mm_slli_si128(high, 8), round_key(aes, 0));
+    __asm__("" : "+x"(state));
+    return _mm_xor_si128(state, _mm_loadl_epi64((const __m128i *)block));
+}
+
 BY_AES void encrypt_block(const struct aes *aes, uint8_t block[BLOCK]) {
-    __m128i state = _mm_xor_si128(load(block), round_key(aes, 0));
+    __m128i state = begin(aes, block);
     for (unsigned i = 1; i < aes->rounds; i++) state = _mm_aesenc_si128(state, round_key(aes, i));
     state = _mm_aesenclast_si128(state, round_key(aes, aes->rounds));
     _mm_storeu_si128((__m128i *)block, state);
 }
 
 BY_AES void decrypt_block(const struct aes *aes, uint8_t block[BLOCK]) {
-    __m128i state = _mm_xor_si128(load(block), round_key(aes, 0));
+    __m128i state = begin(aes, block);
     for (unsigned i = 1; i < aes->rounds; i++) state = _mm_aesdec_si128(state, round_key(aes, i));
     state = _mm_aesdeclast_si128(state, round_key(aes, aes->rounds));
     _mm_storeu_si128((__m128i *)block, state);
@@ -21639,13 +21648,8 @@ typedef int of_another_processor;
 
 
 
-void wipe(void *memory, size_t len) {
-    memset(memory, 0, len);
-    __asm__ volatile("" : : "r"(memory) : "memory");
-}
-
 void aes_clear(struct aes *aes) {
-    if (aes->keys == aes->own) wipe(aes->own, sizeof aes->own);
+    if (aes->keys == aes->own) wipe(aes->own, BLOCK * (aes->rounds + 1));
 }
 
 /* Key expansion (FIPS 197, section 5.2), or what a kept KEK has of it behind its mark. */
@@ -21665,14 +21669,6 @@ void aes_set_decrypt(struct aes *aes, const uint8_t *kek, size_t kek_len) {
     aes_set_encrypt(aes, kek, kek_len);
     invert(aes);
     aes->keys = aes->own;
-}
-
-void aes_encrypt(const struct aes *aes, uint8_t block[BLOCK]) {
-    encrypt_block(aes, block);
-}
-
-void aes_decrypt(const struct aes *aes, uint8_t block[BLOCK]) {
-    decrypt_block(aes, block);
 }
 
 void aes_encrypt_many(const struct aes *aes, uint8_t *blocks, size_t count) {
@@ -21817,24 +21813,20 @@ CALL(HIDDEN, perform_steps, end_rewrap_in_place,
 /* Makes all steps over the registers, or undoes them. */
 static inline void run_steps(const uint8_t *kek, size_t kek_len, int decrypts, struct run *run,
                              uint8_t *registers, size_t len) {
-    const uint64_t all = keywrap_step_count(len);
+    const uint64_t end = decrypts ? 0 : keywrap_step_count(len);
     int32_t status = KEYWRAP_OK;
     struct aes aes;
     decrypts ? aes_set_decrypt(&aes, kek, kek_len) : aes_set_encrypt(&aes, kek, kek_len);
-    while (decrypts && status == KEYWRAP_OK && run->steps > 0) {
-        aes_decrypt(&aes, run->block);
-        status = keywrap_step_unwrap(registers, len, &run->steps, run->block);
-    }
-    while (!decrypts && status == KEYWRAP_OK && run->steps < all) {
-        aes_encrypt(&aes, run->block);
-        status = keywrap_step_wrap(registers, len, &run->steps, run->block);
+    while (status == KEYWRAP_OK && run->steps != end) {
+        decrypts ? decrypt_block(&aes, run->block) : encrypt_block(&aes, run->block);
+        status = decrypts ? keywrap_step_unwrap(registers, len, &run->steps, run->block)
+                          : keywrap_step_wrap(registers, len, &run->steps, run->block);
     }
     aes_clear(&aes);
 }
 
 /* Makes all steps of a wrapping that has begun, and writes the first 8 bytes of the text. */
-static int32_t wrap(const uint8_t *kek, size_t kek_len, struct run *run, uint8_t *text,
-                    size_t text_len) {
+static int32_t wrap(const uint8_t *kek, size_t kek_len, struct run *run, uint8_t *text, size_t text_len) {
     run_steps(kek, kek_len, 0, run, text + 8, text_len - 8);
     const int32_t status = keywrap_end_wrap(text, text + 8, text_len - 8, run->steps, run->block);
     wipe(run, sizeof *run);
@@ -21908,25 +21900,29 @@ int32_t keywrap_unwrap_with(const uint8_t *kek, size_t kek_len, const uint8_t *i
 int32_t keywrap_wrap(const uint8_t *kek, size_t kek_len, const uint8_t *key, size_t key_len,
                      uint8_t *wrapped, size_t wrapped_len) {
     OR_PROVED(wrap, kek, kek_len, key, key_len, wrapped, wrapped_len);
-    return keywrap_wrap_with(kek, kek_len, DEFAULT_IV, 8, key, key_len, wrapped, wrapped_len);
+    const int32_t status = keywrap_check_plain(kek, kek_len, DEFAULT_IV, 8, key_len, wrapped_len);
+    if (status != KEYWRAP_OK) return status;
+    memcpy(wrapped + 8, key, key_len);
+    return wrap_slot(kek, kek_len, 0, wrapped, wrapped_len, key_len);
 }
 
 int32_t keywrap_unwrap(const uint8_t *kek, size_t kek_len, const uint8_t *wrapped,
                        size_t wrapped_len, uint8_t *key, size_t key_len) {
     OR_PROVED(unwrap, kek, kek_len, wrapped, wrapped_len, key, key_len);
-    return keywrap_unwrap_with(kek, kek_len, DEFAULT_IV, 8, wrapped, wrapped_len, key, key_len);
+    struct run run;
+    int32_t status = keywrap_check_plain(kek, kek_len, DEFAULT_IV, 8, key_len, wrapped_len);
+    if (status == KEYWRAP_OK) status = unwrap(kek, kek_len, &run, wrapped, key, key_len);
+    return status == KEYWRAP_OK ? keywrap_end_unwrap(DEFAULT_IV, 8, key, key_len, run.steps, run.block) : status;
 }
 
-int32_t keywrap_wrap_in_place(const uint8_t *kek, size_t kek_len, uint8_t *buffer,
-                              size_t wrapped_len) {
+int32_t keywrap_wrap_in_place(const uint8_t *kek, size_t kek_len, uint8_t *buffer, size_t wrapped_len) {
     OR_PROVED(wrap_in_place, kek, kek_len, buffer, wrapped_len);
     const size_t len = wrapped_len - 8;
     const int32_t status = keywrap_check_plain(kek, kek_len, DEFAULT_IV, 8, len, wrapped_len);
     return status == KEYWRAP_OK ? wrap_slot(kek, kek_len, 0, buffer, wrapped_len, len) : status;
 }
 
-int32_t keywrap_unwrap_in_place(const uint8_t *kek, size_t kek_len, uint8_t *buffer,
-                                size_t wrapped_len) {
+int32_t keywrap_unwrap_in_place(const uint8_t *kek, size_t kek_len, uint8_t *buffer, size_t wrapped_len) {
     OR_PROVED(unwrap_in_place, kek, kek_len, buffer, wrapped_len);
     size_t len = wrapped_len - 8;
     const int32_t status = keywrap_check_plain(kek, kek_len, DEFAULT_IV, 8, len, wrapped_len);
@@ -22096,9 +22092,9 @@ static struct turn next_turn(uint8_t *texts, size_t text_len, size_t count) {
 static void run_turn(const struct aes *aes, int decrypts, struct turn *turn) {
     const size_t len = turn->text_len, texts_len = len * turn->count, of_blocks = BLOCK * turn->count;
     const size_t grouped = (turn->count + 7) / 8 * 8;
-    const uint64_t all = keywrap_step_count(turn->text_len - 8);
+    const uint64_t end = decrypts ? 0 : keywrap_step_count(turn->text_len - 8);
     int32_t status = KEYWRAP_OK;
-    while (status == KEYWRAP_OK && (decrypts ? turn->steps > 0 : turn->steps < all)) {
+    while (status == KEYWRAP_OK && turn->steps != end) {
         decrypts ? aes_decrypt_many(aes, turn->blocks, grouped) : aes_encrypt_many(aes, turn->blocks, grouped);
         status = decrypts ? keywrap_step_unwrap_many(turn->texts, texts_len, len, &turn->steps, turn->blocks, of_blocks)
                           : keywrap_step_wrap_many(turn->texts, texts_len, len, &turn->steps, turn->blocks, of_blocks);

@@ -4,13 +4,8 @@
 
 #include <string.h>
 
-void wipe(void *memory, size_t len) {
-    memset(memory, 0, len);
-    __asm__ volatile("" : : "r"(memory) : "memory");
-}
-
 void aes_clear(struct aes *aes) {
-    if (aes->keys == aes->own) wipe(aes->own, sizeof aes->own);
+    if (aes->keys == aes->own) wipe(aes->own, BLOCK * (aes->rounds + 1));
 }
 
 /* Key expansion (FIPS 197, section 5.2), or what a kept KEK has of it behind its mark. */
@@ -30,14 +25,6 @@ void aes_set_decrypt(struct aes *aes, const uint8_t *kek, size_t kek_len) {
     aes_set_encrypt(aes, kek, kek_len);
     invert(aes);
     aes->keys = aes->own;
-}
-
-void aes_encrypt(const struct aes *aes, uint8_t block[BLOCK]) {
-    encrypt_block(aes, block);
-}
-
-void aes_decrypt(const struct aes *aes, uint8_t block[BLOCK]) {
-    decrypt_block(aes, block);
 }
 
 void aes_encrypt_many(const struct aes *aes, uint8_t *blocks, size_t count) {

@@ -5,6 +5,7 @@
 
 #include <stddef.h>
 #include <stdint.h>
+#include <string.h>
 
 enum { BLOCK = 16, ROUNDS_AT_MOST = 14, SCHEDULE = BLOCK * (ROUNDS_AT_MOST + 1) };
 
@@ -27,15 +28,15 @@ int aes_known_answers(void);
 void aes_set_encrypt(struct aes *aes, const uint8_t *kek, size_t kek_len);
 void aes_set_decrypt(struct aes *aes, const uint8_t *kek, size_t kek_len);
 
-void aes_encrypt(const struct aes *aes, uint8_t block[BLOCK]);
-void aes_decrypt(const struct aes *aes, uint8_t block[BLOCK]);
-
 /* Work on the blocks side by side, 8 at once: count is a multiple of 8. */
 void aes_encrypt_many(const struct aes *aes, uint8_t *blocks, size_t count);
 void aes_decrypt_many(const struct aes *aes, uint8_t *blocks, size_t count);
 
 /* wipe clears memory even if nothing reads it afterwards, and aes_clear the round keys that are its own. */
-void wipe(void *memory, size_t len);
+static inline void wipe(void *memory, size_t len) {
+    memset(memory, 0, len);
+    __asm__ volatile("" : : "r"(memory) : "memory");
+}
 void aes_clear(struct aes *aes);
 
 /* What each processor provides, in x86_64.c and aarch64.c. expand writes the round keys of a KEK, and

@@ -13,24 +13,20 @@
 /* Makes all steps over the registers, or undoes them. */
 static inline void run_steps(const uint8_t *kek, size_t kek_len, int decrypts, struct run *run,
                              uint8_t *registers, size_t len) {
-    const uint64_t all = keywrap_step_count(len);
+    const uint64_t end = decrypts ? 0 : keywrap_step_count(len);
     int32_t status = KEYWRAP_OK;
     struct aes aes;
     decrypts ? aes_set_decrypt(&aes, kek, kek_len) : aes_set_encrypt(&aes, kek, kek_len);
-    while (decrypts && status == KEYWRAP_OK && run->steps > 0) {
-        aes_decrypt(&aes, run->block);
-        status = keywrap_step_unwrap(registers, len, &run->steps, run->block);
-    }
-    while (!decrypts && status == KEYWRAP_OK && run->steps < all) {
-        aes_encrypt(&aes, run->block);
-        status = keywrap_step_wrap(registers, len, &run->steps, run->block);
+    while (status == KEYWRAP_OK && run->steps != end) {
+        decrypts ? decrypt_block(&aes, run->block) : encrypt_block(&aes, run->block);
+        status = decrypts ? keywrap_step_unwrap(registers, len, &run->steps, run->block)
+                          : keywrap_step_wrap(registers, len, &run->steps, run->block);
     }
     aes_clear(&aes);
 }
 
 /* Makes all steps of a wrapping that has begun, and writes the first 8 bytes of the text. */
-static int32_t wrap(const uint8_t *kek, size_t kek_len, struct run *run, uint8_t *text,
-                    size_t text_len) {
+static int32_t wrap(const uint8_t *kek, size_t kek_len, struct run *run, uint8_t *text, size_t text_len) {
     run_steps(kek, kek_len, 0, run, text + 8, text_len - 8);
     const int32_t status = keywrap_end_wrap(text, text + 8, text_len - 8, run->steps, run->block);
     wipe(run, sizeof *run);
@@ -104,25 +100,29 @@ int32_t keywrap_unwrap_with(const uint8_t *kek, size_t kek_len, const uint8_t *i
 int32_t keywrap_wrap(const uint8_t *kek, size_t kek_len, const uint8_t *key, size_t key_len,
                      uint8_t *wrapped, size_t wrapped_len) {
     OR_PROVED(wrap, kek, kek_len, key, key_len, wrapped, wrapped_len);
-    return keywrap_wrap_with(kek, kek_len, DEFAULT_IV, 8, key, key_len, wrapped, wrapped_len);
+    const int32_t status = keywrap_check_plain(kek, kek_len, DEFAULT_IV, 8, key_len, wrapped_len);
+    if (status != KEYWRAP_OK) return status;
+    memcpy(wrapped + 8, key, key_len);
+    return wrap_slot(kek, kek_len, 0, wrapped, wrapped_len, key_len);
 }
 
 int32_t keywrap_unwrap(const uint8_t *kek, size_t kek_len, const uint8_t *wrapped,
                        size_t wrapped_len, uint8_t *key, size_t key_len) {
     OR_PROVED(unwrap, kek, kek_len, wrapped, wrapped_len, key, key_len);
-    return keywrap_unwrap_with(kek, kek_len, DEFAULT_IV, 8, wrapped, wrapped_len, key, key_len);
+    struct run run;
+    int32_t status = keywrap_check_plain(kek, kek_len, DEFAULT_IV, 8, key_len, wrapped_len);
+    if (status == KEYWRAP_OK) status = unwrap(kek, kek_len, &run, wrapped, key, key_len);
+    return status == KEYWRAP_OK ? keywrap_end_unwrap(DEFAULT_IV, 8, key, key_len, run.steps, run.block) : status;
 }
 
-int32_t keywrap_wrap_in_place(const uint8_t *kek, size_t kek_len, uint8_t *buffer,
-                              size_t wrapped_len) {
+int32_t keywrap_wrap_in_place(const uint8_t *kek, size_t kek_len, uint8_t *buffer, size_t wrapped_len) {
     OR_PROVED(wrap_in_place, kek, kek_len, buffer, wrapped_len);
     const size_t len = wrapped_len - 8;
     const int32_t status = keywrap_check_plain(kek, kek_len, DEFAULT_IV, 8, len, wrapped_len);
     return status == KEYWRAP_OK ? wrap_slot(kek, kek_len, 0, buffer, wrapped_len, len) : status;
 }
 
-int32_t keywrap_unwrap_in_place(const uint8_t *kek, size_t kek_len, uint8_t *buffer,
-                                size_t wrapped_len) {
+int32_t keywrap_unwrap_in_place(const uint8_t *kek, size_t kek_len, uint8_t *buffer, size_t wrapped_len) {
     OR_PROVED(unwrap_in_place, kek, kek_len, buffer, wrapped_len);
     size_t len = wrapped_len - 8;
     const int32_t status = keywrap_check_plain(kek, kek_len, DEFAULT_IV, 8, len, wrapped_len);

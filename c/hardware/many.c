@@ -34,9 +34,9 @@ static struct turn next_turn(uint8_t *texts, size_t text_len, size_t count) {
 static void run_turn(const struct aes *aes, int decrypts, struct turn *turn) {
     const size_t len = turn->text_len, texts_len = len * turn->count, of_blocks = BLOCK * turn->count;
     const size_t grouped = (turn->count + 7) / 8 * 8;
-    const uint64_t all = keywrap_step_count(turn->text_len - 8);
+    const uint64_t end = decrypts ? 0 : keywrap_step_count(turn->text_len - 8);
     int32_t status = KEYWRAP_OK;
-    while (status == KEYWRAP_OK && (decrypts ? turn->steps > 0 : turn->steps < all)) {
+    while (status == KEYWRAP_OK && turn->steps != end) {
         decrypts ? aes_decrypt_many(aes, turn->blocks, grouped) : aes_encrypt_many(aes, turn->blocks, grouped);
         status = decrypts ? keywrap_step_unwrap_many(turn->texts, texts_len, len, &turn->steps, turn->blocks, of_blocks)
                           : keywrap_step_wrap_many(turn->texts, texts_len, len, &turn->steps, turn->blocks, of_blocks);

@@ -110,15 +110,24 @@ BY_AES static __m128i load(const uint8_t block[BLOCK]) {
     return _mm_unpacklo_epi64(low, high);
 }
 
+/* Adds the first round key. Only the lower half of a block depends on the AES of the block before, so
+ * it is added last: the empty asm keeps the compiler from another order. */
+BY_AES static __m128i begin(const struct aes *aes, const uint8_t block[BLOCK]) {
+    __m128i high = _mm_loadl_epi64((const __m128i *)(block + 8));
+    __m128i state = _mm_xor_si128(_mm_slli_si128(high, 8), round_key(aes, 0));
+    __asm__("" : "+x"(state));
+    return _mm_xor_si128(state, _mm_loadl_epi64((const __m128i *)block));
+}
+
 BY_AES void encrypt_block(const struct aes *aes, uint8_t block[BLOCK]) {
-    __m128i state = _mm_xor_si128(load(block), round_key(aes, 0));
+    __m128i state = begin(aes, block);
     for (unsigned i = 1; i < aes->rounds; i++) state = _mm_aesenc_si128(state, round_key(aes, i));
     state = _mm_aesenclast_si128(state, round_key(aes, aes->rounds));
     _mm_storeu_si128((__m128i *)block, state);
 }
 
 BY_AES void decrypt_block(const struct aes *aes, uint8_t block[BLOCK]) {
-    __m128i state = _mm_xor_si128(load(block), round_key(aes, 0));
+    __m128i state = begin(aes, block);
     for (unsigned i = 1; i < aes->rounds; i++) state = _mm_aesdec_si128(state, round_key(aes, i));
     state = _mm_aesdeclast_si128(state, round_key(aes, aes->rounds));
     _mm_storeu_si128((__m128i *)block, state);
