@@ -3,6 +3,7 @@ standard. The lists of one object are independent, and each is one process."""
 
 import pathlib
 import re
+import shutil
 import subprocess
 import sys
 
@@ -16,8 +17,6 @@ from tools import need
 ROOT = pathlib.Path(__file__).resolve().parent.parent
 CHECKER = ROOT / "dist/check/all_inputs"
 MODULE = ROOT / "dist/keywrap.wasm"
-NO_LIBRARY = ROOT / "tests/all_inputs/without_a_library"
-SHARED = ["gcc", "-std=c99", "-O2", "-fPIC", "-shared", "-Wl,-z,now"]
 
 
 def check(*words):
@@ -31,14 +30,13 @@ def made(once, built):
     def build(directory, name):
         if name == "keywrap.c by gcc":
             need("gcc")
-            run(*SHARED, ROOT / "dist/keywrap.c", "-o", directory / "object")
+            for file in "Makefile", "keywrap.c", "keywrap.h", "keywrap_steps.h":
+                shutil.copy(ROOT / "dist" / file, directory)
+            run("make", "-s", "-C", directory, "shared", "CC=gcc")
+            (directory / "libkeywrap.so.1").rename(directory / "object")
         elif name == "keywrap.c by clang for wasm32":
             need("clang", "wasm-ld")
-            exports = [f"-Wl,--export={call}" for call in exported()] + [
-                f"-Wl,--export={name}" for name in ("__heap_base", "__stack_pointer")]
-            run("clang", "--target=wasm32", "-O2", "-mbulk-memory", "-mmutable-globals", "-ffreestanding", "-nostdlib",
-                "-w", f"-I{NO_LIBRARY}", "-DKEYWRAP_TRAP()=__builtin_trap()", "-Wl,--no-entry", *exports,
-                ROOT / "dist/keywrap.c", NO_LIBRARY / "memory.c", "-o", directory / "object")
+            run(sys.executable, ROOT / "tests/all_inputs/wasm32.py", directory / "object")
         else:
             run("make", "-s", "-C", ROOT, "library", f"LIBRARY={directory}", f"ARCHIVE={built('llvm.a')}", "HARDWARE=1")
             (directory / f"{name}.so.1").rename(directory / "object")
@@ -49,13 +47,6 @@ def made(once, built):
         return once(f"all-inputs-{name}".replace(" ", "-"), lambda directory: build(directory, name)) / "object"
 
     return find
-
-
-def exported():
-    """The calls of keywrap.c."""
-    headers = "".join((ROOT / "dist" / name).read_text() for name in ("keywrap.h", "keywrap_steps.h"))
-    calls = headers.split("#ifndef KEYWRAP_PORTABLE\n/* The calls for many keys")[0]
-    return sorted(set(re.findall(r"^(?:u?int32_t|uint64_t|size_t|void) (keywrap_\w+)\(", calls, re.M)))
 
 
 OBJECTS = ["keywrap.wasm", "keywrap.c by gcc", "keywrap.c by clang for wasm32", "libkeywrap", "libkeywrap_hw"]

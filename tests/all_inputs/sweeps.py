@@ -1,17 +1,18 @@
 """Leaves out each instruction that the short list runs, and flips each bit of the constants that it reads, one at a
-time. Prints each change. A person reads those that no call refuses: each needs a reason why it changes no result.
-Known reasons: the comparisons of a self test, whose results are right; a number that is written and not read; a length
-that only the long list has; if AES instructions fail their test, the tables are used.
+time. A call of the list has to refuse each change, or a row of explained.txt says why the change alters no result.
+Otherwise the exit status is 1. The calls begin with the variables as a call of the unchanged object left them: with AES
+instructions, their test has passed.
 
 usage: sweeps.py OBJECT [ONE_OF [SEED [PROCESSES]]]        a random one of ONE_OF of the changes"""
 
 import multiprocessing
 import os
 import random
+import re
 import sys
 import time
 
-from bugs import calls, check, lists, wasm
+from bugs import HERE, calls, check, lists, wasm
 from calls import x86
 from paths import Machine
 
@@ -99,11 +100,17 @@ def main(path, one_of=1, seed=0, processes=os.cpu_count()):
     global sweep
     sweep = Sweep(path)
     wasm.STEPS = x86.STEPS = 4 * sweep.steps
+    rows = [line.split(" | ") for line in (HERE / "explained.txt").read_text().splitlines() if not line.startswith("#")]
     chosen = random.Random(seed).sample(range(len(sweep.changes)), -(-len(sweep.changes) // one_of))
+    missed = 0
     with multiprocessing.get_context("fork").Pool(processes) as pool:
         for n, (i, refused) in enumerate(zip(chosen, pool.imap(tried, chosen)), 1):
-            print(f"[{n}/{len(chosen)}] refused:" if refused else "not refused:", sweep.changes[i][3], flush=True)
-    print(f"{len(chosen)} of {len(sweep.changes)} changes")
+            text = sweep.changes[i][3]
+            reason = next((reason for pattern, reason in rows if re.fullmatch(pattern, text)), None)
+            missed += not refused and reason is None
+            print(f"[{n}/{len(chosen)}] refused: {text}" if refused else f"{reason or 'NOT REFUSED'}: {text}", flush=True)
+    print(f"{len(chosen)} of {len(sweep.changes)} changes, {missed} neither refused nor explained")
+    return int(missed > 0)
 
 
 def tried(i):
@@ -111,4 +118,4 @@ def tried(i):
 
 
 if __name__ == "__main__":
-    main(sys.argv[1], *map(int, sys.argv[2:]))
+    sys.exit(main(sys.argv[1], *map(int, sys.argv[2:])))

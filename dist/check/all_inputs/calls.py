@@ -31,10 +31,11 @@ def little(v, n=8):
 
 
 class Result:
-    """What a call did: its paths, as (status, places of the branches), and counts."""
+    """What a call did: its paths, as (status, places of the branches), counts, and the variables of the object
+    afterwards."""
 
     def __init__(self):
-        self.paths, self.steps, self.lookups, self.stack = [], 0, 0, 0
+        self.paths, self.steps, self.lookups, self.shuffles, self.stack, self.variables = [], 0, 0, 0, 0, None
 
 
 class Call:
@@ -94,10 +95,15 @@ class Call:
         run = (x86 if isinstance(self.module, x86.Module) else wasm).Run(self.module, self.inputs, STACK)
         for path, status in run.call(self.name, self.args, self.writes, before):
             self.result.stack = max(self.result.stack, run.reached(path))
+            left = {at: path.memory.get(at, before) for at, before in self.module.variables.items()}
+            if self.result.variables not in (None, left) or not all(isinstance(v, int) for v in left.values()):
+                raise Refused('a variable that depends on the inputs')
+            self.result.variables = left
             status = 0 if self.name == 'keywrap_kek_clear' else run.place(path, status)
             yield path, status, [byte_of(path.memory[at]) for at in self.writes]
         self.result.steps += run.steps
         self.result.lookups += run.lookups
+        self.result.shuffles += run.shuffles
 
     @staticmethod
     def compare(path, status, got, want, contents):
@@ -332,7 +338,7 @@ def form_of(a, key, is_zero, forms=(PLAIN, PADDED)):
     return None if length is None else (PADDED, length)
 
 
-def either_form(given, name, kek_len, room, text_len):
+def either_form(name, given, kek_len, room, text_len):
     text_len = room + 8 if text_len is None else text_len
     kek, text, old = any_kek('kek', kek_len), any_bytes('text', text_len), any_bytes('old', room)
     is_kind = name == 'keywrap_kind'
@@ -352,11 +358,11 @@ def either_form(given, name, kek_len, room, text_len):
 
 
 def unwrap_any(given, kek_len, room, text_len=None):
-    either_form(given, 'keywrap_unwrap_any', kek_len, room, text_len)
+    either_form('keywrap_unwrap_any', given, kek_len, room, text_len)
 
 
 def kind(given, kek_len, room, text_len=None):
-    either_form(given, 'keywrap_kind', kek_len, room, text_len)
+    either_form('keywrap_kind', given, kek_len, room, text_len)
 
 
 # Rewraps
@@ -568,7 +574,7 @@ def kind_many(given, kek_len, text_len, count, only=None):
     call.changes(any_bytes('status', count)).check(expected, count if only is None else 1)
 
 
-def uneven_many(given, name, texts_len, lens, count, forms=None):
+def uneven_many(name, given, texts_len, lens, count, forms=None):
     """A call for many keys of 16 bytes, whose numbers of bytes, lengths and statuses do not fit each other."""
     call, texts = Call(given, f'keywrap_{name}').reads(any_kek('kek', 16)), any_bytes('text', texts_len)
     if name == 'rewrap_many':
@@ -584,19 +590,19 @@ def uneven_many(given, name, texts_len, lens, count, forms=None):
 
 
 def uneven_wrap_many(given, texts_len, count):
-    uneven_many(given, 'wrap_many', texts_len, 0, count)
+    uneven_many('wrap_many', given, texts_len, 0, count)
 
 
 def uneven_unwrap_many(given, texts_len, lens, count):
-    uneven_many(given, 'unwrap_many', texts_len, lens, count)
+    uneven_many('unwrap_many', given, texts_len, lens, count)
 
 
 def uneven_rewrap_many(given, texts_len, count):
-    uneven_many(given, 'rewrap_many', texts_len, 0, count)
+    uneven_many('rewrap_many', given, texts_len, 0, count)
 
 
 def uneven_kind_many(given, texts_len, lens, forms, count):
-    uneven_many(given, 'kind_many', texts_len, lens, count, forms)
+    uneven_many('kind_many', given, texts_len, lens, count, forms)
 
 
 def self_test(given):
@@ -730,7 +736,7 @@ def lanes_of(text_len, count, lanes):
     return texts, [text[8:] for text in texts], blocks, is_plain_key(text_len - 8) and lanes == count
 
 
-def begin_many(given, name, n, count, lanes):
+def begin_many(name, given, n, count, lanes):
     texts, rs, blocks, legal = lanes_of(n + 8, count, lanes)
     iv, unwraps = any_bytes('iv', 8), name == 'keywrap_begin_unwrap_many'
     number = steps_of(n) if unwraps else 0
@@ -745,7 +751,7 @@ def begin_many(given, name, n, count, lanes):
     call.changes(sum(blocks, [])).check(expected, 0 if unwraps else 1)
 
 
-def step_many(given, name, n, number, count, lanes):
+def step_many(name, given, n, number, count, lanes):
     texts, rs, blocks, legal = lanes_of(n + 8, count, lanes)
     undo = name == 'keywrap_step_unwrap_many'
 
@@ -783,25 +789,21 @@ def end_unwrap_many(given, n, left, count, lanes):
 
 
 def begin_wrap_many(given, n, count, lanes):
-    begin_many(given, 'keywrap_begin_wrap_many', n, count, lanes)
+    begin_many('keywrap_begin_wrap_many', given, n, count, lanes)
 
 
 def begin_unwrap_many(given, n, count, lanes):
-    begin_many(given, 'keywrap_begin_unwrap_many', n, count, lanes)
+    begin_many('keywrap_begin_unwrap_many', given, n, count, lanes)
 
 
 def step_wrap_many(given, n, done, count, lanes):
-    step_many(given, 'keywrap_step_wrap_many', n, done, count, lanes)
+    step_many('keywrap_step_wrap_many', given, n, done, count, lanes)
 
 
 def step_unwrap_many(given, n, left, count, lanes):
-    step_many(given, 'keywrap_step_unwrap_many', n, left, count, lanes)
+    step_many('keywrap_step_unwrap_many', given, n, left, count, lanes)
 
 
-CALLS = {f.__name__: f for f in (
-    kek_init, kek_clear, unmarked, wrap, unwrap, wrap_with, unwrap_with, wrap_in_place, unwrap_in_place, wrap_padded,
-    unwrap_padded, wrap_padded_in_place, unwrap_padded_in_place, unwrap_any, kind, rewrap, rewrap_in_place,
-    rewrap_steps, wrap_many, unwrap_many, rewrap_many, kind_many, uneven_wrap_many, uneven_unwrap_many,
-    uneven_rewrap_many, uneven_kind_many, self_test, begin_wrap, begin_wrap_padded, step_wrap, end_wrap, begin_unwrap,
-    step_unwrap, end_unwrap, end_unwrap_padded, end_unwrap_any, begin_wrap_many, step_wrap_many, end_wrap_many,
-    begin_unwrap_many, step_unwrap_many, end_unwrap_many)}
+# Each function above whose first parameter is `given`.
+CALLS = {name: f for name, f in list(globals().items())
+         if getattr(f, '__code__', None) and f.__code__.co_varnames[:1] == ('given',)}

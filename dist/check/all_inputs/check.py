@@ -44,17 +44,23 @@ def show_all(name, calls):
 
 def load(path):
     """Returns the module, and keeps it for the calls of this process."""
-    global module
+    global module, as_loaded, as_used
     with open(path, 'rb') as file:
         is_wasm = file.read(4) == b'\0asm'
     module = (wasm if is_wasm else x86).Module(path)
+    as_loaded = as_used = module.variables
+    if as_loaded:       # a call may find the variables as another call has left them
+        result, _ = tried((('wrap', 16, 16), 0))
+        module.variables = as_used = as_loaded if isinstance(result, str) else result.variables
     return module
 
 
 def tried(todo):
-    """Makes a call. Returns its Result or the reason of its refusal, and its seconds of a processor."""
+    """Makes a call. Returns its Result or the reason of its refusal, and its seconds of a processor. If there is no gap
+    between the buffers, then it is the first call of the object."""
     (name, *numbers), gap = todo
     begun = time.process_time()
+    module.variables = as_used if gap else as_loaded
     try:
         result = perform(module, name, numbers, gap)
     except Refused as refused:
@@ -70,8 +76,8 @@ def main(args):
     exported, numbers = load(args[0]), [int(n) for n in args[2:]]
     with open(args[0], 'rb') as file:
         print(f'{hashlib.sha256(file.read()).hexdigest()}  {args[0].rsplit("/", 1)[-1]}')
-    listed = list(lists.LISTS[which]()) if which in lists.LISTS else [(which, *numbers)]
-    beside = listed if which in CALLS else list(lists.long_list()) if which == 'full' else []
+    listed = list(dict.fromkeys(lists.LISTS[which]())) if which in lists.LISTS else [(which, *numbers)]
+    beside = listed if which in CALLS else list(lists.short_list()) if which == 'full' else []
     missing = sorted({name for name, *_ in listed if not is_exported(exported, name)})
     todo = [(call, gap) for gap, calls in ((16, listed), (0, beside)) for call in calls if call[0] not in missing]
     processes = numbers[0] if which in lists.LISTS and numbers else 1
@@ -95,7 +101,8 @@ def main(args):
             places.setdefault(place, set()).add(name)
         passed.setdefault(name, []).append((numbers, len(result.paths)))
         print(f'{line}: passes, status {statuses}, {len(result.paths)} paths, branches: {"; ".join(forks) or "none"}; '
-              f'{result.lookups} look-ups in tables, {result.steps} instructions, {result.stack} bytes of stack, '
+              f'{result.lookups} look-ups in tables, {result.shuffles} in registers, {result.steps} instructions, '
+              f'{result.stack} bytes of stack, '
               f'{took:.1f} s', flush=True)
     paths = sum(paths for calls in passed.values() for _, paths in calls)
     lines = [f'{len(todo) - bad} of {len(todo)} calls pass, {paths} paths, {seconds:.0f} s of a processor']

@@ -25,7 +25,7 @@ def hints():
                 place[halves[first] | halves[second] << 4] = x
             hint = tuple(place[at] for at in range(256))
             for factor in factors:
-                values = [PRODUCTS[factor][{'S': S, 'T': T}[kind][x]] for x in hint]
+                values = [PRODUCTS[factor].of({'S': S, 'T': T}[kind][x]) for x in hint]
                 for table in values, [field[v] for v in values]:
                     found[bytes(v ^ table[0] for v in table)] = hint
     return found

@@ -2,6 +2,8 @@
 
 import itertools
 
+from calls import is_plain_key
+
 KEKS, KEPT = (16, 24, 32), (184, 216, 248)
 SHORT = """
 kek_init 16 184,kek_init 24 216,kek_init 32 248,kek_init 17 184,kek_init 16 183,kek_clear 184,unmarked 184
@@ -21,27 +23,62 @@ unwrap 16 352
 """
 FLAGS = (0, 1, 2, 3, 4, 8, 9, 10, 11, 12)
 NO_FLAGS = (5, 6, 7, 13, 14, 15, 16, 32, 256, 1 << 31)
+IN_PLACE = 'wrap_in_place', 'unwrap_in_place', 'wrap_padded_in_place', 'unwrap_padded_in_place'
+FOR_ONE_KEY = (*IN_PLACE, 'wrap', 'unwrap', 'wrap_with', 'unwrap_with', 'wrap_padded', 'unwrap_padded', 'unwrap_any',
+               'kind')
 
 
-def short_list():
-    for line in SHORT.replace('\n', ',').split(','):
+# Numbers of steps of two bytes, in calls that count them themselves. Lanes of libkeywrap_hw.
+MIDDLE = """
+rewrap 16 24 360 0,rewrap 16 24 360 10,rewrap_in_place 16 24 360 0,rewrap_steps 16 24 360 0,wrap_many 16 352 0 2 1
+unwrap_many 16 360 0 2 1,kind_many 16 360 2 1,rewrap_many 16 24 360 0 2 0,step_wrap_many 352 256 2 2
+step_unwrap_many 352 257 2 2
+"""
+# Numbers of steps of two and of three bytes, first those that take longest. Round keys of any value are more than any
+# KEK. 264 bytes are the longest slots that libkeywrap_hw copies.
+FAR = """
+wrap 184 87392,wrap 16 4096,unwrap 16 4096,rewrap_many 16 24 264 0 48 0,kind_many 16 264 48 0
+rewrap_many 16 24 272 0 2 0,kind_many 16 272 2 0,step_wrap 87392 255,step_wrap 87392 256,step_wrap 87392 257
+step_wrap 87392 65535,step_wrap 87392 65536,step_wrap 87392 65537,step_unwrap 87392 255,step_unwrap 87392 256
+step_unwrap 87392 257,step_unwrap 87392 65535,step_unwrap 87392 65536,step_unwrap 87392 65537,begin_unwrap 88192
+"""
+TOO_LONG = """
+wrap 16 1048584,unwrap 16 1048584,wrap_in_place 16 1048584,unwrap_in_place 16 1048584,wrap_padded 16 1048584
+unwrap_padded 16 1048584,unwrap_any 16 1048584,begin_wrap 1048584 8,begin_unwrap 1048584,step_wrap 1048584 8
+step_unwrap 1048584 8,end_wrap 1048584 786438,end_unwrap 1048584 0,end_unwrap_padded 1048584 0
+end_unwrap_any 1048584 0,rewrap 16 24 1048592 0
+"""
+
+
+def parsed(text):
+    for line in text.replace('\n', ',').split(','):
         if line:
             name, *numbers = line.split()
             yield name, *map(int, numbers)
 
 
-def lengths_list(keks, most):
+def short_list():
+    return parsed(SHORT)
+
+
+def lengths_list(keks, most, most_in_place):
     """Every call for one key, at each length to `most`."""
     for kek in keks:
         for n in range(16, most + 1, 8):
-            for name in 'wrap', 'unwrap', 'wrap_with', 'unwrap_with', 'wrap_in_place', 'unwrap_in_place':
+            for name in 'wrap', 'unwrap', 'wrap_with', 'unwrap_with':
                 yield name, kek, n
         for n in range(1, most + 1):
             yield 'wrap_padded', kek, n
-            yield 'wrap_padded_in_place', kek, n
         for n in range(8, most + 1, 8):
-            for name in 'unwrap_padded', 'unwrap_padded_in_place', 'unwrap_any', 'kind':
+            for name in 'unwrap_padded', 'unwrap_any', 'kind':
                 yield name, kek, n
+        for n in range(1, most_in_place + 1):
+            yield 'wrap_padded_in_place', kek, n
+            if n % 8 == 0:
+                yield 'unwrap_padded_in_place', kek, n
+            if is_plain_key(n):
+                yield 'wrap_in_place', kek, n
+                yield 'unwrap_in_place', kek, n
 
 
 def kept_list():
@@ -53,30 +90,23 @@ def kept_list():
         yield 'unmarked', kek
 
 
-def rewraps_list(pairs, texts):
-    for flags, text, (old, new) in itertools.product(FLAGS, texts, pairs):
-        yield 'rewrap', old, new, text, flags
-        yield 'rewrap_steps', old, new, text, flags
-        yield 'rewrap_steps', old, new, text, flags, 1
-        if flags < 4:
-            yield 'rewrap_in_place', old, new, text, flags
+def rewraps_list(pairs, texts, flags=FLAGS):
+    for flag, text, (old, new) in itertools.product(flags, texts, pairs):
+        yield 'rewrap', old, new, text, flag
+        if flag < 4 and text <= 32:
+            yield 'rewrap_in_place', old, new, text, flag
+
+
+def rewrap_steps_list():
+    """These calls have no KEK."""
+    for flags, text, from_copy in itertools.product(FLAGS, (16, 24, 32), (0, 1)):
+        yield 'rewrap_steps', 16, 24, text, flags, from_copy
 
 
 def middle_list():
-    """Numbers of steps of two bytes, in each call that counts them itself."""
-    for name in ('wrap', 'unwrap', 'wrap_with', 'unwrap_with', 'wrap_in_place', 'unwrap_in_place', 'unwrap_any',
-                 'wrap_padded', 'unwrap_padded', 'wrap_padded_in_place', 'unwrap_padded_in_place', 'kind'):
+    for name in FOR_ONE_KEY:
         yield name, 16, 352
-    for flags in 0, 10:
-        yield 'rewrap', 16, 24, 360, flags
-    yield 'rewrap_in_place', 16, 24, 360, 0
-    yield 'wrap_many', 16, 352, 0, 2, 1
-    yield 'unwrap_many', 16, 360, 0, 2, 1
-    yield 'kind_many', 16, 360, 2, 1
-    yield 'rewrap_many', 16, 24, 360, 0, 2, 0
-    yield 'rewrap_steps', 16, 24, 360, 0
-    yield 'step_wrap_many', 352, 256, 2, 2
-    yield 'step_unwrap_many', 352, 257, 2, 2
+    yield from parsed(MIDDLE)
 
 
 def many_list(keks, places):
@@ -84,22 +114,24 @@ def many_list(keks, places):
         yield 'wrap_many', kek, 16, 0, count
         yield 'wrap_many', kek, 11, 2, count
         yield 'wrap_many', kek, 5, 2, count
-        yield 'rewrap_many', kek, 24, 16, 3, count
         yield 'unwrap_many', kek, 24, 0, count
         yield 'unwrap_many', kek, 16, 1, count
         yield 'kind_many', kek, 16, count
         yield 'kind_many', kek, 24, count
+        yield 'rewrap_many', kek, 24, 16, 3, count
         yield 'rewrap_many', kek, 24, 24, 0, count
-        yield 'rewrap_many', kek, 24, 24, 9, count
+    yield 'rewrap_many', 184, 216, 24, 9, 2
     for flags in FLAGS:
-        yield 'rewrap_many', 16, 24, 24, flags, 1
+        yield 'rewrap_many', 184, 216, 24, flags, 1
     for count in 48, 49:
-        yield 'wrap_many', 16, 16, 0, count
+        yield 'wrap_many', 184, 16, 0, count
     for only in places:
         yield 'unwrap_many', 16, 24, 0, 49, only
-        yield 'unwrap_many', 32, 24, 1, 49, only
         yield 'kind_many', 16, 24, 49, only
-        for flags in 8, 9, 12:
+        yield 'rewrap_many', 16, 32, 24, 12, 49, only
+    for only in 0, 47, 48:
+        yield 'unwrap_many', 32, 24, 1, 49, only
+        for flags in 8, 9:
             yield 'rewrap_many', 16, 32, 24, flags, 49, only
 
 
@@ -127,35 +159,26 @@ def steps_list(most):
 def refusals_list():
     """Lengths that are refused, and their neighbours."""
     for kek, n in itertools.product((0, 15, 16, 17, 24, 32, 33), (0, 1, 8, 15, 16, 17)):
-        for out in 0, 8, 16, 23, 24, 25:
-            for name in 'wrap', 'unwrap', 'wrap_padded', 'unwrap_padded', 'unwrap_any', 'kind':
+        for out, name in itertools.product((0, 8, 16, 23, 24, 25), FOR_ONE_KEY):
+            if name not in IN_PLACE and 'with' not in name:
                 yield name, kek, n, out
-        for name in 'wrap_in_place', 'unwrap_in_place', 'wrap_padded_in_place', 'unwrap_padded_in_place':
+        for name in IN_PLACE:
             yield name, kek, n
         for text, flags in itertools.product((0, 8, 15, 16, 23), (0, 1, 4, 5, 8, 16)):
             if (kek, n) in ((17, 16), (16, 17)) or n == 16 and text != 16:
                 yield 'rewrap', kek, n, text, flags
                 yield 'rewrap_in_place', kek, n, text, flags
-    for kek, n in itertools.product(KEKS, range(34)):
-        if n % 8:
-            for name in ('wrap', 'unwrap', 'wrap_with', 'unwrap_with', 'wrap_in_place', 'unwrap_in_place',
-                         'unwrap_padded', 'unwrap_padded_in_place'):
-                yield name, kek, n
-    for iv in 0, 7, 9:
-        yield 'wrap_with', 16, 16, iv
-        yield 'unwrap_with', 16, 16, iv
+    for kek, n, name in itertools.product(KEKS, range(34), FOR_ONE_KEY):
+        if n % 8 and not name.startswith('wrap_padded'):
+            yield name, kek, n
+    for name, iv in itertools.product(('wrap_with', 'unwrap_with'), (0, 7, 9)):
+        yield name, 16, 16, iv
     for name, kek, n, flags in itertools.product(('wrap_many', 'unwrap_many'), (16, 17), (0, 8, 23, 24), (0, 1, 2, 4)):
         if (kek, n) != (16, 24) and (name, flags) != ('unwrap_many', 1) or flags == 4:
             yield name, kek, n, flags, 2
-    for name in 'wrap', 'unwrap', 'wrap_in_place', 'unwrap_in_place', 'wrap_padded', 'unwrap_padded', 'unwrap_any':
-        yield name, 16, 1048584
-    for name, number in (('begin_wrap', 8), ('begin_unwrap', 0), ('step_wrap', 8), ('step_unwrap', 8),
-                         ('end_wrap', 786438), ('end_unwrap', 0), ('end_unwrap_padded', 0), ('end_unwrap_any', 0)):
-        yield name, 1048584, number
-    yield 'rewrap', 16, 24, 1048592, 0
+    yield from parsed(TOO_LONG)
     for kek in 8, 20, 28, 40, 176, 208, 272:
-        for name in ('wrap', 'unwrap', 'wrap_with', 'unwrap_with', 'wrap_in_place', 'unwrap_in_place', 'wrap_padded',
-                     'unwrap_padded', 'wrap_padded_in_place', 'unwrap_padded_in_place', 'unwrap_any', 'kind'):
+        for name in FOR_ONE_KEY:
             yield name, kek, 16
         for old, new in (kek, 16), (16, kek):
             yield 'rewrap', old, new, 24, 0
@@ -190,38 +213,27 @@ def refusals_list():
 def long_list():
     yield from middle_list()
     yield from kept_list()
-    yield from lengths_list(KEKS, 32)
-    yield from lengths_list(KEPT, 16)
-    yield from rewraps_list(((16, 16), (32, 24), (184, 248)), (16, 24, 32))
+    yield from lengths_list(KEKS, 24, 16)
+    yield from lengths_list(KEPT, 16, 16)
+    yield from rewraps_list(((16, 24),), (16, 24))
+    yield from rewraps_list(((24, 32), (32, 16), (184, 248)), (24,), (0, 12))
+    yield from rewrap_steps_list()
     yield from many_list((16, 216), (0, 47, 48))
     yield from steps_list(24)
     yield from refusals_list()
     yield 'self_test',
 
 
-def far_list():
-    """Numbers of steps of two and of three bytes, first those that take longest."""
-    yield 'wrap', 16, 87392
-    yield 'unwrap', 16, 87392
-    for text_len in 264, 272:       # the longest slots that libkeywrap_hw copies, and longer ones
-        yield 'rewrap_many', 16, 24, text_len, 0, 48, 0
-        yield 'kind_many', 16, text_len, 48, 0
-    for kek in KEKS:
-        yield 'wrap', kek, 4096
-        yield 'unwrap', kek, 4096
-    yield 'wrap_padded', 16, 4096
-    yield 'unwrap_padded', 16, 4096
-    for name, done in itertools.product(('step_wrap', 'step_unwrap'), (255, 256, 257, 65535, 65536, 65537)):
-        yield name, 87392, done
-    yield 'begin_unwrap', 88192
-    yield from middle_list()
-
-
 def full_list():
-    yield from far_list()
+    yield from parsed(FAR)
+    yield from middle_list()
     yield from kept_list()
-    yield from lengths_list((*KEKS, *KEPT), 64)
-    yield from rewraps_list((*itertools.product(KEKS, KEKS), *zip(KEKS, KEPT), *zip(KEPT, KEPT)), (16, 24, 32, 40))
+    yield from lengths_list(KEKS, 64, 24)
+    yield from lengths_list(KEPT, 24, 16)
+    yield from rewraps_list(itertools.product(KEKS, KEKS), (16, 24))
+    yield from rewraps_list((*zip(KEKS, KEPT), *zip(KEPT, KEKS), (184, 248)), (24,), (0, 12))
+    yield from rewraps_list(((184, 216),), range(32, 80, 8))
+    yield from rewrap_steps_list()
     yield from many_list((*KEKS, *KEPT), range(49))
     yield from steps_list(64)
     yield from refusals_list()

@@ -7,7 +7,7 @@ for the first nibble x & 15 and the second nibble x >> 4. If nibbles depend on e
 from functools import cache
 
 from hints import HINTS
-from terms import Refused, Table, V, bits, looked_up, shl, xor
+from terms import Refused, Table, V, bits, shl, table_of, xor
 
 
 class Nibbles:
@@ -102,14 +102,15 @@ def spread(table, sums, count):
 def recognised(table):
     """Returns the table as (an affine map, a hint or None), or None."""
     whole = tuple(table) if len(table) == 256 else tuple(table) * 16
-    made = Table.affine(whole)
-    if made:
-        return made, None
+    try:
+        return Table(whole, [('', range(256))]), None
+    except Refused:
+        pass
     hint = HINTS.get(bytes(v ^ table[0] for v in table))
     if hint is None:
         return None
     back = [hint.index(x) for x in range(256)]
-    return Table(tuple(table[at] for at in back)), hint
+    return Table(tuple(table[at] for at in back)), table_of(hint)
 
 
 def settled(f):
@@ -119,4 +120,4 @@ def settled(f):
     made, hint = found
     first, *second = f.nibbles.items
     whole = xor(first, shl(second[0], 4, 8)) if second else first
-    return xor(made.of(looked_up(hint, whole) if hint else whole), f.rest)
+    return xor(made.of(hint.of(whole) if hint else whole), f.rest)

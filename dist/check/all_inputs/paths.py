@@ -4,7 +4,10 @@ A cell is a byte of memory: an int, or (value, k), which is byte k of the value.
 the code decides something that depends on the inputs, the path becomes several. Each has the equations under which the
 code takes it."""
 
-from terms import N, V, Known, Refused, and_, bits, flips, input_byte, least, looked_up, or_, shl, shr, zero_cases
+from functools import reduce
+
+from terms import (N, V, Known, Refused, and_, bits, flips, input_byte, least, or_, picked, shl, shr, table_of,
+                   zero_cases)
 
 
 def byte_of(cell):
@@ -12,7 +15,7 @@ def byte_of(cell):
         return cell
     v, k = cell
     is_byte = not isinstance(v, (V, N)) or k == 0 and bits(v) < 256
-    return v if is_byte else and_(shr(v, 8 * k, 64), 255)
+    return v if is_byte else picked(v, 255 << 8 * k, 8 * k) if type(v) is V else and_(shr(v, 8 * k, 64), 255)
 
 
 def cell_of(v):
@@ -26,10 +29,12 @@ def cells_of(v, n):
 
 def joined(cells):
     """Returns the little-endian value of these bytes."""
-    try:
-        return int.from_bytes(cells, 'little')
-    except TypeError:       # not all of them are numbers
-        total = i = 0
+    if type(cells[0]) is int:
+        try:
+            return int.from_bytes(cells, 'little')
+        except TypeError:       # not all of them are numbers
+            pass
+    parts, i = [], 0
     while i < len(cells):
         cell, n = cells[i], 1
         if isinstance(cell, int):
@@ -40,10 +45,22 @@ def joined(cells):
                 raise Refused('a byte that is not an affine map of a byte, its S-box or its inverse S-box')
             while i + n < len(cells) and isinstance(cell := cells[i + n], tuple) and cell[0] is v and cell[1] == k + n:
                 n += 1
-            part = and_(shr(v, 8 * k, 64), 2 ** (8 * n) - 1)
-        total = or_(total, shl(part, 8 * i, 64)) if i else part
+            part = v if k == 0 and bits(v) >> 8 * n == 0 else and_(shr(v, 8 * k, 64), (1 << 8 * n) - 1)
+        parts.append((part, 8 * i))
         i += n
-    return total
+    if i == n:
+        return part
+    if any(isinstance(part, N) for part, _ in parts):
+        return reduce(or_, [shl(part, k, 64) for part, k in parts])
+    c, t = 0, {}
+    for part, k in parts:
+        if isinstance(part, int):
+            c |= part << k
+            continue
+        c |= part.c << k
+        for atom, x in part.t.items():
+            t[atom] = t[atom] | x << k if atom in t else x << k
+    return V(c, t) if t else c
 
 
 class Path:
@@ -97,7 +114,7 @@ class Machine:
     def __init__(self, module, inputs, stack):
         self.module, self.stack = module, stack
         self.unwritten = module.variables | inputs | module.constants
-        self.steps = self.lookups = 0
+        self.steps = self.lookups = self.shuffles = 0
         self.tables = {}
 
     def cells(self, path, at, n):
@@ -139,10 +156,10 @@ class Machine:
             constants, places = self.module.constants, [base + (x << shift) for x in range(256)]
             if not all(at + i in constants for at in places for i in range(n)):
                 return None
-            entries = self.tables[base, shift, n] = tuple(
-                sum(constants[at + i] << 8 * i for i in range(n)) for at in places)
+            entries = self.tables[base, shift, n] = table_of(tuple(
+                sum(constants[at + i] << 8 * i for i in range(n)) for at in places))
         self.lookups += 1
-        return looked_up(entries, shr(and_(address, free), shift, 64))
+        return entries.of(picked(address, 255 << shift & free, shift))
 
     def store(self, path, at, cells):
         memory = path.memory

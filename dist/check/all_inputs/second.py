@@ -1,7 +1,7 @@
 """The standards a second time, from FIPS 197, RFC 3394 (its version with shifts) and RFC 5649, by someone who had read
 neither standard.py nor the definitions of the crates. test_checker.py compares both for bytes of any value."""
 
-from terms import looked_up, xor
+from terms import table_of, xor
 
 
 def multiply(a, b):
@@ -26,9 +26,9 @@ def s_box(a):
     return result
 
 
-S_BOX = tuple(s_box(a) for a in range(256))
-INVERSE_S_BOX = tuple(S_BOX.index(a) for a in range(256))
-MULTIPLES = {c: tuple(multiply(c, a) for a in range(256)) for c in (1, 2, 3, 9, 11, 13, 14)}
+S_BOX = table_of(tuple(s_box(a) for a in range(256)))
+INVERSE_S_BOX = table_of(tuple(S_BOX.entries.index(a) for a in range(256)))
+MULTIPLES = {c: table_of(tuple(multiply(c, a) for a in range(256))) for c in (1, 2, 3, 9, 11, 13, 14)}
 
 
 def xor_all(first, second):
@@ -51,11 +51,11 @@ def key_expansion(key):
     for i in range(nk, 4 * rounds + 4):
         temp = words[i - 1]
         if i % nk == 0:
-            temp = [looked_up(S_BOX, a) for a in temp[1:] + temp[:1]]
+            temp = [S_BOX.of(a) for a in temp[1:] + temp[:1]]
             temp = xor_all(temp, [round_constant, 0, 0, 0])
             round_constant = multiply(round_constant, 2)
         elif nk > 6 and i % nk == 4:
-            temp = [looked_up(S_BOX, a) for a in temp]
+            temp = [S_BOX.of(a) for a in temp]
         words.append(xor_all(words[i - nk], temp))
     return words
 
@@ -72,7 +72,7 @@ def mix(state, coefficients):
     for r in range(4):
         for c in range(4):
             for k in range(4):
-                mixed[r][c] = xor(mixed[r][c], looked_up(MULTIPLES[coefficients[(k - r) % 4]], state[k][c]))
+                mixed[r][c] = xor(mixed[r][c], MULTIPLES[coefficients[(k - r) % 4]].of(state[k][c]))
     return mixed
 
 
@@ -83,7 +83,7 @@ def cipher(key, block):
     state = [[block[r + 4 * c] for c in range(4)] for r in range(4)]
     state = add_round_key(state, words[:4])
     for turn in range(1, rounds + 1):
-        state = [[looked_up(S_BOX, a) for a in row] for row in state]
+        state = [[S_BOX.of(a) for a in row] for row in state]
         state = [[state[r][(c + r) % 4] for c in range(4)] for r in range(4)]
         if turn < rounds:
             state = mix(state, (2, 3, 1, 1))
@@ -99,7 +99,7 @@ def inverse_cipher(key, block):
     state = add_round_key(state, words[4 * rounds:])
     for turn in range(rounds - 1, -1, -1):
         state = [[state[r][(c - r) % 4] for c in range(4)] for r in range(4)]
-        state = [[looked_up(INVERSE_S_BOX, a) for a in row] for row in state]
+        state = [[INVERSE_S_BOX.of(a) for a in row] for row in state]
         state = add_round_key(state, words[4 * turn:4 * turn + 4])
         if turn:
             state = mix(state, (14, 11, 13, 9))

@@ -11,10 +11,12 @@ not affine, and each pair of function and form has one atom. So results can be c
 that the checker uses is S(T(v)) = T(S(v)) = v.
 """
 
+from functools import cache, reduce
 from itertools import count
 
 M64 = 2 ** 64 - 1
 EACH = sum(1 << 64 * i for i in range(8))
+MASKS = {}                                      # (bits, k): these bits of each column, k bits lower
 IDENTITY = sum(1 << 65 * i for i in range(8))
 
 
@@ -28,21 +30,24 @@ class V:
         return isinstance(other, V) and self.c == other.c and self.t == other.t
 
     def __hash__(self):
-        return hash((self.c, frozenset(self.t.items())))
+        return hash((self.c, frozenset(self.t)))
 
 
 class N:
     """op(*args). It has no bit above those of `top`."""
-    __slots__ = ('op', 'args', 'top')
-    made = {}
+    __slots__ = ('op', 'args', 'top', 'h')
 
-    def __new__(cls, op, *args, top):
-        key = (op, args)
-        self = cls.made.get(key)
-        if self is None:
-            self = cls.made[key] = object.__new__(cls)
-            self.op, self.args, self.top = op, args, top
-        return self
+    def __init__(self, op, *args, top):
+        self.op, self.args, self.top, self.h = op, args, top, None
+
+    def __eq__(self, other):
+        return self is other or isinstance(other, N) and hash(self) == hash(other) and (
+            self.op == other.op and self.args == other.args)
+
+    def __hash__(self):
+        if self.h is None:
+            self.h = hash((self.op, self.args))
+        return self.h
 
     def __repr__(self):
         return f'{self.op}({", ".join(map(show, self.args))})'
@@ -71,7 +76,7 @@ def flips(v):
 def bits(v):
     """Returns the bits that can be 1."""
     if isinstance(v, V):
-        return flips(v) | v.c
+        return (flips(v) if v.s is None else v.s) | v.c
     return v if isinstance(v, int) else (1 << v.top.bit_length()) - 1
 
 
@@ -86,7 +91,7 @@ def least(v):
 
 ATOMS = {}                      # number: (name, place) of an input byte, or ('S' or 'T', form)
 _number = count()
-_made = {'S': {}, 'T': {}}      # form: number of the atom
+_made = {'S': {}, 'T': {}}      # form: V of the atom
 _inputs = {}                    # (name, place): V
 _shared = {}                    # one object for each matrix
 turns = None                    # the Turns of a call that forgets atoms while it runs
@@ -112,7 +117,7 @@ def input_byte(name, i):
 
 def forget():
     """Forgets all atoms. No value made before may be used any more."""
-    for made in (ATOMS, N.made, _inputs, *_made.values()):
+    for made in (ATOMS, _inputs, *_made.values()):
         made.clear()
 
 
@@ -145,7 +150,8 @@ TABLES = {'S': S, 'T': T}
 
 def substituted(kind, v):
     """Returns S or T of a byte."""
-    for v in v, Known.now.reduced(v):
+    known = Known.now
+    for v in (v, known.reduced(v)) if known.rows else (v,):
         if isinstance(v, int):
             return TABLES[kind][v]
         if v.c == 0 and len(v.t) == 1:
@@ -153,26 +159,26 @@ def substituted(kind, v):
             other, argument = ATOMS.get(atom, (None, None))
             if x == IDENTITY and other == ('T' if kind == 'S' else 'S'):
                 return argument
-    argument = Known.now.argument(kind, v)
+    argument = known.argument(kind, v) if known.rows else None
     if argument is not None:
         return argument
-    atom = _made[kind].get(v)
-    if atom is None and turns:
+    made = _made[kind].get(v)
+    if made is None and turns:
         turns.wait()
-        atom = _made[kind].get(v)
-    if atom is None:
+        made = _made[kind].get(v)
+    if made is None:
         v = V(v.c, {a: _shared.setdefault(x, x) for a, x in v.t.items()})
-        atom = _made[kind][v] = new_atom(kind, v)
+        made = _made[kind][v] = fresh(kind, v)
     if turns:
-        turns.met(atom)
-    return V(0, {atom: IDENTITY})
+        turns.met(*made.t)
+    return made
 
 
 class Table:
     """A function of a byte: an affine map of the byte, its S or its T. Another function is refused."""
-    known = {}
 
     def __init__(self, entries, kinds=(('', range(256)), ('S', T), ('T', S))):
+        self.entries = entries
         for self.kind, order in kinds:
             f = [entries[x] for x in order]
             self.c, columns = f[0], [f[1 << i] ^ f[0] for i in range(8)]
@@ -185,35 +191,20 @@ class Table:
                 return
         raise Refused('a table that is not an affine map of a byte, its S-box or its inverse S-box')
 
-    @classmethod
-    def affine(cls, entries):
-        """Returns the table as an affine map of the byte, or None."""
-        try:
-            return cls(entries, [('', range(256))])
-        except Refused:
-            return None
-
-    def image(self, x):
-        if x not in self.images:
-            self.images[x] = sum(self.linear[x >> 64 * i & 255] << 64 * i for i in range(8))
-        return self.images[x]
-
     def of(self, v):
+        if isinstance(v, int):
+            return self.entries[v]
         v = substituted(self.kind, v) if self.kind else v
         if isinstance(v, int):
             return self.c ^ self.linear[v]
-        images, image = self.images, self.image
-        return form(self.c ^ self.linear[v.c], {
-            a: y for a, x in v.t.items() if (y := images[x] if x in images else image(x))})
+        images = self.images
+        for x in v.t.values():
+            if x not in images:
+                images[x] = sum(self.linear[x >> 64 * i & 255] << 64 * i for i in range(8))
+        return form(self.c ^ self.linear[v.c], {a: y for a, x in v.t.items() if (y := images[x])})
 
 
-def looked_up(entries, v):
-    if isinstance(v, int):
-        return entries[v]
-    table = Table.known.get(entries)
-    if table is None:
-        table = Table.known[entries] = Table(entries)
-    return table.of(v)
+table_of = cache(Table)
 
 
 class Refused(Exception):
@@ -223,6 +214,8 @@ class Refused(Exception):
 # Operations
 
 def xor(a, b):
+    if type(a) is V and type(b) is V:
+        return total((b, a) if len(a.t) < len(b.t) else (a, b))
     if isinstance(a, int) and isinstance(b, int):
         return a ^ b
     if isinstance(a, int):
@@ -233,19 +226,30 @@ def xor(a, b):
         if b == 1 and a.top == 1:
             return eqz(a)
         return N('xor', a, b, top=(1 << (bits(a) | bits(b)).bit_length()) - 1)
-    if isinstance(b, int):
-        return V(a.c ^ b, a.t, a.s)
-    if len(a.t) < len(b.t):
-        a, b = b, a
-    t = dict(a.t)
-    for atom, x in b.t.items():
-        if atom not in t:
-            t[atom] = x
-        elif y := t[atom] ^ x:
-            t[atom] = y
+    return V(a.c ^ b, a.t, a.s)
+
+
+def total(values):
+    """Returns the xor of these values."""
+    c, t = 0, None
+    for v in values:
+        if type(v) is int:
+            c ^= v
+        elif type(v) is not V:
+            return reduce(xor, values)
+        elif t is None:
+            c, t = c ^ v.c, v.t.copy()
         else:
-            del t[atom]
-    return form(a.c ^ b.c, t)
+            c ^= v.c
+            for atom, x in v.t.items():
+                y = t.get(atom)
+                if y is None:
+                    t[atom] = x
+                elif x != y:
+                    t[atom] = x ^ y
+                else:
+                    del t[atom]
+    return V(c, t) if t else c
 
 
 def and_(a, b):
@@ -254,13 +258,12 @@ def and_(a, b):
     if isinstance(a, int):
         a, b = b, a
     if isinstance(b, int):
+        if type(a) is V:
+            return a if a.s is not None and (a.s | a.c) & ~b == 0 else picked(a, b, 0)
         if bits(a) & ~b == 0:
             return a
         if bits(a) & b == 0:
             return 0
-        if isinstance(a, V):
-            mask = b * EACH
-            return form(a.c & b, {atom: y for atom, x in a.t.items() if (y := x & mask)}, flips(a) & b)
         if a.op == 'and' and isinstance(a.args[1], int):
             return and_(a.args[0], a.args[1] & b)
         if a.op == 'xor' and isinstance(a.args[1], int) and b == 1:
@@ -272,16 +275,23 @@ def and_(a, b):
     return a if a == b else N('and', a, b, top=min(bits(a), bits(b)))
 
 
+def picked(v, wanted, k):
+    """Returns these bits of an affine form, k bits lower. They have none of the lowest k bits."""
+    mask = MASKS.get((wanted, k)) or MASKS.setdefault((wanted, k), wanted * EACH >> k)
+    t = {atom: y for atom, x in v.t.items() if (y := x >> k & mask)}
+    return V((v.c & wanted) >> k, t, None if v.s is None else (v.s & wanted) >> k) if t else (v.c & wanted) >> k
+
+
 def or_(a, b):
     if isinstance(a, int) and isinstance(b, int):
         return a | b
     if a == 0 or b == 0:
         return b if a == 0 else a
     if not isinstance(a, N) and not isinstance(b, N) and bits(a) & bits(b) == 0:
-        total = xor(a, b)
+        both = xor(a, b)
         if isinstance(a, V) and isinstance(b, V):
-            total.s = flips(a) | flips(b)
-        return total
+            both.s = flips(a) | flips(b)
+        return both
     for one, other in (a, b), (b, a):
         if bits(one) & ~least(other) == 0:
             return other
@@ -294,12 +304,12 @@ def shl(a, k, w):
     k %= w
     if isinstance(a, int):
         return a << k & 2 ** w - 1
-    a = and_(a, 2 ** (w - k) - 1)
+    a = and_(a, (1 << w - k) - 1)
     if isinstance(a, N):
         return a if k == 0 else N('shl', a, k, w, top=a.top << k)
     if k == 0 or isinstance(a, int):
         return a << k if k else a
-    return V(a.c << k, {atom: x << k for atom, x in a.t.items()}, flips(a) << k)
+    return V(a.c << k, {atom: x << k for atom, x in a.t.items()}, None if a.s is None else a.s << k)
 
 
 def shr(a, k, w):
@@ -312,16 +322,17 @@ def shr(a, k, w):
         if a.op == 'or' and 0 in (parts := [shr(part, k, w) for part in a.args]):
             return or_(*parts)
         return 0 if a.top >> k == 0 else a if k == 0 else N('shr', a, k, w, top=a.top >> k)
-    a = and_(a, 2 ** w - 2 ** k)
-    if k == 0 or isinstance(a, int):
-        return a >> k if k else a
-    return V(a.c >> k, {atom: x >> k for atom, x in a.t.items()}, flips(a) >> k)
+    return picked(a, (1 << w) - (1 << k), k) if k else and_(a, (1 << w) - 1)
 
 
 def rotl(a, k, w):
     if not isinstance(k, int):
         raise Refused('a rotation by a secret')
-    return or_(shl(a, k, w), shr(a, -k, w)) if k % w else a
+    k %= w
+    if type(a) is not V or k == 0:
+        return or_(shl(a, k, w), shr(a, -k, w)) if k else a
+    high, low = ((1 << w) - (1 << k)) * EACH, ((1 << k) - 1) * EACH
+    return V(rotl(a.c, k, w), {atom: x << k & high | x >> w - k & low for atom, x in a.t.items()})
 
 
 def rotr(a, k, w):
@@ -431,9 +442,9 @@ class Known:
         """Returns the equations with those that follow for existing atoms: if T(x) = v, then S(v) = x."""
         self.argument('S', 0)
         for (kind, v), x in self.arguments.items():
-            atom = None if isinstance(v, int) else _made[kind].get(v)
-            if atom is not None and (atom, 0) not in self.rows:
-                more = self.with_zero(xor(V(0, {atom: IDENTITY}), x))
+            made = None if isinstance(v, int) else _made[kind].get(v)
+            if made is not None and (*made.t, 0) not in self.rows:
+                more = self.with_zero(xor(made, x))
                 if more is not None and more is not self:
                     return more.closed()
         return self

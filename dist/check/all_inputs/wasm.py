@@ -230,11 +230,11 @@ class Run(Machine):
             frame = state.frames[-1]
             _, code, result_count, stack, local, labels = frame
             pc, stack[0] = stack[0], None       # a frame that is not on top keeps its place there
-            push, pop = stack.append, stack.pop
+            push, pop, steps = stack.append, stack.pop, 0
             while True:
                 instruction = code[pc]
                 op = instruction[0]
-                self.steps += 1
+                steps += 1
                 if op == 0x20:
                     push(local[instruction[1]])
                 elif op == 0x41:
@@ -260,6 +260,7 @@ class Run(Machine):
                         v = self.place(path, pop())
                     elif op != 0x0C:
                         if not isinstance(stack[-1], int) and not self.decided(path, frame, pc, waiting):
+                            self.steps += steps
                             return False
                         v = pop()
                     if op == 4:
@@ -282,7 +283,7 @@ class Run(Machine):
                         break
                     kind, start, end, height, arity = labels[-1 - depth]
                     if kind == 3:
-                        if self.steps > STEPS:
+                        if self.steps + steps > STEPS:
                             raise Refused('so many instructions that it may not end')
                         del stack[height:]
                         if depth:
@@ -334,6 +335,7 @@ class Run(Machine):
                 elif op == 0:
                     raise Refused('unreachable')
                 pc += 1
+            self.steps += steps
             if state.frames[-1] is frame:
                 state.frames.pop()
                 results = stack[len(stack) - result_count:] if result_count else []

@@ -7,7 +7,7 @@ from operator import and_ as iand, or_ as ior, xor as ixor
 from nibbles import F, look, xor_bytes
 from paths import Machine, Path, byte_of, cell_of, cells_of, joined
 from standard import mix_columns
-from terms import (Refused, add, and_, bswap, eq, eqz, fresh, ite, ltu, mul, or_, rotl, rotr, shl, shr, sub,
+from terms import (M64, Refused, add, and_, bswap, eq, eqz, fresh, ite, ltu, mul, or_, rotl, rotr, shl, shr, sub,
                    substituted, xor)
 
 STEPS = 100_000_000                     # more instructions than any call needs
@@ -190,9 +190,13 @@ class Run(Machine):
     # Operands
 
     def address(self, path, operand):
-        total = operand.offset & mask(64)
+        total = operand.offset & M64
         for name, scale in operand.parts:
-            total = add(total, mul(self.register(path, name, 64), scale, 64), 64)
+            v = path.state.registers[name]
+            if type(total) is int and type(v) is int:
+                total = total + v * scale & M64
+            else:
+                total = add(total, mul(self.register(path, name, 64), scale, 64), 64)
         return total
 
     def register(self, path, name, w):
@@ -359,7 +363,7 @@ class Run(Machine):
         if op in VECTOR:
             VECTOR[op](self, path, *operands)
         elif op in SCALAR:
-            w = next((o.w for o in operands if o.w), 0)
+            w = operands[0].w or operands[-1].w if operands else 0
             SCALAR[op](self, path, *operands, w=w)
         elif op.startswith('set'):
             self.put(path, operands[0], self.condition(path, op[3:]), 8)
@@ -454,12 +458,6 @@ def not_(run, path, to, w):
     run.put(path, to, xor(run.get(path, to, w), mask(w)), w)
 
 
-def neg(run, path, to, w):
-    b = run.get(path, to, w)
-    path.state.flags = 'sub', 0, b, sub(0, b, w), w, None
-    run.put(path, to, path.state.flags[3], w)
-
-
 def product(run, path, source, w):
     total = number(run.get(path, source, w), 'a product') * number(run.register(path, 'rax', w), 'a product')
     path.state.registers |= {'rax': total & mask(w), 'rdx': total >> w}
@@ -511,10 +509,10 @@ SCALAR = {
     'add': arithmetic('add', add), 'sub': arithmetic('sub', sub), 'cmp': arithmetic('sub', sub, False),
     'and': arithmetic('logic', and_), 'or': arithmetic('logic', or_), 'xor': arithmetic('logic', xor),
     'test': arithmetic('logic', and_, False), 'inc': one_more('inc', add), 'dec': one_more('dec', sub),
-    'adc': with_carry(add), 'sbb': with_carry(sub),
+    'sbb': with_carry(sub),
     'shl': shift(shl), 'shr': shift(shr), 'sar': shift(sar), 'rol': shift(rotl), 'ror': shift(rotr),
     'shld': shld,
-    'bswap': byte_swap, 'not': not_, 'neg': neg, 'mul': product, 'imul': imul, 'div': div, 'bt': bt,
+    'bswap': byte_swap, 'not': not_, 'mul': product, 'imul': imul, 'div': div, 'bt': bt,
     'push': lambda run, path, source, w: run.push(path, run.get(path, source, 64)),
     'pop': lambda run, path, to, w: run.put(path, to, run.pop(path), 64),
 }
@@ -581,6 +579,7 @@ def pshufb(run, path, to, source):
         elif constants is None:
             raise Refused('a shuffle of secrets by a secret')
         else:
+            run.shuffles += 1
             made.append(cell_of(look(constants, at)))
     path.state.xmm[to.name] = made
 
@@ -652,15 +651,20 @@ def each_word(function):
     return do
 
 
+def affine(cell):
+    v = byte_of(cell)
+    return number(None, 'AES of tables') if isinstance(v, F) else v
+
+
 def aes(kind, mix):
     """A round of FIPS 197, 5.1 or 5.3.5, with the source as the key; or only InvMixColumns of the source."""
     def do(run, path, to, source):
-        key = [joined([c]) for c in run.vector(path, source)]
+        key = [affine(c) for c in run.vector(path, source)]
         if kind is None:
             path.state.xmm[to.name] = [cell_of(v) for v in mix_columns(key, mix)]
             return
         turn = 4 if kind == 'S' else -4
-        state = [joined([c]) for c in run.vector(path, to)]
+        state = [affine(c) for c in run.vector(path, to)]
         state = [substituted(kind, state[(i + turn * (i % 4)) % 16]) for i in range(16)]
         if mix:
             state = mix_columns(state, mix)

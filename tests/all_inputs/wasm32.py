@@ -1,0 +1,25 @@
+"""Compiles dist/keywrap.c for WebAssembly of 32 bits. The module exports every call of keywrap.c.
+
+usage: wasm32.py OUTPUT        needs clang, wasm-ld"""
+
+import pathlib
+import re
+import subprocess
+import sys
+
+ROOT = pathlib.Path(__file__).resolve().parent.parent.parent
+NO_LIBRARY = pathlib.Path(__file__).with_name("without_a_library")
+
+
+def main(output):
+    headers = "".join((ROOT / "dist" / name).read_text() for name in ("keywrap.h", "keywrap_steps.h"))
+    portable = headers.split("#ifndef KEYWRAP_PORTABLE\n/* The calls for many keys")[0]
+    calls = sorted(set(re.findall(r"^(?:u?int32_t|uint64_t|size_t|void) (keywrap_\w+)\(", portable, re.M)))
+    subprocess.run(["clang", "--target=wasm32", "-O2", "-mbulk-memory", "-mmutable-globals", "-ffreestanding",
+                    "-nostdlib", "-w", f"-I{NO_LIBRARY}", "-DKEYWRAP_TRAP()=__builtin_trap()", "-Wl,--no-entry",
+                    *(f"-Wl,--export={name}" for name in (*calls, "__heap_base", "__stack_pointer")),
+                    ROOT / "dist/keywrap.c", NO_LIBRARY / "memory.c", "-o", output], check=True)
+
+
+if __name__ == "__main__":
+    main(sys.argv[1])
