@@ -31,8 +31,7 @@ def little(v, n=8):
 
 
 class Result:
-    """What a call did: its paths, as (status, places of the branches), counts, and the variables of the object
-    afterwards."""
+    """What a call did: its paths, as (status, places of the branches), counts, and the variables it left."""
 
     def __init__(self):
         self.paths, self.steps, self.lookups, self.shuffles, self.stack, self.variables = [], 0, 0, 0, 0, None
@@ -52,17 +51,12 @@ class Call:
         self.at += len(content) + self.gap
         return self
 
-    def reads(self, content):
-        return self.place(content, self.inputs, len(content))
+    def reads(self, content, sized=True):
+        """If it is `sized`, then its length is the next argument."""
+        return self.place(content, self.inputs, *[len(content)] * sized)
 
-    def reads_fixed(self, content):
-        return self.place(content, self.inputs)
-
-    def changes(self, content):
-        return self.place(content, self.writes, len(content))
-
-    def changes_fixed(self, content):
-        return self.place(content, self.writes)
+    def changes(self, content, sized=True):
+        return self.place(content, self.writes, *[len(content)] * sized)
 
     def changes_numbers(self, content, *count):
         """Numbers of more than a byte, which C aligns."""
@@ -82,12 +76,13 @@ class Call:
 
     def check(self, expected, forks=0):
         """Runs the call. `expected(is_zero)` returns the status, and all that the call may write, in order, as it is
-        afterwards, or None if it is unchanged. On a path the code may branch `forks` times on bytes of any value."""
+        afterwards, or None if it is unchanged. On a path the code may branch `forks` times on bytes of any value, or
+        forks(status) times."""
         for path, status, got in self.ends():
             want, contents = expected(path.is_zero)
             unchanged = [byte_of(cell) for cell in self.writes.values()]
             self.compare(path, status, got, want, unchanged if contents is None else contents)
-            self.ended(path, status, forks)
+            self.ended(path, status, forks(status) if callable(forks) else forks)
 
     def ends(self, before=None):
         """Runs the call, after the path of another call if one is given. Yields each path at its end, with the status
@@ -223,6 +218,11 @@ def wrap(given, kek_len, key_len, out_len=None, iv_len=None):
     call.check(expected, iv_len == 8)
 
 
+def forks_with_iv(more):
+    """Returns how often a call with an initial value may branch: whether it is reserved, and then `more` times."""
+    return lambda status: 1 if status == BAD_IV else 1 + more
+
+
 def unwrap(given, kek_len, key_len, text_len=None, iv_len=None):
     text_len = key_len + 8 if text_len is None else text_len
     kek, text = any_kek('kek', kek_len), any_bytes('text', text_len)
@@ -241,7 +241,7 @@ def unwrap(given, kek_len, key_len, text_len=None, iv_len=None):
             return BAD_LENGTH if is_kek(kek_len) else BAD_KEK, None
         a, key = unwrapped()
         return (OK, key) if standard.is_plain(a, is_zero, iv) else (INTEGRITY, [0] * key_len)
-    call.check(expected, legal + (iv_len == 8))
+    call.check(expected, forks_with_iv(legal) if iv_len == 8 else legal)
 
 
 def wrap_with(given, kek_len, key_len, iv_len=8):
@@ -390,14 +390,15 @@ class Rewrap:
             is_text_of(len(text), self.old_forms) or bool(is_new_length))
         self.old = standard.unwrap_process(old_kek, text) if self.legal else None
         self.new = standard.unwrap_process(new_kek, text) if self.legal and is_new_length else None
-        self.refusal = BAD_LENGTH if is_kek(len(old_kek)) and is_kek(len(new_kek)) else BAD_KEK
+        self.refusal, self.forks = BAD_LENGTH if is_kek(len(old_kek)) and is_kek(len(new_kek)) else BAD_KEK, 0
 
     def of(self, is_zero):
-        """Returns the status, the buffer afterwards, and whether it was new already."""
+        """Returns the status, the buffer afterwards, and whether it was new already. Counts the checks as `forks`."""
         if not self.legal:
             return self.refusal, self.text, 0
         is_old_length = is_text_of(len(self.text), self.old_forms)
         found = form_of(*self.old, is_zero, self.old_forms) if is_old_length else None
+        self.forks = is_old_length + (found is None and self.new is not None)
         if found is None:
             if self.new and form_of(*self.new, is_zero, self.new_forms):
                 return OK, self.text, 1
@@ -420,7 +421,7 @@ def rewrap(given, old_len, new_len, text_len, flags):
         status, after, already = one.of(is_zero)
         return status, after + little(already, 4)
     call = Call(given, 'keywrap_rewrap').reads(old_kek).reads(new_kek).changes(text).number32(flags)
-    call.changes_numbers(any_bytes('form', 4)).check(expected, 2 if flags & PASS_NEW else 1)
+    call.changes_numbers(any_bytes('form', 4)).check(expected, lambda _: one.forks)
 
 
 def rewrap_in_place(given, old_len, new_len, text_len, flags):
@@ -439,7 +440,7 @@ def rewrap_in_place(given, old_len, new_len, text_len, flags):
 def rewrap_steps(given, old_len, new_len, text_len, flags, from_copy=0):
     """begin_rewrap, and next_rewrap or next_rewrap_from until the phase is 0. Between them the steps are made here."""
     keks, text = (any_kek('kek', old_len), any_kek('new', new_len)), any_bytes('text', text_len)
-    one, forks = Rewrap(*keks, text, flags), 2 if flags & PASS_NEW else 1
+    one = Rewrap(*keks, text, flags)
     schedules = [standard.key_expansion(kek) for kek in keks]
 
     def follow(call, path, status, now, phase, rest):
@@ -448,7 +449,7 @@ def rewrap_steps(given, old_len, new_len, text_len, flags, from_copy=0):
         if phase == 0:
             want, after, already = one.of(path.is_zero)
             call.compare(path, status, now, ALREADY_NEW if already else want, after)
-            call.ended(path, status, forks)
+            call.ended(path, status, one.forks)
             return
         if status != OK:
             raise Refused(f'status {status} at phase {phase}')
@@ -459,12 +460,12 @@ def rewrap_steps(given, old_len, new_len, text_len, flags, from_copy=0):
         call = Call(given, 'keywrap_next_rewrap' + '_from' * from_copy).number32(flags)
         if from_copy:
             call.reads(text)
-        call.changes(now[:8] + r).changes_numbers(little(phase, 4)).changes_numbers(little(steps)).changes_fixed(block)
+        call.changes(now[:8] + r).changes_numbers(little(phase, 4)).changes_numbers(little(steps)).changes(block, False)
         for path, status, got in call.ends(path):
             follow(call, path, status, got[:text_len], got[text_len:text_len + 4], got[text_len + 4:])
     call = Call(given, 'keywrap_begin_rewrap').number32(flags).reads(text)
-    call.changes_numbers(any_bytes('form', 4)).changes_numbers(any_bytes('number', 8)).changes_fixed(
-        any_bytes('block', 16))
+    call.changes_numbers(any_bytes('form', 4)).changes_numbers(any_bytes('number', 8)).changes(
+        any_bytes('block', 16), False)
     for path, status, got in call.ends():
         follow(call, path, status, text, got[:4], got[4:])
 
@@ -552,8 +553,8 @@ def rewrap_many(given, old_len, new_len, text_len, flags, count, only=None):
         return OK, [v for _, after, _ in made for v in after] + [
             ALREADY_NEW if already else status for status, _, already in made]
     call = Call(given, 'keywrap_rewrap_many').reads(old_kek).reads(new_kek).changes(sum(texts, [])).number32(flags)
-    call.changes(any_bytes('status', count)).check(
-        expected, (count if only is None else 1) * (2 if flags & PASS_NEW else 1))
+    call.changes(any_bytes('status', count)).check(expected, lambda _: sum(
+        one.forks for i, one in enumerate(each) if only in (None, i)))
 
 
 def kind_many(given, kek_len, text_len, count, only=None):
@@ -638,8 +639,8 @@ def begin_wrap(given, n, iv_len=8):
         if iv_len != 8 or is_reserved(iv, is_zero):
             return BAD_IV, None
         return (OK, little(0) + iv + r[:8]) if is_plain_key(n) else (BAD_LENGTH, None)
-    Call(given, 'keywrap_begin_wrap').reads(iv).reads(r).changes_numbers(any_bytes('number', 8)).changes_fixed(
-        any_bytes('block', 16)).check(expected, 1)
+    Call(given, 'keywrap_begin_wrap').reads(iv).reads(r).changes_numbers(any_bytes('number', 8)).changes(
+        any_bytes('block', 16), False).check(expected, 1)
 
 
 def begin_wrap_padded(given, key_len, n):
@@ -647,7 +648,7 @@ def begin_wrap_padded(given, key_len, n):
     padded = r[:key_len] + [0] * (n - key_len)
     legal = 1 <= key_len and n == room_of(key_len)
     Call(given, 'keywrap_begin_wrap_padded').number(key_len).changes(r).changes_numbers(
-        any_bytes('number', 8)).changes_fixed(any_bytes('block', 16)).check(
+        any_bytes('number', 8)).changes(any_bytes('block', 16), False).check(
         lambda _: (OK, padded + little(0) + standard.aiv(key_len) + padded[:8]) if legal else (BAD_LENGTH, None))
 
 
@@ -659,22 +660,22 @@ def step_wrap(given, n, done):
             return BAD_LENGTH, None
         after, number, following = stepped(r, done + 1, block)
         return OK, after + little(number) + following
-    Call(given, 'keywrap_step_wrap').changes(r).changes_numbers(little(done)).changes_fixed(block).check(expected)
+    Call(given, 'keywrap_step_wrap').changes(r).changes_numbers(little(done)).changes(block, False).check(expected)
 
 
 def end_wrap(given, n, done):
     r, block = any_bytes('key', n), any_bytes('block', 16)
     legal = are_registers(n) and done == steps_of(n)
-    call = Call(given, 'keywrap_end_wrap').changes_fixed(any_bytes('old', 8)).reads(r).number(done)
-    call.reads_fixed(block).check(lambda _: (OK, block[:8]) if legal else (BAD_LENGTH, None))
+    call = Call(given, 'keywrap_end_wrap').changes(any_bytes('old', 8), False).reads(r).number(done)
+    call.reads(block, False).check(lambda _: (OK, block[:8]) if legal else (BAD_LENGTH, None))
 
 
 def begin_unwrap(given, n, padded=0):
     first, r = any_bytes('text', 8), any_bytes('key', n)
     count = steps_of(n)
     a = first if n == 8 else standard.with_t(first, count)
-    Call(given, 'keywrap_begin_unwrap' + '_padded' * padded).reads_fixed(first).reads(r).changes_numbers(
-        any_bytes('number', 8)).changes_fixed(any_bytes('block', 16)).check(
+    Call(given, 'keywrap_begin_unwrap' + '_padded' * padded).reads(first, False).reads(r).changes_numbers(
+        any_bytes('number', 8)).changes(any_bytes('block', 16), False).check(
         lambda _: (OK, little(count) + a + r[-8:]) if are_registers(n, 8 if padded else 16) else (BAD_LENGTH, None))
 
 
@@ -686,7 +687,7 @@ def step_unwrap(given, n, left):
             return BAD_LENGTH, None
         after, number, following = stepped(r, left, block, undo=True)
         return OK, after + little(number) + following
-    Call(given, 'keywrap_step_unwrap').changes(r).changes_numbers(little(left)).changes_fixed(block).check(expected)
+    Call(given, 'keywrap_step_unwrap').changes(r).changes_numbers(little(left)).changes(block, False).check(expected)
 
 
 def end_unwrap(given, n, left, iv_len=8):
@@ -698,7 +699,8 @@ def end_unwrap(given, n, left, iv_len=8):
         if not is_plain_key(n) or left:
             return BAD_LENGTH, None
         return (OK, r + [0] * 16) if standard.is_plain(block[:8], is_zero, iv) else (INTEGRITY, [0] * (n + 16))
-    Call(given, 'keywrap_end_unwrap').reads(iv).changes(r).number(left).changes_fixed(block).check(expected, 2)
+    Call(given, 'keywrap_end_unwrap').reads(iv).changes(r).number(left).changes(block, False).check(
+        expected, forks_with_iv(1))
 
 
 def end_unwrap_padded(given, n, left):
@@ -710,7 +712,7 @@ def end_unwrap_padded(given, n, left):
         length = standard.padded_length(block[:8], r, is_zero)
         return (INTEGRITY, [0] * (n + 16) + given.size(0)) if length is None else (
             OK, r + [0] * 16 + given.size(length))
-    Call(given, 'keywrap_end_unwrap_padded').changes(r).number(left).changes_fixed(block).changes_numbers(
+    Call(given, 'keywrap_end_unwrap_padded').changes(r).number(left).changes(block, False).changes_numbers(
         given.size()).check(expected, 1)
 
 
@@ -723,7 +725,7 @@ def end_unwrap_any(given, n, left):
         found = form_of(block[:8], r, is_zero)
         return (INTEGRITY, [0] * (n + 16) + little(0, 4) + given.size(0)) if found is None else (
             OK, r + [0] * 16 + little(found[0], 4) + given.size(found[1]))
-    Call(given, 'keywrap_end_unwrap_any').changes(r).number(left).changes_fixed(block).changes_numbers(
+    Call(given, 'keywrap_end_unwrap_any').changes(r).number(left).changes(block, False).changes_numbers(
         any_bytes('form', 4)).changes_numbers(given.size()).check(expected, 1)
 
 
@@ -785,7 +787,7 @@ def end_unwrap_many(given, n, left, count, lanes):
         return OK, [v for text, r, good in zip(texts, rs, found) for v in text[:8] + (r if good else [0] * n)] + [
             0] * (16 * count) + [OK if good else INTEGRITY for good in found]
     Call(given, 'keywrap_end_unwrap_many').reads(iv).changes(sum(texts, [])).number(n + 8).number(left).changes(
-        sum(blocks, [])).changes(any_bytes('status', count)).check(expected, 1 + count)
+        sum(blocks, [])).changes(any_bytes('status', count)).check(expected, forks_with_iv(count))
 
 
 def begin_wrap_many(given, n, count, lanes):

@@ -84,7 +84,7 @@ def main(args):
     if processes > 1:
         pool = multiprocessing.Pool(processes, load, args[:1])
     made = pool.imap(tried, todo) if processes > 1 else map(tried, todo)
-    seconds, bad, places, passed = 0, 0, {}, {}
+    seconds, bad, places, passed, looking = 0, 0, {}, {}, set()
     for i, ((name, *numbers), gap) in enumerate(todo, 1):
         line = f'[{i}/{len(todo)}] {show(name, numbers)}' + ' side by side' * (gap == 0)
         if sys.stderr.isatty():
@@ -100,15 +100,16 @@ def main(args):
         for place in forks:
             places.setdefault(place, set()).add(name)
         passed.setdefault(name, []).append((numbers, len(result.paths)))
+        looking |= {name} if result.lookups else set()
         print(f'{line}: passes, status {statuses}, {len(result.paths)} paths, branches: {"; ".join(forks) or "none"}; '
               f'{result.lookups} look-ups in tables, {result.shuffles} in registers, {result.steps} instructions, '
-              f'{result.stack} bytes of stack, '
-              f'{took:.1f} s', flush=True)
+              f'{result.stack} bytes of stack, {took:.1f} s', flush=True)
     paths = sum(paths for calls in passed.values() for _, paths in calls)
     lines = [f'{len(todo) - bad} of {len(todo)} calls pass, {paths} paths, {seconds:.0f} s of a processor']
     lines += [show_all(name, calls) for name, calls in passed.items()]
     if missing:
         lines.append(f'not exported: {", ".join(missing)}')
+    lines.append(f'look-ups in tables: {", ".join(sorted(looking)) or "none"}')
     lines += [f'branch on input bytes at {place}: {", ".join(sorted(places[place]))}' for place in sorted(places)]
     print('\n'.join(textwrap.fill(line, 118, subsequent_indent='    ', break_long_words=False) for line in lines))
     return int(bad > 0)

@@ -35,10 +35,10 @@ unwrap_many 16 360 0 2 1,kind_many 16 360 2 1,rewrap_many 16 24 360 0 2 0,step_w
 step_unwrap_many 352 257 2 2
 """
 # Numbers of steps of two and of three bytes, first those that take longest. Round keys of any value are more than any
-# KEK. 264 bytes are the longest slots that libkeywrap_hw copies.
+# KEK. Slots of 264 bytes are the longest that libkeywrap_hw copies.
 FAR = """
 wrap 184 87392,wrap 16 4096,unwrap 16 4096,rewrap_many 16 24 264 0 48 0,kind_many 16 264 48 0
-rewrap_many 16 24 272 0 2 0,kind_many 16 272 2 0,step_wrap 87392 255,step_wrap 87392 256,step_wrap 87392 257
+rewrap_many 16 24 272 0 48 0,kind_many 16 272 48 0,step_wrap 87392 255,step_wrap 87392 256,step_wrap 87392 257
 step_wrap 87392 65535,step_wrap 87392 65536,step_wrap 87392 65537,step_unwrap 87392 255,step_unwrap 87392 256
 step_unwrap 87392 257,step_unwrap 87392 65535,step_unwrap 87392 65536,step_unwrap 87392 65537,begin_unwrap 88192
 """
@@ -111,15 +111,10 @@ def middle_list():
 
 def many_list(keks, places):
     for kek, count in itertools.product(keks, (1, 2)):
-        yield 'wrap_many', kek, 16, 0, count
-        yield 'wrap_many', kek, 11, 2, count
-        yield 'wrap_many', kek, 5, 2, count
-        yield 'unwrap_many', kek, 24, 0, count
-        yield 'unwrap_many', kek, 16, 1, count
-        yield 'kind_many', kek, 16, count
-        yield 'kind_many', kek, 24, count
-        yield 'rewrap_many', kek, 24, 16, 3, count
-        yield 'rewrap_many', kek, 24, 24, 0, count
+        yield from parsed(f'wrap_many {kek} 16 0 {count},wrap_many {kek} 11 2 {count},wrap_many {kek} 5 2 {count},'
+                          f'unwrap_many {kek} 24 0 {count},unwrap_many {kek} 16 1 {count},kind_many {kek} 16 {count},'
+                          f'kind_many {kek} 24 {count},rewrap_many {kek} 24 16 3 {count},'
+                          f'rewrap_many {kek} 24 24 0 {count}')
     yield 'rewrap_many', 184, 216, 24, 9, 2
     for flags in FLAGS:
         yield 'rewrap_many', 184, 216, 24, flags, 1
@@ -180,34 +175,21 @@ def refusals_list():
     for kek in 8, 20, 28, 40, 176, 208, 272:
         for name in FOR_ONE_KEY:
             yield name, kek, 16
-        for old, new in (kek, 16), (16, kek):
-            yield 'rewrap', old, new, 24, 0
-            yield 'rewrap_in_place', old, new, 24, 0
-            yield 'rewrap_many', old, new, 24, 0, 2
-        yield 'wrap_many', kek, 16, 0, 2
-        yield 'unwrap_many', kek, 24, 0, 2
-        yield 'kind_many', kek, 24, 2
-    for texts_len, count in (0, 0), (48, 0), (0, 2), (47, 2), (49, 2), (24, 2), (48, 3):
-        yield 'uneven_wrap_many', texts_len, count
-        yield 'uneven_rewrap_many', texts_len, count
-        yield 'uneven_unwrap_many', texts_len, count, count
-        yield 'uneven_kind_many', texts_len, count, count, count
-    for lens in 0, 1, 3:
-        yield 'uneven_unwrap_many', 48, lens, 2
-        yield 'uneven_kind_many', 48, lens, 2, 2
-        yield 'uneven_kind_many', 48, 2, lens, 2
+        for pair in f'{kek} 16', f'16 {kek}':
+            yield from parsed(f'rewrap {pair} 24 0,rewrap_in_place {pair} 24 0,rewrap_many {pair} 24 0 2')
+        yield from parsed(f'wrap_many {kek} 16 0 2,unwrap_many {kek} 24 0 2,kind_many {kek} 24 2')
+    for n, count in (0, 0), (48, 0), (0, 2), (47, 2), (49, 2), (24, 2), (48, 3):
+        yield from parsed(f'uneven_wrap_many {n} {count},uneven_rewrap_many {n} {count},'
+                          f'uneven_unwrap_many {n} {count} {count},uneven_kind_many {n} {count} {count} {count}')
+    for n in 0, 1, 3:
+        yield from parsed(f'uneven_unwrap_many 48 {n} 2,uneven_kind_many 48 {n} 2 2,uneven_kind_many 48 2 {n} 2')
     for flags in NO_FLAGS:
-        yield 'rewrap', 16, 24, 24, flags
-        yield 'rewrap_steps', 16, 24, 24, flags
-        yield 'rewrap_many', 16, 24, 24, flags, 2
+        yield from parsed(f'rewrap 16 24 24 {flags},rewrap_steps 16 24 24 {flags},rewrap_many 16 24 24 {flags} 2')
     for flags in *NO_FLAGS, 4, 8, 12:
-        yield 'rewrap_in_place', 16, 24, 24, flags
-        yield 'wrap_many', 16, 16, flags ^ 1, 2
-        yield 'unwrap_many', 16, 24, flags ^ 2, 2
+        yield from parsed(f'rewrap_in_place 16 24 24 {flags},wrap_many 16 16 {flags ^ 1} 2,'
+                          f'unwrap_many 16 24 {flags ^ 2} 2')
     for kek, n in (17, 24), (16, 0), (16, 23):
-        yield 'kind_many', kek, n, 2
-        yield 'rewrap_many', kek, 16, n, 0, 2
-        yield 'rewrap_many', 16, kek, n, 12, 2
+        yield from parsed(f'kind_many {kek} {n} 2,rewrap_many {kek} 16 {n} 0 2,rewrap_many 16 {kek} {n} 12 2')
 
 
 def long_list():

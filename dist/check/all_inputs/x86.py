@@ -552,16 +552,17 @@ def each(function, of_numbers):
     return do
 
 
+def affine(v):
+    """Returns the byte, which must not be a table."""
+    return number(None, 'an operation on a table') if isinstance(v, F) else v
+
+
 def and_bytes(a, b):
-    if isinstance(a, F) or isinstance(b, F):
-        raise Refused('an and of a byte that is no affine map')
-    return and_(a, b)
+    return and_(affine(a), affine(b))
 
 
 def or_bytes(a, b):
-    if isinstance(a, F) or isinstance(b, F):
-        raise Refused('an or of a byte that is no affine map')
-    return or_(a, b)
+    return or_(affine(a), affine(b))
 
 
 def equal_bytes(a, b):
@@ -585,12 +586,10 @@ def pshufb(run, path, to, source):
 
 
 def psrlw(run, path, to, count):
-    k, a, made = count.value, [byte_of(c) for c in run.vector(path, to)], []
+    k, a, made = count.value, [affine(byte_of(c)) for c in run.vector(path, to)], []
     if not 0 < k < 8:
         raise Refused('a shift of words by so much')
     for low, high in zip(a[::2], a[1::2]):
-        if isinstance(low, F) or isinstance(high, F):
-            raise Refused('a shift of a byte that is no affine map')
         made += [cell_of(or_(shr(low, k, 8), shl(high, 8 - k, 8))), cell_of(shr(high, k, 8))]
     path.state.xmm[to.name] = made
 
@@ -651,20 +650,15 @@ def each_word(function):
     return do
 
 
-def affine(cell):
-    v = byte_of(cell)
-    return number(None, 'AES of tables') if isinstance(v, F) else v
-
-
 def aes(kind, mix):
     """A round of FIPS 197, 5.1 or 5.3.5, with the source as the key; or only InvMixColumns of the source."""
     def do(run, path, to, source):
-        key = [affine(c) for c in run.vector(path, source)]
+        key = [affine(byte_of(c)) for c in run.vector(path, source)]
         if kind is None:
             path.state.xmm[to.name] = [cell_of(v) for v in mix_columns(key, mix)]
             return
         turn = 4 if kind == 'S' else -4
-        state = [affine(c) for c in run.vector(path, to)]
+        state = [affine(byte_of(c)) for c in run.vector(path, to)]
         state = [substituted(kind, state[(i + turn * (i % 4)) % 16]) for i in range(16)]
         if mix:
             state = mix_columns(state, mix)
