@@ -20,7 +20,8 @@ tried() {
 }
 
 all_inputs() { python3 -B dist/check/all_inputs/check.py "$1" full "$(nproc)"; }
-export -f all_inputs
+sweep() { python3 -B tests/all_inputs/sweeps.py "$1" 20; }
+export -f all_inputs sweep
 export KEYWRAP_ALL=1 KEYWRAP_EVIDENCE=1
 
 stale='' failed=''

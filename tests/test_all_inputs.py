@@ -1,6 +1,7 @@
 """dist/check/all_inputs: its own tests, its lists over each object, planted bugs that it must refuse, and the second
 standard. The lists of one object are independent, and each is one process."""
 
+import hashlib
 import pathlib
 import re
 import shutil
@@ -11,7 +12,7 @@ import pytest
 
 from all_inputs import bugs
 from builds import run
-from program import all_of, evidence
+from program import all_of
 from tools import need
 
 ROOT = pathlib.Path(__file__).resolve().parent.parent
@@ -49,7 +50,15 @@ def made(once, built):
     return find
 
 
-OBJECTS = ["keywrap.wasm", "keywrap.c by gcc", "keywrap.c by clang for wasm32", "libkeywrap", "libkeywrap_hw"]
+# Each object, and the file of its full list in docs/evidence.
+OBJECTS = {"keywrap.wasm": "all-inputs", "keywrap.c by gcc": "all-inputs-c",
+           "keywrap.c by clang for wasm32": "all-inputs-wasm32", "libkeywrap": "all-inputs-library",
+           "libkeywrap_hw": "all-inputs-hardware"}
+# SECURITY.md: the check of an unwrap or a rewrap; whether an initial value is reserved; whether a kept KEK is marked.
+BRANCHING = set("""
+unwrap unwrap_in_place unwrap_padded unwrap_padded_in_place unwrap_any unwrap_many kind kind_many rewrap
+rewrap_in_place rewrap_steps rewrap_many end_unwrap end_unwrap_padded end_unwrap_any end_unwrap_many
+wrap_with unwrap_with begin_wrap begin_wrap_many unmarked""".split())
 
 
 def test_needs_only_python():
@@ -71,10 +80,15 @@ def test_what_must_be_believed_is_counted():
     assert 2000 < total <= 2700
 
 
-@pytest.mark.parametrize("name", all_of(OBJECTS, ["keywrap.wasm"], in_gate=[]))
+@pytest.mark.parametrize("name", all_of(list(OBJECTS), ["keywrap.wasm"], in_gate=[]))
 def test_checker(made, name):
     """Operations, equations and decisions against numbers; the instructions of an object against the processor."""
     assert "the checker passes its tests" in run(sys.executable, "-B", CHECKER / "test_checker.py", made(name))
+
+
+def branching(said):
+    """The calls that branch on input bytes, by the lines of the output."""
+    return {line.split()[1] for line in said.splitlines() if line.startswith("[") and "branches: none" not in line}
 
 
 def test_short_list():
@@ -82,26 +96,30 @@ def test_short_list():
     said = run("make", "-s", "-C", ROOT / "dist", "check-all-inputs")
     passed, listed = re.search(r"^(\d+) of (\d+) calls pass", said, re.M).groups()
     assert passed == listed and {name for name, *_ in bugs.lists.short_list()} == {*bugs.calls.CALLS}
+    assert branching(said) == BRANCHING - {"begin_wrap_many", "end_unwrap_many"}    # which the module does not have
 
 
-@pytest.mark.parametrize("name", all_of(OBJECTS[1:], [], in_gate=["libkeywrap_hw"]))
+@pytest.mark.parametrize("name", all_of([*OBJECTS][1:], [], in_gate=["keywrap.c by gcc", "libkeywrap_hw"]))
 def test_short_list_of_each_object(made, name):
-    check(made(name))
+    """AES by instructions or shuffles looks up no table, and AES by instructions shuffles no secret."""
+    said = check(made(name))
+    assert branching(said) <= BRANCHING
+    tables = {"keywrap.c by gcc": "kek_init", "libkeywrap": "none", "libkeywrap_hw": "none"}.get(name, ".*")
+    assert re.search(f"^look-ups in tables: {tables}$", said, re.M)
+    assert name != "libkeywrap_hw" or set(re.findall(r"(\d+) in registers", said)) == {"0"}
 
 
-@pytest.mark.needs("git")
-@pytest.mark.parametrize("name", ["all-inputs", "all-inputs-c"])
-def test_evidence_is_of_this_object(name):
-    """docs/evidence/NAME has the SHA-256 of the object in the tree, if the full list has run."""
-    if not (ROOT / "docs/evidence" / name).exists():
-        pytest.skip(f"make evidence has not run: docs/evidence/{name}")
-    assert run(ROOT / "scripts/evidence.sh", "--stale", name) == ""
+@pytest.mark.parametrize("name", all_of(list(OBJECTS), ["keywrap.wasm"]))
+def test_evidence_is_of_this_object(made, name):
+    """docs/evidence has the SHA-256 of the object, if the full list has run."""
+    output = ROOT / "docs/evidence" / OBJECTS[name]
+    if not output.exists():
+        pytest.skip(f"make evidence has not run: {output}")
+    assert hashlib.sha256(made(name).read_bytes()).hexdigest() in output.read_text()
 
 
-@evidence
-@pytest.mark.parametrize("name", ["keywrap.c by clang for wasm32", "libkeywrap_hw"])
+@pytest.mark.parametrize("name", all_of(["keywrap.wasm", "libkeywrap_hw"], []))
 def test_long_list(made, name):
-    """20 minutes of a processor."""
     check(made(name), "long")
 
 

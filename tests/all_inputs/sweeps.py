@@ -108,7 +108,7 @@ def main(path, one_of=1, seed=0, processes=os.cpu_count()):
             text = sweep.changes[i][3]
             reason = next((reason for pattern, reason in rows if re.fullmatch(pattern, text)), None)
             missed += not refused and reason is None
-            print(f"[{n}/{len(chosen)}] refused: {text}" if refused else f"{reason or 'NOT REFUSED'}: {text}", flush=True)
+            print(f"[{n}/{len(chosen)}] refused" if refused else reason or "NOT REFUSED", text, sep=": ", flush=True)
     print(f"{len(chosen)} of {len(sweep.changes)} changes, {missed} neither refused nor explained")
     return int(missed > 0)
 
