@@ -153,13 +153,15 @@ const wrapped: Uint8Array[] = k.wrapMany(b, [b]); const kinds: (Kind | null)[] =
 const results: (Uint8Array | KeywrapError)[][] = [k.unwrapMany(b, [b]), k.rewrapMany(b, b, [b])];
 """
 # A result is not a string, a padded form has no initial value, and what load returns cannot be changed. A refusal among
-# many results is not a key, and nothing found is not a kind.
+# many results is not a key, and nothing found is not a kind. Numbers are not a key, and a text is not a flag.
 WRONG = HEAD + """const text: string = k.wrap(b, b, { iv: b });
 k.wrapPadded(b, b, { iv: b });
 k.version = '1.0.0';
 const unwrapped: Uint8Array[] = k.unwrapMany(b, [b]);
 const rewrapped: Uint8Array[] = k.rewrapMany(b, b, [b]);
 const kinds: Kind[] = k.checkMany(b, [b]);
+k.wrapMany(b, [[1, 2]]);
+k.unwrapMany(b, [b], { padded: 'yes' });
 """
 
 
@@ -170,9 +172,9 @@ def test_types(programs):
         (programs / name).write_text(program)
     options = ["--noEmit", "--strict", "--target", "es2022", "--module", "node16", "--moduleResolution", "node16"]
     ended = subprocess.run(["tsc", *options, "right.mts", "wrong.mts"], cwd=programs, capture_output=True, text=True)
-    refused = dict(re.findall(r"^wrong\.mts\((\d),(.*)", ended.stdout, re.M))
+    refused = dict(re.findall(r"^wrong\.mts\((\d+),(.*)", ended.stdout, re.M))
     reasons = ["type 'string'", "Expected 2 arguments", "read-only", "to type 'Uint8Array[]'", "to type 'Uint8Array[]'",
-               "to type 'Kind[]'"]
+               "to type 'Kind[]'", "to type 'Uint8Array'", "to type 'boolean"]
     assert [*refused] == [str(4 + at) for at in range(len(reasons))], ended.stdout
     assert all(reason in said for reason, said in zip(reasons, refused.values())), ended.stdout
     assert len(re.findall(r"^\S", ended.stdout, re.M)) == len(reasons)

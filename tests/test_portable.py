@@ -263,6 +263,15 @@ def test_check_of_a_wrong_unwrap(portable_program):
     assert subprocess.run(portable_program("gcc", ["wrong.c"], "-O2"), capture_output=True).returncode == 1
 
 
+@pytest.mark.parametrize("place", ["to[room]", "to[-1]", "((uint8_t *)key)[0]"])
+def test_runner_sees_a_change_elsewhere(portable_program, place):
+    """Behind a buffer, before it, and in what is only read."""
+    pathlib.Path("wrong.c").write_text(
+        f'#include "{DIST}/keywrap.h"\n#define keywrap_wrap(kek, n, key, len, to, room) (({place} ^= 1), '
+        f'keywrap_wrap(kek, n, key, len, to, room))\n#include "{ROWS[0]}"\n')
+    assert faces.has_fault("c", portable_program("gcc", ["wrong.c"], "-O2"), "foreign")
+
+
 def directory_files(directory):
     return [str(path.relative_to(directory)) for path in pathlib.Path(directory).rglob("*")]
 
@@ -302,6 +311,7 @@ def test_cmake_of_a_program(copied, example, way):
         run("cmake", "-S", copied, "-B", "built", "-DBUILD_TESTING=OFF", f"-DCMAKE_INSTALL_PREFIX={os.getcwd()}/there")
         run("cmake", "--build", "built")
         run("cmake", "--install", "built")
+        assert sorted(os.listdir("there/include")) == ["keywrap.h", "keywrap_steps.h"]
         shutil.rmtree(copied)
         lines = re.sub(r"add_subdirectory\(keywrap\) +#.*: (.*)", r"\1", lines).replace("(keywrap R", "(keywrap 1.1 R")
     else:

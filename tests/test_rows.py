@@ -21,6 +21,9 @@ def test_published(cases):
 
 
 def test_a_change_beside_the_answer_is_a_fault():
+    """And so is another text."""
+    assert faces.is_right("status=4 text=bad length: 8", "status=4 text=bad length(: 8)?")
+    assert not faces.is_right("status=4 text=bad", "status=4 text=bad length(: 8)?")
     lines = faces.asked("c", "foreign")
     answers = "".join(f"{due} changed\n" for _, due, _ in lines)
     assert len(faces.faults("c", lambda text: answers, "foreign")) == len(lines)

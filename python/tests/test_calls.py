@@ -47,7 +47,9 @@ def test_kek():
             with pytest.raises(TypeError, match="a Kek cannot be pickled or copied"):
                 made_of(kek)
     kek.close()
-    assert not any(kek)
+    with pytest.raises(ZeroDivisionError), keywrap.Kek(KEK) as left:
+        1 / 0
+    assert not any(kek) and not any(left)
     calls = (keywrap.wrap, kek, KEK), (keywrap.check, kek, bytearray()), (keywrap.rewrap, KEK, kek, WRAPPED)
     for call, *given in (*calls, (keywrap.wrap_many, kek, [KEK])):
         with pytest.raises(keywrap.BadKekLength, match="the KEK is closed, or 184 bytes long"):

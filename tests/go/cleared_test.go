@@ -1,4 +1,4 @@
-// A test inside of the module: the memory of steps, which no caller has.
+// Tests inside of the module: memory that no caller has.
 package keywrap
 
 import (
@@ -19,5 +19,14 @@ func TestClear(t *testing.T) {
 		if all := append(s.text, s.block...); !bytes.Equal(all, bytes.Repeat([]byte{due}, 40+16)) {
 			t.Errorf("%v: %x", ended, all)
 		}
+	}
+}
+
+// A call for many keys that is refused leaves no copy of them.
+func TestClearMany(t *testing.T) {
+	s := slotsOf([][]byte{{1, 2}, {3, 4}}, firstLen, plainLen)
+	keys, err := s.results(3, 0, s.whole)
+	if keys != nil || err != ErrBadKEK || len(s.texts) < 20 || !bytes.Equal(s.texts, make([]byte, len(s.texts))) {
+		t.Errorf("%x, %v: %x", keys, err, s.texts)
 	}
 }

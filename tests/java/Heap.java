@@ -1,12 +1,13 @@
 // After wraps and unwraps in pieces, the heap of Java has no copy of a key, not even in arrays to which nothing refers
-// any more: a dump has these, too. Prints how many keys it found. Run it with a heap so large that nothing is
-// collected. The caller's own arrays are cleared here.
+// any more: a dump has these, too. A key that was unwrapped as an object has the only copy. Prints how many others it
+// found. Run it with a heap so large that nothing is collected. The caller's own arrays are cleared here.
 
 import com.sun.management.HotSpotDiagnosticMXBean;
 import java.lang.management.ManagementFactory;
 import java.nio.charset.StandardCharsets;
 import java.nio.file.Files;
 import java.nio.file.Path;
+import java.security.Key;
 import java.util.Arrays;
 import java.util.Random;
 import javax.crypto.Cipher;
@@ -32,13 +33,14 @@ final class Heap {
         return cipher.doFinal(input, 40, input.length - 40, out, 0);
     }
 
-    private static boolean has(byte[] all, byte[] bytes) {
+    private static int count(byte[] all, byte[] bytes) {
+        int found = 0;
         for (int at = 0; at + bytes.length <= all.length; at++) {
             if (all[at] == bytes[0] && Arrays.equals(all, at, at + bytes.length, bytes, 0, bytes.length)) {
-                return true;
+                found++;
             }
         }
-        return false;
+        return found;
     }
 
     public static void main(String[] args) throws Exception {
@@ -57,15 +59,21 @@ final class Heap {
             }
             clear(again);
         }
+        byte[] secret = random(KEYS, LENGTH);
+        cipher.init(Cipher.ENCRYPT_MODE, kek);
+        byte[] wrapped = cipher.doFinal(secret);
+        clear(secret);
+        cipher.init(Cipher.UNWRAP_MODE, kek);
+        Key unwrapped = cipher.unwrap(wrapped, "AES", Cipher.SECRET_KEY);
         String name = args[0];
         ManagementFactory.getPlatformMXBean(HotSpotDiagnosticMXBean.class).dumpHeap(name, false);
         byte[] all = Files.readAllBytes(Path.of(name));
-        if (!has(all, name.getBytes(StandardCharsets.US_ASCII))) {
+        if (count(all, name.getBytes(StandardCharsets.US_ASCII)) == 0 || !unwrapped.getAlgorithm().equals("AES")) {
             throw new AssertionError("the dump lacks what is in use");
         }
-        int found = 0;
-        for (int seed = 0; seed < KEYS; seed++) {
-            found += has(all, random(seed, 8)) ? 1 : 0;
+        int found = -1;
+        for (int seed = 0; seed <= KEYS; seed++) {
+            found += count(all, random(seed, 8));
         }
         System.out.println(found);
     }

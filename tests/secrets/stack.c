@@ -52,6 +52,14 @@ static void rewrap_two(void) {
     if (statuses[0] != KEYWRAP_ALREADY_NEW || statuses[1] != KEYWRAP_OK) status = KEYWRAP_INTEGRITY;
 }
 
+static void kind_two(void) {
+    static uint8_t two[128];
+    memcpy(two, text, whole);
+    memcpy(two + whole, text, whole);
+    status = keywrap_kind_many(kek, kek_len, two, 2 * whole, out, whole - 8, slot_forms, 2, slot_lens, 2, statuses, 2);
+    if (statuses[1] != KEYWRAP_OK) status = KEYWRAP_INTEGRITY;
+}
+
 static void self_test(void) {
     status = keywrap_self_test();
 }
@@ -102,6 +110,7 @@ static const struct watched {
     {"unwrap_many,padded", unwrap_many, wrap_padded, KEYWRAP_OLD_PADDED, UNWRAPS | 1 << BAD_FLAGS},
     {"kind_many,plain", kind_many, wrap, 0, UNWRAPS},
     {"kind_many,padded", kind_many, wrap_padded, 0, UNWRAPS},
+    {"kind_many,two", kind_two, wrap, 0, 1 << DONE},
     {"rewrap_many,plain", rewrap_many, wrap, 0, REWRAPS},
     {"rewrap_many,to_plain", rewrap_many, wrap_padded, KEYWRAP_OLD_PADDED,
      REWRAPS | 1 << NOT_PLAIN},

@@ -110,7 +110,11 @@ def test_a_store_that_is_not_there(words):
 
 
 def test_an_empty_shard(store):
-    shards = [rotate("--jobs", "1", "--shard", f"{number}/12", store) for number in range(1, 13)]
+    """And what is named twice is in one shard only."""
+    os.mkdir("top")
+    store = store.rename("top/store")
+    names = "top", store, store / "5"
+    shards = [rotate("--jobs", "1", "--shard", f"{number}/12", *names) for number in range(1, 13)]
     assert [shard.status for shard in shards] == [0] * 12
     assert sum(shard.counts["keys"] for shard in shards) == 240
     assert [shard.has("no key was found in this shard") for shard in shards].count(True) >= 4

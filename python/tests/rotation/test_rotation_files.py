@@ -310,7 +310,8 @@ class TestAccess:
         assert (file.read_bytes(), status.st_uid, status.st_gid, stat.S_IMODE(status.st_mode)) == (NEW, *owner, mode)
 
     @pytest.mark.skipif(os.geteuid() != 0, reason="not root")
-    def test_refuses_an_owner_that_it_cannot_keep(self, monkeypatch):
+    @pytest.mark.parametrize("owner", [(0, 0), (65534, 34)], ids=["owner", "group"])
+    def test_refuses_an_owner_or_group_that_it_cannot_keep(self, monkeypatch, owner):
         with tempfile.TemporaryDirectory() as name:
             directory = pathlib.Path(name)
             set_keks(directory, monkeypatch)
@@ -318,6 +319,7 @@ class TestAccess:
             file.write_bytes(OLD)
             for path, mode in ((directory, 0o777), *((path, 0o644) for path in directory.iterdir())):
                 path.chmod(mode)
+            os.chown(file, *owner)
             os.seteuid(65534)
             try:
                 why = refusal(file)

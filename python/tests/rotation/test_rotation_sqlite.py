@@ -3,6 +3,7 @@
 import base64
 import contextlib
 import os
+import pathlib
 import shutil
 import sqlite3
 import threading
@@ -158,13 +159,19 @@ class TestTable:
         assert run_sql(database, "SELECT * FROM keys") == rows_under(NEW_KEK)
         assert rotate("--verify", "--table", "keys", database.parent / "app-journal").counts["keys"] == 12
 
-    @pytest.mark.parametrize("mode", ["DELETE", "WAL"])
-    def test_dry_run_and_verify_change_no_byte(self, database, mode):
-        run_sql(database, f"PRAGMA journal_mode = {mode}")
-        before = seen(database)[:8], database.read_bytes(), os.listdir(database.parent)
+    @pytest.mark.parametrize("mode, is_killed", [("DELETE", False), ("WAL", False), ("WAL", True)])
+    def test_dry_run_and_verify_change_no_byte(self, database, mode, is_killed):
+        """Nor do they empty the log of a writer that was killed."""
+        with connected(database) as writer:
+            writer.executescript(f"PRAGMA journal_mode = {mode}; UPDATE keys SET owner = 'other'")
+            shutil.copytree(database.parent, "killed")
+        database = pathlib.Path("killed/keys.db") if is_killed else database
+        files = [path for path in database.parent.iterdir() if path.suffix != ".db-shm"]
+        before = [seen(path)[:8] + (path.read_bytes(),) for path in files]
         for words in (["--dry-run"], ["--verify"]):
-            assert rotate(*words, "--table", "keys", database).status in (5, 6)
-            assert (seen(database)[:8], database.read_bytes(), os.listdir(database.parent)) == before
+            assert rotate(*words, "--table", "keys", database).counts["keys"] == 12
+            assert [seen(path)[:8] + (path.read_bytes(),) for path in files] == before
+            assert is_killed or os.listdir(database.parent) == ["keys.db"]
 
     def test_a_damaged_page_is_no_success(self, tmp_path):
         path = tmp_path / "keys.db"

@@ -116,12 +116,15 @@ class FileListing(Listing):
 
     def all(self, found: Found) -> Iterator[Row]:
         self._left_over: Dict[bytes, List[bytes]] = {}
-        for name in map(os.fsencode, self.names.names):
-            root = _absolute(name)
+        roots = [os.path.realpath(root) if os.path.isdir(root) else root
+                 for root in map(_absolute, map(os.fsencode, self.names.names))]  # fmt: skip
+        directories = [root.rstrip(b"/") + b"/" for root in roots if os.path.isdir(root)]
+        for root in roots:
+            # The outermost directory decides on the shard: so what is named twice is in one.
+            outer = min((each for each in directories if (root + b"/").startswith(each)), key=len, default=b"")
             if os.path.isdir(root):
-                root = os.path.realpath(root)
-                yield from self._below(root, len(root.rstrip(b"/")) + 1, found)
-            elif not self.skips(root) and self.names.has(os.path.basename(root), found):
+                yield from self._below(root, len(outer), found)
+            elif not self.skips(root) and self.names.has(root[len(outer) :] if outer else os.path.basename(root), found):
                 yield self._named(root, found)
         for name in self.names.listed(found):
             yield self._named(_absolute(name), found)
