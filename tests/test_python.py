@@ -6,6 +6,7 @@ import pathlib
 import re
 import shutil
 import subprocess
+import sys
 import textwrap
 
 import pytest
@@ -29,6 +30,15 @@ def test_make_wheel_without_build(python):
                             f"PYTHON={os.getcwd()}/bare/bin/python3"], capture_output=True, text=True)
     assert ended.returncode != 0 and not os.path.exists("library")
     assert "apt-get install python3-build python3-cffi python3-setuptools python3-wheel" in ended.stderr
+
+
+@pytest.mark.needs("import cffi", "import setuptools")
+def test_a_command_that_does_not_compile():
+    """Then there is no package."""
+    words = sys.executable, "-B", "setup.py", "-q", "build_scripts", f"--build-dir={os.getcwd()}/out"
+    env = {**os.environ, "CC": "false"}
+    ended = subprocess.run(words, cwd=ROOT / "python", env=env, capture_output=True, text=True)
+    assert ended.returncode != 0 and "CalledProcessError" in ended.stderr, ended.stderr
 
 
 def test_make_wheel_names_it_last(words, python, dist):
