@@ -124,7 +124,7 @@ class FileListing(Listing):
             outer = min((each for each in directories if (root + b"/").startswith(each)), key=len, default=b"")
             if os.path.isdir(root):
                 yield from self._below(root, len(outer), found)
-            elif not self.skips(root) and self.names.has(root[len(outer) :] if outer else os.path.basename(root), found):
+            elif not self.skips(root) and self.names.has(root[len(outer) or root.rfind(b"/") + 1 :], found):
                 yield self._named(root, found)
         for name in self.names.listed(found):
             yield self._named(_absolute(name), found)
