@@ -1,19 +1,23 @@
 """Leaves out each instruction that the short list runs, and flips each bit of the constants that it reads, one at a
-time. A call of the list has to refuse each change, or a row of explained.txt says why the change alters no result.
-Otherwise the exit status is 1. The calls begin with the variables as a call of the unchanged object left them: with AES
-instructions, their test has passed.
+time. If no call of the list refuses a change, then it must alter no result of these calls: each of them that uses the
+place runs again with numbers, and has to pass. Otherwise the exit status is 1.
+
+The calls begin with the variables as a call of the unchanged object left them: with AES instructions, their test has
+passed.
 
 usage: sweeps.py OBJECT [ONE_OF [SEED [PROCESSES]]]        a random one of ONE_OF of the changes"""
 
+import collections
+import itertools
 import multiprocessing
 import os
 import random
-import re
 import sys
 import time
+from unittest import mock
 
-from bugs import HERE, calls, check, lists, wasm
-from calls import x86
+from bugs import calls, check, lists, wasm
+from calls import standard, x86
 from paths import Machine
 
 # Instructions of WebAssembly (wasm.py) and what takes their place: as little as leaves the stack as high.
@@ -81,40 +85,68 @@ class Sweep:
                 text = " ".join([before[0], ",".join(getattr(operand, "text", str(operand)) for operand in before[1])])
                 yield how, place, ["nop", [], *before[2:]], f"{how}: {self.module.place_of(place)}: {text}"
 
-    def is_refused(self, i):
-        """Whether a call is refused after change i. A fault of the checker ends a list, too."""
+    def verdict(self, i):
+        """What the calls that use change i do: "refused", "no result differs", or "MISSED". A fault of the checker ends
+        a list, too."""
         how, place, instead, _ = self.changes[i]
         where, key = self.place(how, place)
         before, where[key] = where[key], instead
+        said = "refused"
         try:
             for call in self.users[how, place]:
                 calls.perform(self.module, call[0], call[1:])
-            return False
+            said = "MISSED"
+            for seed, call in itertools.product(range(3), self.users[how, place]):
+                given = Numbers(seed)
+                with mock.patch.multiple(calls, any_bytes=given.any_bytes, any_kek=given.any_kek):
+                    calls.perform(self.module, call[0], call[1:])
+            return "no result differs"
         except Exception:
-            return True
+            return said
         finally:
             where[key] = before
+
+
+class Numbers:
+    """The bytes of a call's buffers, as numbers. For seed 0 a text is wrapped under the KEK, for seed 1 padded."""
+
+    def __init__(self, seed):
+        self.random, self.seed, self.kek, self.iv = random.Random(seed), seed, None, standard.DEFAULT_IV
+
+    def any_kek(self, name, n):
+        kek = calls.MARK + self.any_bytes(name, n - 8) if n in calls.KEPT_KEKS else self.any_bytes(name, n)
+        self.kek = self.kek or kek
+        return kek
+
+    def any_bytes(self, name, n):
+        made = list(self.random.randbytes(n))
+        if name == "iv" and n == 8:
+            self.iv = made
+        if self.seed < 2 and name == "text" and calls.is_kek(len(self.kek or [])) and n % 8 == 0 and 16 <= n < 400:
+            made = standard.wrapped_padded(self.kek, made[8:-1]) if self.seed or n == 16 else standard.wrapped(
+                self.kek, made[8:], self.iv)
+        if self.seed == 0 and name == "block":
+            made[:8] = self.iv
+        return made
 
 
 def main(path, one_of=1, seed=0, processes=os.cpu_count()):
     global sweep
     sweep = Sweep(path)
     wasm.STEPS = x86.STEPS = 4 * sweep.steps
-    rows = [line.split(" | ") for line in (HERE / "explained.txt").read_text().splitlines() if not line.startswith("#")]
     chosen = random.Random(seed).sample(range(len(sweep.changes)), -(-len(sweep.changes) // one_of))
-    missed = 0
+    counts = collections.Counter()
     with multiprocessing.get_context("fork").Pool(processes) as pool:
-        for n, (i, refused) in enumerate(zip(chosen, pool.imap(tried, chosen)), 1):
-            text = sweep.changes[i][3]
-            reason = next((reason for pattern, reason in rows if re.fullmatch(pattern, text)), None)
-            missed += not refused and reason is None
-            print(f"[{n}/{len(chosen)}] refused" if refused else reason or "NOT REFUSED", text, sep=": ", flush=True)
-    print(f"{len(chosen)} of {len(sweep.changes)} changes, {missed} neither refused nor explained")
-    return int(missed > 0)
+        for n, (i, verdict) in enumerate(zip(chosen, pool.imap(tried, chosen)), 1):
+            counts[verdict] += 1
+            print("MISSED" if verdict == "MISSED" else f"[{n}/{len(chosen)}] {verdict}", sweep.changes[i][3], sep=": ",
+                  flush=True)
+    print(f"{len(chosen)} of {len(sweep.changes)} changes: {dict(counts)}")
+    return int(counts["MISSED"] > 0)
 
 
 def tried(i):
-    return sweep.is_refused(i)
+    return sweep.verdict(i)
 
 
 if __name__ == "__main__":

@@ -207,7 +207,7 @@ def wrap(given, kek_len, key_len, out_len=None, iv_len=None):
         call.reads(iv)
     call.reads(key).changes(any_bytes('old', out_len))
     legal = is_kek(kek_len) and is_plain_key(key_len) and out_len == key_len + 8
-    wrapped = given.standard(standard.wrapped, kek, key, iv) if legal else None
+    wrapped = given.standard(standard.wrapped, kek, key, iv) if legal and iv_len in (None, 8) else None
 
     def expected(is_zero):
         if iv_len is not None and (iv_len != 8 or is_reserved(iv, is_zero)):
