@@ -90,7 +90,6 @@ class TestTable:
     def test_tables_of_each_kind(self, tmp_path, monkeypatch, columns, values, size):
         """Each row is found, whatever its columns are called and however it is ordered."""
         monkeypatch.setattr("keywrap.rotation.keys.ROWS", size)
-        monkeypatch.setattr(sqlite, "ROWS", size)
         path = tmp_path / "keys.db"
         run_sql(path, f"CREATE TABLE keys ({columns}")
         run_many(path, "INSERT INTO keys VALUES (?, ?, ?)",

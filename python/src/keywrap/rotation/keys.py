@@ -200,14 +200,14 @@ def _all_texts(ring: Ring, notation: Notation, places: Iterable[int], texts: Seq
     return None if fresh is None else dict(zip(places, () if fresh is content else fresh.split()))
 
 
-def some(items: Iterator[Item], length: Callable[[Item], int], times: int = 1) -> List[Item]:
-    """Takes rows or records until they are many, or that many times as many, or long."""
+def some(items: Iterator[Item], length: Callable[[Item], int]) -> List[Item]:
+    """Takes rows or records until they are many, or long."""
     taken: List[Item] = []
     size = 0
     for item in items:
         taken.append(item)
         size += length(item)
-        if len(taken) == times * ROWS or size >= BYTES:
+        if len(taken) == ROWS or size >= BYTES:
             break
     return taken
 

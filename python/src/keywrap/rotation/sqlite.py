@@ -7,12 +7,12 @@ import sqlite3
 import stat
 import time
 from pathlib import Path
-from typing import Any, ContextManager, Dict, List, Optional, Tuple
+from typing import ContextManager, Dict, Optional, Tuple
 
 from . import signs
 from .found import Found, Gone, Refused, Unanswered
 from .keks import Rings
-from .keys import KEY, ROWS, Notation, quoted, renewed_rows, some
+from .keys import KEY, Notation, quoted, renewed_rows, some
 from .listing import FileListing, Listing, Names, Unit
 from .replacing import at_once
 
@@ -102,7 +102,6 @@ class Sqlite:
     def _rows(self, database: sqlite3.Connection, rings: Rings, may_write: bool, size: int) -> Found:
         found, names, read, free = Found(), self._names(database), 0, 0.0
         found.digest, last = self.digest, ()
-        writes: List[Any] = []
         select = ("SELECT " + KEY + ", {row} FROM {table} WHERE {where} ORDER BY {row}").format
         update = "UPDATE {table} SET {set} = ? WHERE ({row}) = ({places}) AND {key} = ?".format(**names)
         # A reader of a log keeps nobody waiting: until it writes, it reads one moment.
@@ -113,21 +112,21 @@ class Sqlite:
         while True:
             where = "({row}) > ({places})".format(**names) if last else "TRUE"
             cursor = database.execute(select(where=where, **names), last)
-            rows = some(cursor, lambda row: row[1] or 0, 1 if writes else 4)  # Each begin may have to wait for others.
+            rows = some(cursor, lambda row: row[1] or 0)
             cursor.close()
             if not rows:
                 break
             last, read = rows[-1][3:], read + len(rows)
             writes = renewed_rows(rings, self.notation, rows, found)
-            for at in range(0, len(writes) if may_write else 0, ROWS):
+            if writes and may_write:
                 if database.in_transaction:
                     database.execute("COMMIT")
                 time.sleep(max(0.0, free - time.monotonic()))  # Others have the lock for as long as we had it.
-                began, part = time.monotonic(), writes[at : at + ROWS]
+                began = time.monotonic()
                 database.execute("BEGIN IMMEDIATE")
-                done = database.executemany(update, ((new, *row[3:], row[0]) for new, row in part)).rowcount
+                done = database.executemany(update, ((new, *row[3:], row[0]) for new, row in writes)).rowcount
                 database.execute("COMMIT")
-                found.unwritten += len(part) - done
+                found.unwritten += len(writes) - done
                 free = 2 * time.monotonic() - began
             signs.beat(size * len(rows) // max(count, len(rows)))
         if database.execute("PRAGMA data_version").fetchone() != version:
