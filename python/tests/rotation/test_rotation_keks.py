@@ -89,14 +89,12 @@ class TestKeks:
         assert (done.status, done.printed.split()) == (0, [f"{keks}/kek.challenge", f"{keks}/new-kek.challenge"])
         for kek, name in (KEK, "kek.challenge"), (NEW_KEK, "new-kek.challenge"):
             assert len(pyca.aes_key_unwrap(kek, bytes.fromhex(read(name)[0]))) == 32
-        again = rotated("--make-challenges")
-        assert (again.status, again.has("kek.challenge: File exists")) == (3, True)
+        assert (again := rotated("--make-challenges")) == 3 and again.has("kek.challenge: File exists")
         write_lines("store", hexes(KEK))
         assert rotated("--new-challenge", "new-kek.challenge", "store") == 0
         swapped = ["--new-challenge", "new-kek.challenge", "--kek", "new-kek.hex", "--new-kek", "kek.hex", "store"]
         for words in (swapped, ["--verify", *swapped], ["--dry-run", *swapped]):
-            done = rotated(*words)
-            assert (done.status, done.has("the new KEK is not that of --new-challenge")) == (3, True)
+            assert (done := rotated(*words)) == 3 and done.has("the new KEK is not that of --new-challenge")
         assert read("store") == hexes(NEW_KEK)
         assert rotated("--verify", "--new-challenge", "new-kek.challenge", "store") == 0
 
@@ -176,12 +174,16 @@ class TestNames:
     def test_names_choose_the_kek(self, kind, one):
         words, content = NAMED[kind]
         of_keks = tables()[:2] if one else tables()
+        assert rotated("--make-challenges", *words, *of_keks) == 0
+        write_lines("keks/new", [f"{name}=new-table{at}.challenge" for at, name in enumerate(OF_TABLE)])
+        guard = ["--new-challenge", "new-kek.challenge" if one else "keks/new"]
         write_lines("store", content(OF_TABLE))
         new = dict.fromkeys(OF_TABLE, NEW_KEK) if one else NEW_OF_TABLE
         for again in (False, True):
-            done = rotated(*words, *of_keks, "store")
+            done = rotated(*words, *guard, *of_keks, "store")
             assert (done.status, read("store"), done.counts["rewrapped"]) == (0, content(new), 0 if again else 12)
             assert again or done.said[:3] == [f"keywrap.rotate: 4 keys were under {name}" for name in OF_TABLE]
+            assert one or rotated(*words, *guard, "--keks", "keks/new-table", "--new-keks", "keks/table", "store") == 3
         os.unlink("keks/table0.hex")  # To verify, nobody reads the old ones.
         assert rotated("--verify", *words, *of_keks, "store") == 0
         write_lines("store", content(OF_TABLE))
@@ -197,8 +199,7 @@ class TestNames:
         words = [*tables(), "--table", "keys", "--kek-name", "owner"]
         assert rotated(*words, "keys.db") == 0
         assert connection.execute("SELECT * FROM keys").fetchall() == content(NEW_OF_TABLE)
-        connection.execute("UPDATE keys SET owner = 'stranger' WHERE rowid = 2")
-        connection.execute("UPDATE keys SET owner = NULL WHERE rowid = 3")
+        connection.execute("UPDATE keys SET owner = CASE rowid WHEN 2 THEN 'stranger' END WHERE rowid IN (2, 3)")
         connection.close()
         done = rotated(*words, "keys.db")
         assert (done.status, [line.split("keys.db: ")[1] for line in done.said[:2]]) == (
@@ -212,8 +213,7 @@ class TestNames:
         write_lines("store", [lines[0], lines[1], moved, *lines[3:]])
         done = rotated(*NAMED["csv"][0], *tables(), "store")
         assert (done.status, done.said[0].endswith("line 3: under no KEK of this rotation")) == (5, True)
-        new = in_csv(NEW_OF_TABLE)
-        assert read("store") == [new[0], new[1], moved, *new[3:]]
+        assert read("store") == [*in_csv(NEW_OF_TABLE)[:2], moved, *in_csv(NEW_OF_TABLE)[3:]]
 
     @pytest.mark.parametrize("table, lines, why", [
         ("table", ["a=table0.hex", "b c"], "line 2 is not NAME="), ("table", ["=table0.hex"], "line 1 is not NAME="),
@@ -238,8 +238,7 @@ class TestNames:
         write_lines("keks/table", [])
         assert pair.rings().keys() == OF_TABLE.keys()
         write_lines("keks/table1.hex", [OTHERS[0].hex()])
-        with pytest.raises(WrongKeks):
-            pair.rings()
+        pytest.raises(WrongKeks, pair.rings)
 
     @pytest.mark.parametrize("count", [10_000, pytest.param(1_000_000, marks=evidence)])
     def test_a_thousand_keks(self, count):

@@ -116,9 +116,15 @@ class Keks(NamedTuple):
             if any(hmac.compare_digest(kek, ring.new) for _, kek in ring.old):
                 raise EqualKeks("the KEK and the new KEK are the same key")
         if new_challenge is not None:
-            wrapped = _digits(_content(new_challenge, "--new-challenge", _KEK_FILE))
-            if wrapped is None or any(keywrap.check(ring.new, wrapped) is None for ring in rings.values()):
-                raise WrongKeks(f"the new KEK is not that of --new-challenge {new_challenge}: are the KEKs swapped?")
+            one = _digits(_content(new_challenge, "--new-challenge", _TABLE))
+            files = table_of(new_challenge, "--new-challenge") if one is None else {}
+            for name, ring in rings.items():
+                path = files.get(name or "")
+                wrapped = one if path is None else _digits(_content(path, "--new-challenge", _KEK_FILE))
+                if wrapped is None or keywrap.check(ring.new, wrapped) is None:
+                    of = "" if name is None else f" of {name!r}"
+                    raise WrongKeks(f"the new KEK{of} is not that of --new-challenge {path or new_challenge}: "
+                                    "are the KEKs swapped?")  # fmt: skip
         return self._replace(challenge=keywrap.wrap(_digest(rings), os.urandom(32)))
 
     def make_challenges(self) -> Iterator[str]:
