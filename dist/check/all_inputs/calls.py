@@ -477,7 +477,7 @@ def little_number(path, content):
     return int.from_bytes(values, 'little')
 
 
-# Many keys. With `only`, all slots but this one are fixed, and so are the KEKs: genuine, refused, new already.
+# Many keys. With `only` the other slots and the KEKs are fixed: genuine, refused, new already. -1: genuine, any KEK.
 
 def fixed(name, n):
     return [(37 * i + 11 * ord(name[0]) + 5) % 256 for i in range(n)]     # no KEK begins with another one
@@ -492,17 +492,21 @@ def texts_of(name, text_len, count, only, flags, kek, new_kek=None):
     for i in range(count):
         key = fixed('slot', text_len - 8)[:text_len - 8 - 3 * (flags & (OLD_PADDED | KEEP_FORM) != 0)]
         key[0] = i
-        under = new_kek if new_kek and i % 3 == 2 else kek
+        under = new_kek if new_kek and i % 3 == 2 and only >= 0 else kek
         padded = flags & (NEW_PADDED if under is new_kek else OLD_PADDED) or flags & KEEP_FORM and i % 2
         slot = (standard.wrapped_padded if padded or len(key) % 8 else standard.wrapped)(under, key)
-        if i % 3 == 1:
+        if i % 3 == 1 and only >= 0:
             slot[5] ^= 1
         slots.append(any_bytes(name, text_len) if i == only else slot)
     return slots
 
 
 def kek_of(name, n, only):
-    return any_kek(name, n) if only is None else fixed(name, n)
+    return any_kek(name, n) if only in (None, -1) else fixed(name, n)
+
+
+def forks_of(count, only):
+    return count if only is None else int(only >= 0)
 
 
 def wrap_many(given, kek_len, key_len, flags, count, only=None):
@@ -538,7 +542,7 @@ def unwrap_many(given, kek_len, text_len, flags, count, only=None):
         return OK, after + lengths + statuses
     call = Call(given, 'keywrap_unwrap_many').reads(kek).changes(sum(texts, [])).number32(flags)
     call.changes_numbers(any_bytes('number', given.module.size_bytes * count), count)
-    call.changes(any_bytes('status', count)).check(expected, count if only is None else 1)
+    call.changes(any_bytes('status', count)).check(expected, forks_of(count, only))
 
 
 def rewrap_many(given, old_len, new_len, text_len, flags, count, only=None):
@@ -572,7 +576,7 @@ def kind_many(given, kek_len, text_len, count, only=None):
     call = Call(given, 'keywrap_kind_many').reads(kek).reads(sum(texts, []))
     call.changes(any_bytes('old', max(text_len - 8, 0))).changes(any_bytes('form', count))
     call.changes_numbers(any_bytes('number', given.module.size_bytes * count), count)
-    call.changes(any_bytes('status', count)).check(expected, count if only is None else 1)
+    call.changes(any_bytes('status', count)).check(expected, forks_of(count, only))
 
 
 def uneven_many(name, given, texts_len, lens, count, forms=None):

@@ -38,9 +38,10 @@ step_unwrap_many 352 257 2 2
 # KEK. Slots of 264 bytes are the longest that libkeywrap_hw copies.
 FAR = """
 wrap 184 87392,wrap 16 4096,unwrap 16 4096,rewrap_many 16 24 264 0 48 0,kind_many 16 264 48 0
-rewrap_many 16 24 272 0 48 0,kind_many 16 272 48 0,step_wrap 87392 255,step_wrap 87392 256,step_wrap 87392 257
+rewrap_many 16 24 272 8 48 0,kind_many 16 272 48 0,step_wrap 87392 255,step_wrap 87392 256,step_wrap 87392 257
 step_wrap 87392 65535,step_wrap 87392 65536,step_wrap 87392 65537,step_unwrap 87392 255,step_unwrap 87392 256
 step_unwrap 87392 257,step_unwrap 87392 65535,step_unwrap 87392 65536,step_unwrap 87392 65537,begin_unwrap 88192
+unwrap_many 16 24 0 49 -1,kind_many 16 24 49 -1,rewrap_many 16 24 24 0 49 -1
 """
 TOO_LONG = """
 wrap 16 1048584,unwrap 16 1048584,wrap_in_place 16 1048584,unwrap_in_place 16 1048584,wrap_padded 16 1048584
@@ -113,13 +114,12 @@ def many_list(keks, places):
     for kek, count in itertools.product(keks, (1, 2)):
         yield from parsed(f'wrap_many {kek} 16 0 {count},wrap_many {kek} 11 2 {count},wrap_many {kek} 5 2 {count},'
                           f'unwrap_many {kek} 24 0 {count},unwrap_many {kek} 16 1 {count},kind_many {kek} 16 {count},'
-                          f'kind_many {kek} 24 {count},rewrap_many {kek} 24 16 3 {count},'
+                          f'kind_many {kek} 24 {count},rewrap_many {kek} 24 16 11 {count},'
                           f'rewrap_many {kek} 24 24 0 {count}')
-    yield 'rewrap_many', 184, 216, 24, 9, 2
     for flags in FLAGS:
         yield 'rewrap_many', 184, 216, 24, flags, 1
-    for count in 48, 49:
-        yield 'wrap_many', 184, 16, 0, count
+    yield from parsed('wrap_many 184 16 0 48,wrap_many 184 16 0 49,rewrap_many 184 216 24 9 2,unwrap_many 16 24 0 9 -1,'
+                      'kind_many 16 24 9 -1,rewrap_many 16 24 24 0 9 -1')
     for only in places:
         yield 'unwrap_many', 16, 24, 0, 49, only
         yield 'kind_many', 16, 24, 49, only
