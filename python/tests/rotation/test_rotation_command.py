@@ -194,8 +194,7 @@ class TestOutput:
     def test_a_report_among_the_files(self, store):
         """It is no file of keys, and replaces none."""
         assert rotate("--report", store / "0", store).has("--report") and found_in(store) == ["old"] * FILES
-        done = rotate("--report", store / "report", store)
-        assert (done.status, found_in(store)) == (5, ALL_NEW)
+        assert ((done := rotate("--report", store / "report", store)).status, found_in(store)) == (5, ALL_NEW)
         assert report_of(store / "report")[-1]["status"] == 5
 
     def test_a_report_or_record_that_cannot_be_written(self, store):
@@ -217,8 +216,7 @@ class TestOutput:
 
     def test_refused_keys_are_named_once_and_counted(self, store):
         (store / "5").write_bytes(b"zz\n" * 2500)
-        done = rotate(str(store))
-        assert (done.status, done.counts["refused"]) == (5, 2500)
+        assert ((done := rotate(str(store))).status, done.counts["refused"]) == (5, 2500)
         assert sum("not in the notation" in line for line in done.said) == 1000
         assert done.has(f"{store}/5: 1500 more keys were refused") or done.has("more is refused")
         assert len(done.said) <= 1003
@@ -325,8 +323,7 @@ class TestNames:
     def test_the_same_file_twice(self, store, monkeypatch):
         monkeypatch.chdir(store)
         (store.parent / "link").symlink_to(store)
-        done = rotate("0", "./0", str(store / "0"), "../link/0")
-        assert (done.status, done.counts["keys"]) == (0, 30)
+        assert ((done := rotate("0", "./0", str(store / "0"), "../link/0")).status, done.counts["keys"]) == (0, 30)
         done = rotate(str(store), "1", ".", "../link")
         assert (done.status, done.counts["keys"], done.counts["rewrapped"]) == (0, 240, 210)
 
@@ -335,8 +332,7 @@ class TestNames:
         more = ["below/.hidden", "below/further/a key", "below/line\nend", "below/\udcff", ".rotating.1", "-rf"]
         for number, name in enumerate(more):
             (store / name).write_bytes(lines_under(KEK, KEYS[number]))
-        done = rotate(str(store))
-        assert (done.status, done.counts["keys"]) == (0, 420)
+        assert ((done := rotate(str(store))).status, done.counts["keys"]) == (0, 420)
         for number, name in enumerate(more):
             assert (store / name).read_bytes() == lines_under(NEW_KEK, KEYS[number])
 
@@ -380,8 +376,7 @@ def test_progress_on_a_terminal(store):
 
 def test_a_rate(store):
     began = time.monotonic()
-    done = rotate("--rate", "100", "--jobs", "4", *names(store))
-    assert (done.status, found_in(store)) == (0, ALL_NEW)
+    assert ((done := rotate("--rate", "100", "--jobs", "4", *names(store))).status, found_in(store)) == (0, ALL_NEW)
     assert time.monotonic() - began > 1  # 240 keys, of which the last units begin after the others' time.
 
 
@@ -450,8 +445,7 @@ pool._serve = lambda *words, real=pool._serve: time.sleep(1) or real(*words)""")
         running = started("--report", "report", *names(store))
         for pid in [*(children(running) if to_all else []), running.pid]:
             os.kill(pid, sent)
-        done = ended(running)
-        assert (done.status, done.said[-1]) == (130, "keywrap.rotate: interrupted: run it again")
+        assert ((done := ended(running)).status, done.said[-1]) == (130, "keywrap.rotate: interrupted: run it again")
         found = found_in(store)
         assert "neither" not in found and "old" in found and found.count("new") >= 2
         *units, last = report_of("report")
@@ -465,8 +459,7 @@ pool._serve = lambda *words, real=pool._serve: time.sleep(1) or real(*words)""")
         for _ in range(2):
             running.send_signal(signal.SIGINT)
             time.sleep(0.5)
-        done = end(running)
-        assert (done.status, done.said) == (130, ["keywrap.rotate: interrupted: run it again"])
+        assert ((done := end(running)).status, done.said) == (130, ["keywrap.rotate: interrupted: run it again"])
         assert found_in(store) == ["old"] * FILES
         assert rotate(store) == 0 and left_over(store) == []
 

@@ -136,8 +136,7 @@ def test_lines_of_one_length_under_one_of_several_keks(keks, kek):
     """All lines at once: they are counted under the KEK that fits."""
     plain = [bytes([at]) * 32 for at in range(50)]
     write_lines("store", hexes([KEK, *OTHERS][kek], plain))
-    done = rotated(*SEVERAL, "store")
-    assert (done.status, read("store")) == (0, hexes(NEW_KEK, plain))
+    assert ((done := rotated(*SEVERAL, "store")).status, read("store")) == (0, hexes(NEW_KEK, plain))
     assert done.said[0] == f"keywrap.rotate: 50 keys were under {keks}/{('kek', '0', '1')[kek]}.hex"
 
 

@@ -111,8 +111,7 @@ ADDED, NEW_ADDED = (hexes(kek, bytes(32))[0] for kek in (KEK, NEW_KEK))
 class TestChanges:
     def test_an_object_that_changes_each_time_is_kept(self):
         change = f'if call == "put" and name == "a": open(path, "w").write({ADDED!r} + " " * (time.time_ns() % 1000))'
-        done = rotated(meanwhile=change)
-        assert (done.status, held()["a"].strip()) == (6, ADDED.strip())
+        assert ((done := rotated(meanwhile=change)).status, held()["a"].strip()) == (6, ADDED.strip())
         assert done.has("a: put ended with status 3: somebody else may have written it, in each of 4 attempts")
 
     @pytest.mark.parametrize("call", ["put", "get"])
@@ -135,6 +134,5 @@ class TestChanges:
         ([*FROM, "--get", "'x {name} {file}", *COMMANDS[2:]], 2, "No closing quotation"),
         ([*FROM, "--get", "none {name} {file}", *COMMANDS[2:]], 5, "get: none: No such file or directory")])
     def test_refuses_arguments(self, words, status, said):
-        done = rotated(commands=words)
-        assert (done.status, done.has(said)) == (status, True), done
+        assert ((done := rotated(commands=words)).status, done.has(said)) == (status, True), done
         assert held() == under(KEK)

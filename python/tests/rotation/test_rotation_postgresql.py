@@ -71,8 +71,7 @@ class TestTable:
     def test_no_column_has_to_order_the_rows(self, server, columns):
         server.sql(f'DROP TABLE IF EXISTS other; CREATE TABLE other ({columns}, key bytea);'
                    + "".join(f"INSERT INTO other (key) VALUES (decode('{key.hex()}', 'hex'));" for key in OLD.values()))
-        done = rotated(table="other")
-        assert (done.status, done.counts["rewrapped"]) == (0, 60), done
+        assert ((done := rotated(table="other")).status, done.counts["rewrapped"]) == (0, 60), done
         found = server.sql("SELECT encode(key, 'hex') FROM other").split()
         assert sorted(found) == sorted(key.hex() for key in NEW.values())
 
@@ -83,8 +82,7 @@ class TestTable:
         CREATE TABLE p1 PARTITION OF parts FOR VALUES WITH (MODULUS 2, REMAINDER 1);""")
         same = OLD[10].hex()
         server.sql(f"INSERT INTO parts SELECT n, decode('{same}', 'hex') FROM generate_series(1, 1500) n; ANALYZE")
-        done = rotated(table="parts")
-        assert (done.status, done.counts["keys"]) == (0, 1500), done
+        assert ((done := rotated(table="parts")).status, done.counts["keys"]) == (0, 1500), done
         assert server.sql("SELECT DISTINCT encode(key, 'hex') FROM parts").split() == [NEW[10].hex()]
 
     def test_names_of_a_strange_table(self, server):
@@ -109,8 +107,7 @@ class TestTable:
     def test_an_unreachable_server(self, server, monkeypatch):
         """The server's words are shown: nobody has read a key."""
         monkeypatch.setenv("PGHOST", "/nonexistent")
-        done = rotated()
-        assert (done.status, "No such file or directory" in done.said[0]) == (6, True), done
+        assert ((done := rotated()).status, "No such file or directory" in done.said[0]) == (6, True), done
 
     def test_dry_run_and_verify(self, server):
         before = server.sql("SELECT ctid, xmin, * FROM keys")
@@ -159,8 +156,7 @@ class TestTable:
         try:
             monkeypatch.setenv("PGUSER", "app")
             for words in ([], ["--verify"]):
-                done = rotated(*words)
-                assert (done.status, done.has("row-level security")) == (5, True), done
+                assert ((done := rotated(*words)).status, done.has("row-level security")) == (5, True), done
         finally:
             server.sql("DROP TABLE keys; DROP ROLE app")
 

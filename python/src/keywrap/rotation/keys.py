@@ -39,10 +39,8 @@ def _from_base64(text: bytes) -> bytes:
 
 
 _CODECS: Dict[str, Tuple[Callable[[bytes], bytes], Callable[[bytes], bytes]]] = {
-    "hex": (binascii.unhexlify, binascii.hexlify),
-    "base64": (_from_base64, base64.b64encode),
-    "base64url": (_from_base64, lambda key: base64.urlsafe_b64encode(key).rstrip(b"=")),
-    "raw": (bytes, bytes)}
+    "hex": (binascii.unhexlify, binascii.hexlify), "base64": (_from_base64, base64.b64encode),
+    "base64url": (_from_base64, lambda key: base64.urlsafe_b64encode(key).rstrip(b"=")), "raw": (bytes, bytes)}
 
 
 class Notation(NamedTuple):
