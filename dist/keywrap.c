@@ -22082,9 +22082,11 @@ static uint8_t *text_of(const struct turn *turn, size_t lane) {
     return turn->texts + turn->text_len * lane;
 }
 
-static struct turn next_turn(uint8_t *texts, size_t text_len, size_t count) {
-    const struct turn turn = {texts, text_len, count < LANES ? count : LANES, 0, {0}};
-    return turn;
+/* Takes the next slots. The blocks are clear: each turn clears them at its end. */
+static void next_turn(struct turn *turn, uint8_t *texts, size_t count) {
+    turn->texts = texts;
+    turn->count = count < LANES ? count : LANES;
+    turn->steps = 0;
 }
 
 /* Makes all steps of wrappings that have begun, or undoes those of unwrappings, over whole groups of
@@ -22103,9 +22105,8 @@ static void run_turn(const struct aes *aes, int decrypts, struct turn *turn) {
 
 /* Begins to unwrap, and undoes all steps. The ends refuse what has not had all steps. */
 static void unwrap_turn(const struct aes *aes, struct turn *turn) {
-    const int32_t status =
-        keywrap_begin_unwrap_many(turn->texts, turn->text_len * turn->count, turn->text_len,
-                                  &turn->steps, turn->blocks, BLOCK * turn->count);
+    const int32_t status = keywrap_begin_unwrap_many(turn->texts, turn->text_len * turn->count, turn->text_len,
+                                                     &turn->steps, turn->blocks, BLOCK * turn->count);
     if (status == KEYWRAP_OK) run_turn(aes, 1, turn);
 }
 
@@ -22131,8 +22132,7 @@ static void copy_lanes(struct turn *turn, struct turn *part, const size_t *lanes
 
 /* Makes or undoes all steps of the lanes from the first one on that have its operation next, and turns
  * them to what comes next. If there are others, the steps are over copies behind each other. */
-static void run_lanes(struct rewraps *rewraps, struct turn *turn, size_t first, uint32_t flags,
-                      uint8_t *statuses) {
+static void run_lanes(struct rewraps *rewraps, struct turn *turn, size_t first, uint32_t flags, uint8_t *statuses) {
     const uint32_t operation = rewraps->phases[first] & OPERATION;
     uint8_t copies[COPIED * LANES];
     size_t lanes[LANES], count = 0;
@@ -22143,8 +22143,7 @@ static void run_lanes(struct rewraps *rewraps, struct turn *turn, size_t first, 
     if (count == turn->count) {
         run_turn(&rewraps->of[operation], operation & KEYWRAP_DECRYPT, turn);
     } else {
-        struct turn part = next_turn(copies, turn->text_len, count);
-        part.steps = turn->steps;
+        struct turn part = {copies, turn->text_len, count, turn->steps, {0}};
         copy_lanes(turn, &part, lanes, 0);
         run_turn(&rewraps->of[operation], operation & KEYWRAP_DECRYPT, &part);
         copy_lanes(turn, &part, lanes, 1);
@@ -22162,8 +22161,7 @@ static void run_lanes(struct rewraps *rewraps, struct turn *turn, size_t first, 
 }
 
 /* Rewraps the slots of a turn, until no lane has a phase. */
-static void rewrap_turn(struct rewraps *rewraps, struct turn *turn, uint32_t flags,
-                        uint8_t *statuses) {
+static void rewrap_turn(struct rewraps *rewraps, struct turn *turn, uint32_t flags, uint8_t *statuses) {
     memcpy(rewraps->before, turn->texts, turn->text_len * turn->count);
     for (size_t i = 0; i < turn->count; i++)
         statuses[i] = (uint8_t)keywrap_begin_rewrap(flags, text_of(turn, i), turn->text_len,
@@ -22195,8 +22193,9 @@ int32_t keywrap_rewrap_many(const uint8_t *old_kek, size_t old_kek_len, const ui
     aes_set_decrypt(&rewraps.of[KEYWRAP_DECRYPT], old_kek, old_kek_len);
     aes_set_encrypt(&rewraps.of[KEYWRAP_NEW], new_kek, new_kek_len);
     aes_set_decrypt(&rewraps.of[OPERATION], new_kek, new_kek_len);
+    struct turn turn = {.text_len = text_len};
     for (size_t i = 0; i < count; i += LANES) {
-        struct turn turn = next_turn(texts + text_len * i, text_len, count - i);
+        next_turn(&turn, texts + text_len * i, count - i);
         rewrap_turn(&rewraps, &turn, flags, statuses + i);
     }
     wipe(&rewraps, sizeof rewraps);
@@ -22211,14 +22210,14 @@ int32_t keywrap_wrap_many(const uint8_t *kek, size_t kek_len, uint8_t *texts, si
     const size_t text_len = texts_len / count;
     if (text_len == 16) {
         for (size_t i = 0; i < count; i++)
-            statuses[i] = (uint8_t)wrap_slot(kek, kek_len, flags, texts + text_len * i, text_len,
-                                             key_len);
+            statuses[i] = (uint8_t)wrap_slot(kek, kek_len, flags, texts + text_len * i, text_len, key_len);
         return KEYWRAP_OK;
     }
     struct aes aes;
     aes_set_encrypt(&aes, kek, kek_len);
+    struct turn turn = {.text_len = text_len};
     for (size_t i = 0; i < count; i += LANES) {
-        struct turn turn = next_turn(texts + text_len * i, text_len, count - i);
+        next_turn(&turn, texts + text_len * i, count - i);
         for (size_t lane = 0; lane < turn.count && status == KEYWRAP_OK; lane++)
             status = keywrap_begin_wrap_slot(flags, key_len, text_of(&turn, lane) + 8, text_len - 8,
                                              &turn.steps, turn.blocks + BLOCK * lane);
@@ -22242,14 +22241,14 @@ int32_t keywrap_unwrap_many(const uint8_t *kek, size_t kek_len, uint8_t *texts, 
     const size_t text_len = texts_len / count;
     if (text_len == 16) {
         for (size_t i = 0; i < count; i++)
-            statuses[i] = (uint8_t)unwrap_slot(kek, kek_len, flags, texts + text_len * i, text_len,
-                                               key_lens + i);
+            statuses[i] = (uint8_t)unwrap_slot(kek, kek_len, flags, texts + text_len * i, text_len, key_lens + i);
         return KEYWRAP_OK;
     }
     struct aes aes;
     aes_set_decrypt(&aes, kek, kek_len);
+    struct turn turn = {.text_len = text_len};
     for (size_t i = 0; i < count; i += LANES) {
-        struct turn turn = next_turn(texts + text_len * i, text_len, count - i);
+        next_turn(&turn, texts + text_len * i, count - i);
         unwrap_turn(&aes, &turn);
         for (size_t lane = 0; lane < turn.count; lane++) {
             uint8_t *text = text_of(&turn, lane);
@@ -22285,8 +22284,9 @@ int32_t keywrap_kind_many(const uint8_t *kek, size_t kek_len, const uint8_t *tex
     uint8_t copy[COPIED * LANES];
     struct aes aes;
     aes_set_decrypt(&aes, kek, kek_len);
+    struct turn turn = {.text_len = text_len};
     for (size_t i = 0; i < count; i += LANES) {
-        struct turn turn = next_turn(copy, text_len, count - i);
+        next_turn(&turn, copy, count - i);
         memcpy(copy, texts + text_len * i, text_len * turn.count);
         unwrap_turn(&aes, &turn);
         for (size_t lane = 0; lane < turn.count; lane++) {
