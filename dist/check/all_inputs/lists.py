@@ -98,9 +98,9 @@ def rewraps_list(pairs, texts, flags=FLAGS):
             yield 'rewrap_in_place', old, new, text, flag
 
 
-def rewrap_steps_list():
+def rewrap_steps_list(texts):
     """These calls have no KEK."""
-    for flags, text, from_copy in itertools.product(FLAGS, (16, 24, 32), (0, 1)):
+    for flags, text, from_copy in itertools.product(FLAGS, texts, (0, 1)):
         yield 'rewrap_steps', 16, 24, text, flags, from_copy
 
 
@@ -124,7 +124,7 @@ def many_list(keks, places):
         yield 'unwrap_many', 16, 24, 0, 49, only
         yield 'kind_many', 16, 24, 49, only
         yield 'rewrap_many', 16, 32, 24, 12, 49, only
-    for only in 0, 47, 48:
+    for only in 0, 48:
         yield 'unwrap_many', 32, 24, 1, 49, only
         for flags in 8, 9:
             yield 'rewrap_many', 16, 32, 24, flags, 49, only
@@ -199,8 +199,8 @@ def long_list():
     yield from lengths_list(KEPT, 16, 16)
     yield from rewraps_list(((16, 24),), (16, 24))
     yield from rewraps_list(((24, 32), (32, 16), (184, 248)), (24,), (0, 12))
-    yield from rewrap_steps_list()
-    yield from many_list((16, 216), (0, 47, 48))
+    yield from rewrap_steps_list((16, 24))
+    yield from many_list((16, 216), (0, 47))
     yield from steps_list(24)
     yield from refusals_list()
     yield 'self_test',
@@ -215,7 +215,7 @@ def full_list():
     yield from rewraps_list(itertools.product(KEKS, KEKS), (16, 24))
     yield from rewraps_list((*zip(KEKS, KEPT), *zip(KEPT, KEKS), (184, 248)), (24,), (0, 12))
     yield from rewraps_list(((184, 216),), range(32, 80, 8))
-    yield from rewrap_steps_list()
+    yield from rewrap_steps_list((16, 24, 32))
     yield from many_list((*KEKS, *KEPT), range(49))
     yield from steps_list(64)
     yield from refusals_list()
