@@ -27,7 +27,7 @@ make dist-js            packs it for npm, as $(DIST)/keywrap-$(version).tgz (1 s
 make go                 packs the Go module of dist/, as $(GO), which GOPROXY can name: dist/GO.md (1 second)
 make sdist              packs the Python package with portable C, for pip to build elsewhere (5 seconds, no kit)
 make dist-sources       writes dist/, from which everyone builds without the kit: C and WebAssembly (10 minutes)
-make test               runs the tests of the built command and the libraries (7 minutes); with KEYWRAP_ALL=1 all (60)
+make test               runs the tests of the built command and the libraries (5 minutes); with KEYWRAP_ALL=1 all (60)
 make packages           installs the packages that the tests use: tests/packages.txt (5 minutes)
 make gate               make proofs: rt ci proves all from nothing and tries each edit; then make test-all (2 hours)
 make evidence           runs what takes too long for the gate, and writes docs/evidence, before a release (hours)

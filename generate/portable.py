@@ -187,10 +187,13 @@ FIXED = {"first": "8", "block": "16"}
 def translator(name, parameters, declared):
     """The CALL of the runtime for a prototype: its buffers and numbers, as the module takes them."""
     parameters = " ".join(parameters.replace("KEYWRAP_RESTRICT ", "").split())
-    buffers, fields, given, rest = [], ["BUFFERS"], ["module"], iter(parameters.split(", "))
+    buffers, numbers, fields, given, rest = [], [], ["BUFFERS"], ["module"], iter(parameters.split(", "))
     for parameter in rest:
         kind, what = re.fullmatch(r"(.*[ *])(\w+)", parameter).groups()
-        if "uint8_t *" not in kind or parameter == "uint8_t *block":
+        if "_check_" in name and kind in ("size_t ", "uint32_t "):
+            argument = f"{'(u32)' * (kind == 'uint32_t ')}NUM({len(numbers)})"
+            numbers.append(what)
+        elif "uint8_t *" not in kind or parameter == "uint8_t *block":
             field, argument = BESIDE[kind]
             fields.append(f".{field} = {what}")
         else:
@@ -200,6 +203,7 @@ def translator(name, parameters, declared):
                            f"{'READS' if kind[0] == 'c' else 'WRITES'}({what}, {size}, {LONGEST.get(what, size)})")
         given.append(argument)
     short = name.removeprefix("keywrap_")
+    fields += [f".numbers = (const u64[]){{{', '.join(numbers)}}}"] * bool(numbers)
     fields += [".begins = 1"] * short.startswith("begin_")
     if f"w2c_{name}" in TURNS:
         declared = declared.replace("perform_steps", "perform_turn")
@@ -214,9 +218,11 @@ def translator(name, parameters, declared):
 
 
 def translators(header, declared):
-    """The CALLs of a header, for its calls for one key."""
-    found = re.findall(r"^int32_t (keywrap_\w+)\(([^)]*\*[^)]*)\);", (ROOT / "dist" / header).read_text(), re.M)
-    return "\n".join(translator(*call, declared) for call in found if not call[0].endswith("_many"))
+    """The CALLs of a header, for its calls for one key. A check is for any."""
+    found = re.findall(r"^(?:KEYWRAP_CHECK )?int32_t (keywrap_\w+)\(([^)]*uint8_t \*[^)]*)\);",
+                       (ROOT / header).read_text(), re.M)
+    return "\n".join(translator(*call, declared) for call in found
+                     if "_check_" in call[0] or not call[0].endswith("_many"))
 
 
 def hardware():
@@ -224,6 +230,7 @@ def hardware():
     parts = []
     for name in HARDWARE:
         text = next(path for path in (PARTS / f"{name}.in", ROOT / "c/hardware" / name) if path.exists()).read_text()
+        text = text.replace("@CHECKS@\n", translators("c/include/keywrap_checks.h", "HIDDEN, perform_steps"))
         text = re.sub(r"^#include (?:\"(?:aes|run)\.h\"|<keywrap(?:_steps|_checks)?\.h>|<std\w+\.h>|<string\.h>)\n",
                       "", text, flags=re.M)
         if name.endswith(".h"):
@@ -269,8 +276,8 @@ def main(wasm, directory):
                         "STEPS_CONSTANTS": constants[1]}.items():
         the_one(f"the place of {name}", rf"^@{name}@$", runtime)
         runtime = runtime.replace(f"@{name}@", value)
-    calls = calls.replace("@CALLS@\n", translators("keywrap.h", "PROVED, perform") + "\n")
-    steps = steps.replace("@CALLS@\n", translators("keywrap_steps.h", "SHOWN, perform_steps"))
+    calls = calls.replace("@CALLS@\n", translators("dist/keywrap.h", "PROVED, perform") + "\n")
+    steps = steps.replace("@CALLS@\n", translators("dist/keywrap_steps.h", "SHOWN, perform_steps"))
     by_aes = hardware()
     (directory / "keywrap.c").write_text(
         f"{runtime}\n/*** The module, by wasm2c ***/\n\n{module}\n{WHOLE_ONLY}{calls}#endif\n\n{steps}\n"
