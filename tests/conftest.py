@@ -29,7 +29,8 @@ ROOT = pathlib.Path(__file__).resolve().parent.parent
 BEFORE = pytest.StashKey()
 # The files of long tests.
 LONG = ("test_shell", "test_secrets", "test_hardware", "test_library", "test_arm64", "test_portable", "test_python",
-        "test_dist", "test_debian", "test_handed_out", "test_provider", "test_facts", "test_go", "test_java", "test_js")
+        "test_dist", "test_debian", "test_handed_out", "test_provider", "test_facts", "test_go", "test_java", "test_js",
+        "test_all_inputs")
 
 
 def pytest_addoption(parser):
@@ -57,6 +58,7 @@ def pytest_collection_modifyitems(config, items):
     processes = int(os.environ.get("PYTEST_XDIST_WORKER_COUNT", "1"))
     block = len(items) // (4 * processes)
     long = [item for item in items if item.path.name.startswith(LONG) and "line" not in item.fixturenames]
+    long.sort(key=lambda item: "long_list" in item.name)  # What is inserted last runs first.
     items[:] = [item for item in items if item not in long]
     for number, item in enumerate(long):
         items.insert(number % processes * block, item)
