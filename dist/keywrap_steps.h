@@ -117,7 +117,7 @@ KEYWRAP_CALL
 int32_t keywrap_end_unwrap_any(uint8_t *registers, size_t len, uint64_t left, uint8_t *block,
                                uint32_t *padded, size_t *key_len);
 
-/* A rewrapping is a sequence of runs of the steps, in one buffer:
+/* A rewrapping is a sequence of at most four runs of the steps, in one buffer:
  *
  *     status = keywrap_begin_rewrap(flags, text, text_len, &phase, &steps, block);
  *     while (phase != 0) {

@@ -49,12 +49,13 @@ $(foreach made,$(changed),$(shell $(call sums,$(made))))
 $(CRATES): jobs = $(if $(filter 1,$(JOBS)),1,2)
 keywrap keywrap_cli $(CHECKS): jobs = $(JOBS)
 ifeq ($(ARCHIVES),)
-# The chain key_files, key_lines, keywrap_cli, keywrap takes the longest, so it comes first. The other crates, which
-# only the program needs, get the time that it leaves.
-$(filter-out key_files key_lines keywrap_cli,$(CRATES)): gently = nice -n 10
+# The crates key_files, key_lines, keywrap_cli, keywrap take longest, one after the other, and keywrap_cli also waits
+# for key_wrap_core, so these come first. Others get the time that they leave. A second job costs a seventh of a crate's
+# processor time, and only the first two need it.
+others = $(filter-out key_files key_lines,$(CRATES:keywrap_cli=))
+$(others): jobs = 1
+$(filter-out block_pair key_wrap_core,$(others)): gently = nice -n 10
 keywrap_io keywrap_args: gently = nice -n 19
-# A second job costs a seventh of a crate's processor time, and these are done before anything waits for them.
-keywrap_io keywrap_args aes_vector: jobs = 1
 else
 # All archives wait for it.
 keywrap_calls: jobs = $(JOBS)

@@ -182,15 +182,15 @@ mv kept.mk scripts/first_use.mk
 # Four crates that use none of the others, and a fifth that uses the second.
 crates first_four: second_four: third_four: fourth_four: 'above_second: second_four' 'keywrap_c staticlib:' \
     'keywrap: first_four second_four third_four fourth_four above_second'
-begins=('first_four: build --jobs 2' 'fourth_four: build --jobs 2' 'second_four: build --jobs 2'
-    'third_four: build --jobs 2')
+begins=('first_four: build --jobs 1' 'fourth_four: build --jobs 1' 'second_four: build --jobs 1'
+    'third_four: build --jobs 1')
 all_ended=('ended first_four' 'ended fourth_four' 'ended second_four' 'ended third_four')
 # The notes of crates that are built side by side may come in any order.
 order=(sort -o notes notes)
-# Four crates are built at once, with two jobs each. The program comes last, with more.
+# Four crates are built at once, with one job each. The program comes last, with more.
 fresh; processors=9 at='.*_four' event='until_true begun 4; sleep 0.2' launch
 verdict 'side by side' "$([ "$status" = 5 ] || cat err
-    sed -n 's/.*_.*: build --jobs //p' notes | grep -vx 2
+    sed -n 's/.*_.*: build --jobs //p' notes | grep -vx 1
     LC_ALL=C sort notes | sed -n 's/: build .*//p' | paste -sd ' ' |
         diff - <(echo above_second first_four fourth_four keywrap second_four third_four)
     tail -n 2 notes | diff - <(printf '%s\n' "keywrap: build --jobs 4" 'ends keywrap'))"
@@ -198,7 +198,7 @@ verdict 'side by side' "$([ "$status" = 5 ] || cat err
 fresh; at='(first|third|fourth)_four' event='until_true grep -q "^ends above" "$tree/notes"' launch
 verdict 'a crate begins where those below it are proved' "$([ "$status" = 5 ] || cat err
     grep -e '^ends second' -e above notes |
-        diff - <(printf '%s\n' 'ends second_four' 'above_second: build --jobs 2' 'ends above_second')
+        diff - <(printf '%s\n' 'ends second_four' 'above_second: build --jobs 1' 'ends above_second')
     grep -A 9 '^ends above' notes | grep -c '^ends .*_four' | grep -vx 3)"
 
 # If a proof fails, the proofs beside it are ended, and no other begins. The second ends once make, which waits for its

@@ -22,4 +22,3 @@ pub mod EitherForms
 pub mod KindForms
 pub mod Rewraps
 pub mod Results
-pub mod RewrapTurns

@@ -1,6 +1,6 @@
 -- What a step of a wrapping and a step undone share: the tape and the registers.
-use Rattle.std.proofs.Common.{◌≡◌, ℕ, zero, suc, ◌+◌, ◌-◌, ◌*◌, ◌/◌, ◌%◌, ◌≤◌, ◌<◌, List, ◌∷◌, ◌++◌, length, replicate, sym, ap}
-use Rattle.std.proofs.Common.{◌∙◌, arith, length-append, subst}
+use Rattle.std.proofs.Common.{◌≡◌, ℕ, ◌+◌, ◌-◌, ◌*◌, ◌/◌, ◌%◌, ◌≤◌, ◌<◌, List, ◌∷◌, ◌++◌, length, replicate, sym, ap}
+use Rattle.std.proofs.Common.{◌∙◌, arith, length-append}
 use Rattle.std.proofs.lemmas.List.{length-replicate, get_or-append_right, get_or_append_left}
 use Rattle.std.proofs.Math.Seq.{get_or-append_seam}
 use Rattle.std.proofs.Math.Nat.{mul-le-mul_left, mul-add-mod_self_left, mod-eq_of_lt, div-add-mod}
@@ -114,16 +114,3 @@ one_call len e = ap (λ (k : ℕ). block_calls (8 + k)) e
 -- and more words six each
 pub more_calls : (len : ℕ) → 16 ≤ len → block_calls (8 + len) ≡ 6 * (len / 8)
 more_calls len more = grind arith
-
--- what holds at 0 and from each number to the next holds at the last, and back
-pub climb : (S : ℕ → Type 0) (n : ℕ) → S 0 → ((t : ℕ) → t < n → S t → S (t + 1)) → S n
-climb S zero start step = start
-climb S (suc n) start step =
-    let next : n + 1 ≡ suc n = omega arith in
-    subst S next (step n (omega arith) (climb S n start (λ t below. step t (omega arith))))
-
-pub descend : (S : ℕ → Type 0) (n : ℕ) → S n → ((t : ℕ) → t < n → S (t + 1) → S t) → S 0
-descend S zero start step = start
-descend S (suc n) start step =
-    let next : n + 1 ≡ suc n = omega arith in
-    descend S n (step n (omega arith) (subst S (sym next) start)) (λ t below. step t (omega arith))

@@ -15,12 +15,12 @@ use Rattle.key_wrap_core.specs.BlockCalls.{block_calls}
 use Rattle.key_wrap_core.specs.Tape.{Tape}
 use Rattle.key_wrap_core.specs.Registers.{Registers}
 use Rattle.key_wrap_core.specs.PaddedRegisters.{PaddedRegisters}
-use Rattle.key_wrap_core.specs.Steps.{UnwrapSteps, UnwrapState, UnwrapRun}
+use Rattle.key_wrap_core.specs.Steps.{UnwrapSteps, UnwrapState}
 use Rattle.key_wrap_core.proofs.Spelling.{word_of_bytes, joined_block, length-spelled}
 use Rattle.key_wrap_core.proofs.Registering.{first_eight, past_eight, block_split}
 use Rattle.key_wrap_core.proofs.PaddedForm.{many_registers, one_block}
 use Rattle.key_wrap_core.proofs.Places.{Part, After, register_of, with_register, part_before, after_before, after_reads}
-use Rattle.key_wrap_core.proofs.Stepping.{part_of, tape_of, held, after, turn, Between, no_step, one_call, more_calls, descend}
+use Rattle.key_wrap_core.proofs.Stepping.{part_of, tape_of, held, after, turn, Between, no_step, one_call, more_calls}
 
 -- a word before place m leaves the rest as it is
 drop_after : (m p w : ℕ) (x : List ℕ) → p < m → drop m (set x p w) ≡ drop m x
@@ -234,12 +234,6 @@ unended_state {E = E} {text = text} {registers = registers} {block = block} (inr
 pub unended_padded : {E : List ℕ → List ℕ} {text registers block : List ℕ} (found : ℕ) → word_bytes found ≡ take 8 block
     → UnwrapState E text 0 registers block → PaddedRegisters E (word_bytes found ++ registers) text
 unended_padded found value state = rw value (unended_state state)
-
--- a whole unwrapping
-pub run_undone : (E : List ℕ → List ℕ) (text : List ℕ) (registers block : ℕ → List ℕ) → UnwrapRun E text registers block
-    → PaddedRegisters E (take 8 (block 0) ++ registers 0) text
-run_undone E text registers block run =
-    unended_state (descend (λ (t : ℕ). UnwrapState E text t (registers t) (block t)) (block_calls (length text)) run.begun run.step)
 
 -- what is to be decrypted is a block
 pub undo_block : {E : List ℕ → List ℕ} {t : ℕ} {text registers block : List ℕ} → (length registers ≡ 8 → IsBlock text × (t ≡ 1))

@@ -13,19 +13,15 @@ use Rattle.block_pair.specs.Words.{IsByte, IsWord, IsBlock}
 use Rattle.key_wrap_core.specs.Words.{at, word_bytes, spelled, joined}
 use Rattle.key_wrap_core.specs.BlockCalls.{block_calls}
 use Rattle.key_wrap_core.specs.Tape.{Tape}
-use Rattle.key_wrap_core.specs.Lengths.{IsPlainKeyLength, IsPaddedKeyLength}
-use Rattle.key_wrap_core.specs.Plain.{Plain}
-use Rattle.key_wrap_core.specs.Padded.{Padded, aiv, padded}
 use Rattle.key_wrap_core.specs.Registers.{Registers}
 use Rattle.key_wrap_core.specs.PaddedRegisters.{PaddedRegisters}
-use Rattle.key_wrap_core.specs.Steps.{WrapSteps, WrapState, WrapRun}
-use Rattle.key_wrap_core.proofs.Spelling.{word_of_bytes, word_place, joined_block, length-spelled, length-word_bytes}
+use Rattle.key_wrap_core.specs.Steps.{WrapSteps, WrapState}
+use Rattle.key_wrap_core.proofs.Spelling.{word_of_bytes, joined_block, length-spelled, length-word_bytes}
 use Rattle.key_wrap_core.proofs.Tapes.{xored_back}
 use Rattle.key_wrap_core.proofs.Registering.{first_eight, block_split}
-use Rattle.key_wrap_core.proofs.PlainForm.{registers_plain}
-use Rattle.key_wrap_core.proofs.PaddedForm.{many_registers, registers_padded, one_block}
+use Rattle.key_wrap_core.proofs.PaddedForm.{many_registers, one_block}
 use Rattle.key_wrap_core.proofs.Places.{Part, After, register_of, with_register, part_next, after_next, after_reads}
-use Rattle.key_wrap_core.proofs.Stepping.{part_of, tape_of, held, after, turn, Between, no_step, one_call, more_calls, climb}
+use Rattle.key_wrap_core.proofs.Stepping.{part_of, tape_of, held, after, turn, Between, no_step, one_call, more_calls}
 
 -- a word past the first n leaves these as they are
 take_before : (n p w : ℕ) (x : List ℕ) → n ≤ p → take n (set x p w) ≡ take n x
@@ -224,9 +220,8 @@ ended_registers {E = E} {iv = iv} {key = key} {registers = registers} {block = b
     }
 
 -- the key is as long as the registers
-key_size : {E : List ℕ → List ℕ} {iv t : ℕ} {key registers block : List ℕ} → (h : WrapSteps E iv key t registers block) → t ≤ 6 * h.n
-    → length key ≡ length registers
-key_size h all = omega (arith, ap length h.key_words, length-spelled (take h.n h.x), length-take h.n h.x, h.tape.length_x, ap length h.hold.words, length-spelled h.hold.R, h.hold.size)
+pub key_size : {E : List ℕ → List ℕ} {iv t : ℕ} {key registers block : List ℕ} → WrapSteps E iv key t registers block → length key ≡ length registers
+key_size h = omega (arith, ap length h.key_words, length-spelled (take h.n h.x), length-take h.n h.x, h.tape.length_x, ap length h.hold.words, length-spelled h.hold.R, h.hold.size)
 
 -- all the steps, in either form
 pub ended_state : {E : List ℕ → List ℕ} {iv t : ℕ} {key registers block : List ℕ} → t ≡ block_calls (8 + length registers)
@@ -236,7 +231,7 @@ ended_state {E = E} {iv = iv} {key = key} {registers = registers} {block = block
     let number = more_calls (length registers) more in
     let h : WrapSteps E iv key (6 * (length registers / 8)) registers block = rw (all, number) at many.1 in
     let size : length (word_bytes iv ++ key) ≡ 8 + length registers =
-    omega (arith, length-append (word_bytes iv) key, length-word_bytes iv, key_size h (omega (arith, count_of h))) in
+    omega (arith, length-append (word_bytes iv) key, length-word_bytes iv, key_size h) in
     many_registers (omega arith) (ended_registers h)
 ended_state {E = E} {iv = iv} {key = key} {registers = registers} {block = block} all (inr one) =
     let eight = one.0 in
@@ -251,55 +246,3 @@ state_block inv all (inl many) = under_block many.1
 state_block inv all (inr one) =
     let eight = one.0 in
     subst (λ (b : List ℕ). IsBlock b) (sym (one.1.done (all ∙ one_call _ eight)).0) (inv.encrypts _ (joined_block _ one.1.p))
-
--- all the steps of a plain key
-pub ended_plain : {E : List ℕ → List ℕ} {iv t : ℕ} {key registers block : List ℕ} → t ≡ block_calls (8 + length registers)
-    → IsPlainKeyLength (length key) → WrapState E iv key t registers block → Plain E iv key (take 8 block ++ registers)
-ended_plain {E = E} {iv = iv} {key = key} {registers = registers} {block = block} all legal (inl many) =
-    let more = many.0 in
-    let number = more_calls (length registers) more in
-    let h : WrapSteps E iv key (6 * (length registers / 8)) registers block = rw (all, number) at many.1 in
-    let word : IsWord iv = subst IsWord h.initial (word_place h.a h.tape.words_a 0) in
-    registers_plain iv key (take 8 block ++ registers) word legal (ended_registers h)
-ended_plain all legal (inr one) = absurd (omega (arith, ap length one.1.key_word, length-word_bytes one.1.p, legal.1))
-
--- all the steps of a padded key
-pub ended_padded : {E : List ℕ → List ℕ} {t : ℕ} {key registers block : List ℕ} → t ≡ block_calls (8 + length registers)
-    → IsPaddedKeyLength (length key) → WrapState E (aiv (length key)) (padded key) t registers block
-    → Padded E key (take 8 block ++ registers)
-ended_padded {key = key} {registers = registers} {block = block} all legal state =
-    registers_padded key (word_bytes (aiv (length key)) ++ padded key) (take 8 block ++ registers) legal refl (ended_state all state)
-
--- in every state the key is as long as the registers
-pub state_size : {E : List ℕ → List ℕ} {iv t : ℕ} {key registers block : List ℕ} → WrapState E iv key t registers block
-    → length key ≡ length registers
-state_size (inl many) =
-    let h = many.1 in
-    omega (
-      arith,
-      ap length h.key_words,
-      length-spelled (take h.n h.x),
-      length-take h.n h.x,
-      h.tape.length_x,
-      ap length h.hold.words,
-      length-spelled h.hold.R,
-      h.hold.size,
-    )
-state_size (inr one) = let eight = one.0 in omega (arith, ap length one.1.key_word, length-word_bytes one.1.p, eight)
-
--- a whole wrapping
-pub run_plain : (E : List ℕ → List ℕ) (iv : ℕ) (key : List ℕ) (registers block : ℕ → List ℕ) → IsPlainKeyLength (length key)
-    → WrapRun E iv key registers block
-    → let all = block_calls (8 + length key) in Plain E iv key (take 8 (block all) ++ registers all)
-run_plain E iv key registers block legal run =
-    let all : ℕ = block_calls (8 + length key) in
-    let state = climb (λ (t : ℕ). WrapState E iv key t (registers t) (block t)) all run.begun run.step in
-    ended_plain (ap (λ (k : ℕ). block_calls (8 + k)) (state_size state)) legal state
-
-pub run_padded : (E : List ℕ → List ℕ) (key : List ℕ) (registers block : ℕ → List ℕ) → IsPaddedKeyLength (length key)
-    → WrapRun E (aiv (length key)) (padded key) registers block
-    → let all = block_calls (8 + length (padded key)) in Padded E key (take 8 (block all) ++ registers all)
-run_padded E key registers block legal run =
-    let all : ℕ = block_calls (8 + length (padded key)) in
-    let state = climb (λ (t : ℕ). WrapState E (aiv (length key)) (padded key) t (registers t) (block t)) all run.begun run.step in
-    ended_padded (ap (λ (k : ℕ). block_calls (8 + k)) (state_size state)) legal state

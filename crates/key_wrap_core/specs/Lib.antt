@@ -19,4 +19,3 @@ pub mod Unwrapping
 pub mod BufferCalls
 pub mod StepCalls
 pub mod Private
-pub mod RewrapPhases

@@ -1,4 +1,4 @@
--- The promises of the functions that only this crate calls.
+-- The promises of the functions that only this crate and key_wrap_steps call.
 use Rattle.std.specs.Prelude.{◌≡◌, ◌↔◌, ℕ, List, ◌++◌, length, take, All, Result, Ok, Err, IsOkUnless}
 use Rattle.block_pair.specs.Pair.{AreInverse}
 use Rattle.key_wrap_core.specs.declared.agreed_form.AgreedForm.{AgreedForm}

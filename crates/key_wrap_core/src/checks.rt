@@ -19,20 +19,20 @@ pub(crate) const DEFAULT_IV: u64 = 0xA6A6_A6A6_A6A6_A6A6;
 // The first four bytes of the alternative initial value (RFC 5649, section 3).
 pub(crate) const AIV_PREFIX: u32 = 0xA659_59A6;
 
-// The alternative initial value of a key of `len` bytes (RFC 5649, section 3).
-pub(crate) fn padded_iv(len: usize) -> u64
+/// The alternative initial value of a key of `len` bytes (RFC 5649, section 3).
+pub fn padded_iv(len: usize) -> u64
     requires { len ≤ MAX_KEY }
     ensures { result ≡ aiv len }
 {
     (u64::from(AIV_PREFIX) << 32) + len as u64
 }
 
-// The only decision of an unwrapping, in either form: if the value found differs from the value
-// expected, the registers become zeros. Each caller has computed the whole difference before, so
-// nothing shows which check failed, or at which byte. Not inlined, so that a tool that follows
-// secrets can name the one place in which control depends on them.
+/// The only decision of an unwrapping, in either form: if the value found differs from the value
+/// expected, the registers become zeros. Each caller has computed the whole difference before, so
+/// nothing shows which check failed, or at which byte. Not inlined, so that a tool that follows
+/// secrets can name the one place in which control depends on them.
 #[inline(never)]
-pub(crate) fn decide(difference: u64, registers: &mut [u8]) -> Result<(), InPlaceFault>
+pub fn decide(difference: u64, registers: &mut [u8]) -> Result<(), InPlaceFault>
     ensures passes { IsOk result ↔ (difference ≡ 0) }
     ensures only_fault { IsOkUnless result InPlaceFault.Integrity }
     ensures kept { OnOk result (registers.new ≡ registers.old) }

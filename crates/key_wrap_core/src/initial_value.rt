@@ -54,8 +54,8 @@ impl InitialValue {
         self.word.to_be_bytes()
     }
 
-    // The word.
-    pub(crate) fn word(&self) -> u64
+    /// The word.
+    pub fn word(&self) -> u64
         ensures value { result ≡ self.now }
         ensures free { ¬ IsReserved self.now }
     {

@@ -10,7 +10,8 @@
 //! unwrap_into(&mut meter, &wrapped, &mut key)?;
 //! ```
 //!
-//! No call takes memory. `key_wrap` has calls that return a `Vec`.
+//! No call takes memory. `key_wrap` has calls that return a `Vec`. `key_wrap_steps` has calls that make
+//! one step: what takes a block, registers or an initial value as a word is here for them.
 #![tactic(auto)]
 
 mod agreed_form;
@@ -27,16 +28,13 @@ mod kinds;
 mod laws;
 mod lengths;
 mod machine;
-mod rewrap_steps;
 mod rewrapping;
 mod steps;
-mod unwrap_steps;
 mod unwrapping;
-mod whole_runs;
-mod wrap_steps;
 
 pub use agreed_form::AgreedForm;
 pub use any_form::{unwrap_any_in_place, unwrap_any_into};
+pub use checks::{decide, padded_iv};
 pub use faults::{InPlaceFault, Refusal, ReservedIv};
 pub use forms::{Form, FoundKey, Kind};
 pub use in_place::{unwrap_in_place, unwrap_padded_in_place, wrap_in_place, wrap_padded_in_place};
@@ -48,16 +46,15 @@ pub use laws::{one_key_law, one_text_law};
 pub use lengths::{
     MAX_KEY, WORD, key_length_ok, padded_length_ok, padded_text_length_ok, text_len, text_length_ok,
 };
-pub use rewrap_steps::{
-    RewrapNext, RewrapPhase, RewrapRequest, begin_rewrap, next_rewrap, next_rewrap_from,
+pub use rewrapping::{
+    RewrapForms, Rewrapped, fit, old_difference, one_result_law, rewrap, rewrap_length_ok,
+    to_itself,
 };
-pub use rewrapping::{RewrapForms, Rewrapped, one_result_law, rewrap, rewrap_length_ok};
-pub use steps::{register_after, register_before, step_count};
-pub use unwrap_steps::{
-    begin_unwrap, begin_unwrap_padded, end_unwrap, end_unwrap_any, end_unwrap_padded, step_unwrap,
+pub use steps::{
+    first_block, last_block, register_after, register_before, registers_ok, step_count,
+    step_registers, unstep_registers,
 };
-pub use whole_runs::{whole_rewrap_law, whole_unwrap_law, whole_wrap_law};
-pub use wrap_steps::{begin_wrap, begin_wrap_padded, end_wrap, step_wrap};
+pub use unwrapping::{end_any, end_padded, end_plain};
 
 #[cfg(test)]
 mod tests;

@@ -129,8 +129,8 @@ fn find<B: BlockPair>(
     Ok(found)
 }
 
-// The forms of a rewrapping from the new pair to itself.
-pub(crate) fn to_itself(forms: &RewrapForms) -> RewrapForms
+/// The forms of a rewrapping from the new pair to itself.
+pub fn to_itself(forms: &RewrapForms) -> RewrapForms
     ensures { result ≡ to_itself forms.now }
 {
     match forms {
@@ -152,9 +152,9 @@ pub fn rewrap_length_ok(forms: &RewrapForms, len: usize) -> bool
     }
 }
 
-// 0 if the initial value and the registers hold a key in one of the old forms.
+/// 0 if the initial value and the registers hold a key in one of the old forms.
 #[tactic(auto, using(crate::proofs::FoundForms::padded_holds, crate::proofs::FoundForms::padded_none_held))]
-pub(crate) fn old_difference(forms: &RewrapForms, iv: u64, registers: &[u8]) -> u64
+pub fn old_difference(forms: &RewrapForms, iv: u64, registers: &[u8]) -> u64
     requires { IsPaddedTextLength (8 + length registers.now) }
     ensures { TellsKey (IsFrom forms.now) (word_bytes iv ++ registers.now) result }
 {
@@ -170,11 +170,11 @@ pub(crate) fn old_difference(forms: &RewrapForms, iv: u64, registers: &[u8]) -> 
     }
 }
 
-// 0 if the length of the key that they hold is legal in the new form, and the initial value under
-// which they hold it there. A padded key may have a length that no plain key has: it does not fill
-// its words, or has only one word.
+/// 0 if the length of the key that they hold is legal in the new form, and the initial value under
+/// which they hold it there. A padded key may have a length that no plain key has: it does not fill
+/// its words, or has only one word.
 #[tactic(auto, using(crate::proofs::Rewraps::fits_own, crate::proofs::FoundForms::to_padded))]
-pub(crate) fn fit(forms: &RewrapForms, iv: u64, registers: &[u8]) -> (u64, u64)
+pub fn fit(forms: &RewrapForms, iv: u64, registers: &[u8]) -> (u64, u64)
     requires { IsPaddedTextLength (8 + length registers.now) }
     ensures { (form : AgreedForm) → IsFrom forms.now form → (key : List ℕ)
         → IsIvAndKey form key (word_bytes iv ++ registers.now)

@@ -14,8 +14,8 @@ ghost use Rattle.key_wrap_core.specs.Private.{IsWordsStep, IsWordsUnstep};
 use crate::lengths::{MAX_KEY, WORD};
 use byteorder::{BigEndian, ByteOrder};
 
-// Whether a wrapping, in either form, can have registers of `len` bytes.
-pub(crate) fn registers_ok(len: usize) -> bool
+/// Whether a wrapping, in either form, can have registers of `len` bytes.
+pub fn registers_ok(len: usize) -> bool
     ensures { IsTrue result ↔ IsPaddedTextLength (8 + len) }
 {
     len % 8 == 0 && 8 <= len && len <= MAX_KEY
@@ -32,16 +32,16 @@ pub fn step_count(len: usize) -> u64
     }
 }
 
-// The first block to encrypt: the initial value and the first register.
-pub(crate) fn first_block(iv: u64, registers: &[u8]) -> [u8; 16]
+/// The first block to encrypt: the initial value and the first register.
+pub fn first_block(iv: u64, registers: &[u8]) -> [u8; 16]
     requires { IsPaddedTextLength (8 + length registers.now) }
     ensures { (E : List ℕ → List ℕ) → WrapState E iv registers.now 0 registers.now result }
 {
     word_and_register(iv, &registers[..WORD])
 }
 
-// The first block to decrypt: C0, with the number of the last step, and the last register.
-pub(crate) fn last_block(c0: u64, registers: &[u8]) -> [u8; 16]
+/// The first block to decrypt: C0, with the number of the last step, and the last register.
+pub fn last_block(c0: u64, registers: &[u8]) -> [u8; 16]
     requires { IsPaddedTextLength (8 + length registers.now) }
     ensures { (E : List ℕ → List ℕ) → UnwrapState E (word_bytes c0 ++ registers.now)
         (block_calls (8 + length registers.now)) registers.now result }
@@ -63,11 +63,11 @@ fn last_counter(len: usize) -> u64
     }
 }
 
-// The next block, with `done` steps done and the last block encrypted to this one. The block is passed
-// by value, and the functions are inlined, so that it stays in registers of the processor: read back
-// from memory, it would wait for the two stores of its halves.
+/// The next block, with `done` steps done and the last block encrypted to this one. The block is passed
+/// by value, and the functions are inlined, so that it stays in registers of the processor: read back
+/// from memory, it would wait for the two stores of its halves.
 #[inline(always)]
-pub(crate) fn step_registers(registers: &mut [u8], done: u64, block: [u8; 16]) -> [u8; 16]
+pub fn step_registers(registers: &mut [u8], done: u64, block: [u8; 16]) -> [u8; 16]
     requires legal { IsPaddedTextLength (8 + length registers.old) }
     requires left { done < block_calls (8 + length registers.old) }
     ensures { IsWrapStep done (done + 1) registers.old registers.new block result }
@@ -95,9 +95,9 @@ pub(crate) fn step_words(registers: &mut [u8], done: usize, block: [u8; 16]) -> 
     word_and_register(a, &registers[next..next + WORD])
 }
 
-// The next block, with `left + 1` steps left to undo and the last block decrypted to this one.
+/// The next block, with `left + 1` steps left to undo and the last block decrypted to this one.
 #[inline(always)]
-pub(crate) fn unstep_registers(registers: &mut [u8], left: u64, block: [u8; 16]) -> [u8; 16]
+pub fn unstep_registers(registers: &mut [u8], left: u64, block: [u8; 16]) -> [u8; 16]
     requires legal { IsPaddedTextLength (8 + length registers.old) }
     requires left { left < block_calls (8 + length registers.old) }
     requires block { IsBlock block }

@@ -6,7 +6,6 @@ mod padded;
 mod plain;
 mod rewraps;
 mod rows;
-mod steps;
 
 use crate::*;
 use std::test::Fail;

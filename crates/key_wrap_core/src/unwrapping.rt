@@ -39,9 +39,9 @@ pub(crate) fn unwrap_registers<B: BlockPair>(
     end_plain(found, iv, registers)
 }
 
-// Keeps the registers that the steps led back to if the initial value found is `iv`, and clears them if
-// it is another.
-pub(crate) fn end_plain(found: u64, iv: u64, registers: &mut [u8]) -> Result<(), InPlaceFault>
+/// Keeps the registers that the steps led back to if the initial value found is `iv`, and clears them if
+/// it is another.
+pub fn end_plain(found: u64, iv: u64, registers: &mut [u8]) -> Result<(), InPlaceFault>
     requires length { IsPlainTextLength (8 + length registers.old) }
     requires free { ¬ IsReserved iv }
     ensures { EndsIn (AgreedForm.Plain iv) found registers.old registers.new
@@ -69,9 +69,9 @@ pub(crate) fn unwrap_padded_registers<B: BlockPair>(
     end_padded(found, registers)
 }
 
-// Keeps the registers that the steps led back to if they hold a key under the initial value found, and
-// clears them if not. Returns the length of the key.
-pub(crate) fn end_padded(found: u64, registers: &mut [u8]) -> Result<usize, InPlaceFault>
+/// Keeps the registers that the steps led back to if they hold a key under the initial value found, and
+/// clears them if not. Returns the length of the key.
+pub fn end_padded(found: u64, registers: &mut [u8]) -> Result<usize, InPlaceFault>
     requires { IsPaddedTextLength (8 + length registers.old) }
     ensures ends { EndsIn AgreedForm.Padded found registers.old registers.new
         (λ m. take m registers.new) result }
@@ -103,9 +103,9 @@ pub(crate) fn unwrap_any_registers<B: BlockPair>(
     end_any(found, iv, registers)
 }
 
-// Keeps the registers that the steps led back to if they hold a key in either form under the initial value
-// found, and clears them if not.
-pub(crate) fn end_any(found: u64, iv: u64, registers: &mut [u8]) -> Result<FoundKey, InPlaceFault>
+/// Keeps the registers that the steps led back to if they hold a key in either form under the initial value
+/// found, and clears them if not.
+pub fn end_any(found: u64, iv: u64, registers: &mut [u8]) -> Result<FoundKey, InPlaceFault>
     requires length { IsPaddedTextLength (8 + length registers.old) }
     requires free { ¬ IsReserved iv }
     ensures ends { EndsInEither iv found registers.old registers.new result }

@@ -11,7 +11,8 @@ ghost use Rattle.key_wrap_lanes.specs.Lanes.{AreLanes, IsEnded, part_at, registe
 
 use crate::lane_turns::turn_lanes;
 use crate::lanes::{BLOCK, lane_steps, lanes_ok};
-use key_wrap_core::{InPlaceFault, InitialValue, WORD, begin_unwrap, end_unwrap, register_before};
+use key_wrap_core::{InPlaceFault, InitialValue, WORD, register_before};
+use key_wrap_steps::{begin_unwrap, end_unwrap};
 
 // The status of a lane whose key was found.
 const DONE: u8 = 0;

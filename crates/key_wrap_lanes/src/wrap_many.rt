@@ -12,7 +12,8 @@ ghost use Rattle.key_wrap_lanes.specs.Lanes.{AreLanes, part_at, registers_at, bl
 
 use crate::lane_turns::turn_lanes;
 use crate::lanes::{BLOCK, lane_steps, lanes_ok};
-use key_wrap_core::{InPlaceFault, InitialValue, WORD, begin_wrap, register_after};
+use key_wrap_core::{InPlaceFault, InitialValue, WORD, register_after};
+use key_wrap_steps::begin_wrap;
 
 /// Begins the plain wrapping of each of many keys under this initial value: `*done` is 0, and each
 /// block the first block to encrypt. Each text contains its key after its first 8 bytes.

@@ -8,14 +8,14 @@ use Rattle.key_wrap_core.specs.declared.agreed_form.AgreedForm.TheVariants.{Plai
 use Rattle.key_wrap_core.specs.declared.rewrapping.RewrapForms.{RewrapForms}
 use Rattle.key_wrap_core.specs.declared.rewrapping.Rewrapped.{Rewrapped}
 use Rattle.key_wrap_core.specs.declared.faults.Refusal.{Refusal}
-use Rattle.key_wrap_core.specs.declared.rewrap_steps.RewrapPhase.{RewrapPhase}
-use Rattle.key_wrap_core.specs.declared.rewrap_steps.RewrapPhase.TheVariants.{UnwrapOld, WrapOld, UnwrapNew, WrapNew}
-use Rattle.key_wrap_core.specs.declared.rewrap_steps.RewrapNext.{RewrapNext}
-use Rattle.key_wrap_core.specs.declared.rewrap_steps.RewrapNext.TheVariants.{Run, Done}
+use Rattle.key_wrap_steps.specs.declared.rewrap_steps.RewrapPhase.{RewrapPhase}
+use Rattle.key_wrap_steps.specs.declared.rewrap_steps.RewrapPhase.TheVariants.{UnwrapOld, WrapOld, UnwrapNew, WrapNew}
+use Rattle.key_wrap_steps.specs.declared.rewrap_steps.RewrapNext.{RewrapNext}
+use Rattle.key_wrap_steps.specs.declared.rewrap_steps.RewrapNext.TheVariants.{Run, Done}
 use Rattle.key_wrap_core.specs.Lengths.{IsPaddedTextLength}
 use Rattle.key_wrap_core.specs.Forms.{IsTextLengthAs}
 use Rattle.key_wrap_core.specs.Rewrap.{IsRewrapping}
-use Rattle.key_wrap_core.specs.RewrapPhases.{CanBegin, RewrapState, RewrapGoes}
+use Rattle.key_wrap_steps.specs.RewrapPhases.{CanBegin, RewrapState, RewrapGoes}
 use Rattle.std.specs.Prelude.{IsErr}
 use Rattle.keywrap_calls.specs.Status.{IsDone}
 use Rattle.keywrap_calls.specs.Rewraps.{AreFlags, AreKeks, Rewraps, forms_of, passes_new, already_of, rewrap_status}
@@ -98,8 +98,8 @@ turned : (E D F G : List ℕ → List ℕ) (flags : ℕ) (text : List ℕ) (phas
 turned E D F G flags text phase s s' status inv inv' legal size same at made state =
     let ended : HasEnded flags phase s.number s.steps (length s.now) = (legal, at, subst IsPaddedTextLength (sym same) size, made.none_left phase at) in
     elim made.turn [
-      | inl t ↦ let found = t.turns phase ended in (found.0, found.1, found.2 text E D F G inv inv' state)
-      | inr t ↦ let found = t.turns phase ended (sym same) in (found.0, found.1, found.2 E D F G inv inv' state)
+      | inl t ↦ let found = t.turns phase ended in (found.0, found.1, found.3 text E D F G inv inv' state)
+      | inr t ↦ let found = t.turns phase ended (sym same) in (found.0, found.1, found.3 E D F G inv inv' state)
     ]
 
 -- between two calls the rewrapping is in the state of its phase

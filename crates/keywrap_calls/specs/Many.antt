@@ -103,10 +103,11 @@ UnwrapsMany E kek flags old new lens key_lens before after status =
     (λ i. UnwrapsSlot (form_of_bit flags) E kek (slot_at (length old / length before) i old) (slot_at (length old / length before) i new)
     (slice_index key_lens i) (pos (slice_index after i))) (length before) status
 
--- what is found of the text in a slot, by way of some scratch buffer
+-- what is found of the text in a slot, by way of some scratch buffer that is 8 bytes shorter
 pub record FindsSlot (E : List ℕ → List ℕ) (kek text : List ℕ) (is_padded key_len : ℕ) (status : ℤ) : Type 0 where
   pub before : List ℕ
   pub after : List ℕ
+  pub room : length text ≡ length before + 8
   pub call : FindsKind E kek text before after is_padded key_len status
 
 -- as many forms and lengths as statuses, and a scratch buffer for one slot

@@ -1,7 +1,7 @@
 -- A rewrapping by the calls for one step and for the turn between two runs, with an AES outside: what they give together.
 use Rattle.std.specs.Prelude.{◌≡◌, ◌⊎◌, ℕ, zero, suc, ℤ, ◌+◌, ◌<◌, ◌%◌, List, length, drop, Some}
-use Rattle.key_wrap_core.specs.declared.rewrap_steps.RewrapPhase.{RewrapPhase}
-use Rattle.key_wrap_core.specs.RewrapPhases.{phase_end}
+use Rattle.key_wrap_steps.specs.declared.rewrap_steps.RewrapPhase.{RewrapPhase}
+use Rattle.key_wrap_steps.specs.RewrapPhases.{phase_end}
 use Rattle.keywrap_calls.specs.Status.{IsDone}
 use Rattle.keywrap_calls.specs.StepPromises.{StepsWrap, StepsUnwrap}
 use Rattle.keywrap_calls.specs.RewrapSteps.{BeginsRewrap, TurnsRun, TurnsRunFrom, phase_at}

@@ -6,13 +6,13 @@ use Rattle.key_wrap_core.specs.declared.rewrapping.Rewrapped.{Rewrapped}
 use Rattle.key_wrap_core.specs.declared.rewrapping.Rewrapped.TheVariants.{Fresh, AlreadyNew}
 use Rattle.key_wrap_core.specs.declared.faults.Refusal.{Refusal}
 use Rattle.key_wrap_core.specs.declared.faults.Refusal.TheVariants.{BadLength, Integrity, KeyNotPlain}
-use Rattle.key_wrap_core.specs.declared.rewrap_steps.RewrapPhase.{RewrapPhase}
-use Rattle.key_wrap_core.specs.declared.rewrap_steps.RewrapPhase.TheVariants.{UnwrapOld, WrapOld, UnwrapNew, WrapNew}
-use Rattle.key_wrap_core.specs.declared.rewrap_steps.RewrapNext.{RewrapNext}
-use Rattle.key_wrap_core.specs.declared.rewrap_steps.RewrapNext.TheVariants.{Run, Done}
+use Rattle.key_wrap_steps.specs.declared.rewrap_steps.RewrapPhase.{RewrapPhase}
+use Rattle.key_wrap_steps.specs.declared.rewrap_steps.RewrapPhase.TheVariants.{UnwrapOld, WrapOld, UnwrapNew, WrapNew}
+use Rattle.key_wrap_steps.specs.declared.rewrap_steps.RewrapNext.{RewrapNext}
+use Rattle.key_wrap_steps.specs.declared.rewrap_steps.RewrapNext.TheVariants.{Run, Done}
 use Rattle.key_wrap_core.specs.Lengths.{IsPaddedTextLength}
 use Rattle.key_wrap_core.specs.Rewrap.{IsRewrapping}
-use Rattle.key_wrap_core.specs.RewrapPhases.{CanBegin, RewrapState, TurnsRewrap, TurnsRewrapOf, phase_end}
+use Rattle.key_wrap_steps.specs.RewrapPhases.{CanBegin, RewrapState, TurnsRewrap, TurnsRewrapOf, GoesOn, phase_end, phase_start}
 use Rattle.keywrap_calls.specs.Status.{IsDone, IsBadKek, IsBadLength}
 use Rattle.keywrap_calls.specs.Rewraps.{AreFlags, IsInPlace, already_of, forms_of, passes_new, rewrap_status}
 
@@ -59,6 +59,7 @@ pub record BeginsRewrap (flags : ℕ) (text : List ℕ) (number old_steps new_st
   pub kept : ¬ IsDone status → (number ≡ 0) × (new_steps ≡ old_steps) × (new_block ≡ old_block)
   pub begins : IsDone status → (phase : RewrapPhase) × (phase_at number ≡ Some phase)
       × ((E F : List ℕ → List ℕ) → RewrapState (passes_new flags) (forms_of flags) E F text phase new_steps text new_block)
+      × (new_steps ≡ phase_start phase (length text))
   pub refuses : ¬ IsDone status → AreFlags flags → (E D F G : List ℕ → List ℕ) → AreInverse E D → AreInverse F G
       → IsRewrapping (passes_new flags) (forms_of flags) E F text (Err BadLength) text
 
@@ -70,7 +71,7 @@ HasEnded flags phase number steps len = AreFlags flags × (phase_at number ≡ S
 pub record TurnsRun (flags number number' : ℕ) (old new : List ℕ) (old_steps new_steps : ℕ) (old_block new_block : List ℕ) (status : ℤ)
     : Type 0 where
   pub turns : (phase : RewrapPhase) → HasEnded flags phase number old_steps (length old) → (next : RewrapNext) × TellsNext next number' status
-      × TurnsRewrap (passes_new flags) (forms_of flags) phase old_steps new_steps old new old_block new_block next
+      × GoesOn phase next new_steps (length old) × TurnsRewrap (passes_new flags) (forms_of flags) phase old_steps new_steps old new old_block new_block next
   pub refused : ((phase : RewrapPhase) → ¬ HasEnded flags phase number old_steps (length old)) → IsBadLength status × (number' ≡ 0)
       × (new ≡ old) × (new_steps ≡ old_steps) × (new_block ≡ old_block)
 
@@ -78,7 +79,7 @@ pub record TurnsRun (flags number number' : ℕ) (old new : List ℕ) (old_steps
 pub record TurnsRunFrom (flags : ℕ) (copy : List ℕ) (number number' : ℕ) (old new : List ℕ) (old_steps new_steps : ℕ) (old_block new_block : List ℕ)
     (status : ℤ) : Type 0 where
   pub turns : (phase : RewrapPhase) → HasEnded flags phase number old_steps (length old) → length copy ≡ length old
-      → (next : RewrapNext) × TellsNext next number' status
+      → (next : RewrapNext) × TellsNext next number' status × GoesOn phase next new_steps (length old)
       × TurnsRewrapOf copy (passes_new flags) (forms_of flags) phase old_steps new_steps old new old_block new_block next
   pub refused : ((phase : RewrapPhase) → ¬ (HasEnded flags phase number old_steps (length old) × (length copy ≡ length old)))
       → IsBadLength status × (number' ≡ 0) × (new ≡ old) × (new_steps ≡ old_steps) × (new_block ≡ old_block)

@@ -4,7 +4,7 @@ use Rattle.key_wrap_core.specs.declared.forms.Form.{Form}
 use Rattle.key_wrap_core.specs.declared.forms.Form.TheVariants.{Plain, Padded}
 use Rattle.key_wrap_core.specs.declared.rewrapping.RewrapForms.{RewrapForms}
 use Rattle.key_wrap_core.specs.declared.rewrapping.RewrapForms.TheVariants.{Kept, Changed}
-use Rattle.key_wrap_core.specs.declared.rewrap_steps.RewrapRequest.{RewrapRequest}
+use Rattle.key_wrap_steps.specs.declared.rewrap_steps.RewrapRequest.{RewrapRequest}
 use Rattle.key_wrap_core.specs.declared.rewrapping.Rewrapped.{Rewrapped}
 use Rattle.key_wrap_core.specs.declared.rewrapping.Rewrapped.TheVariants.{Fresh, AlreadyNew}
 use Rattle.key_wrap_core.specs.declared.faults.Refusal.{Refusal}

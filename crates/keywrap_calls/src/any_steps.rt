@@ -22,7 +22,7 @@ pub fn end_unwrap_any(
 {
     *padded = 0;
     *key_len = 0;
-    match key_wrap_core::end_unwrap_any(&InitialValue::default(), registers, left, block) {
+    match key_wrap_steps::end_unwrap_any(&InitialValue::default(), registers, left, block) {
         Ok(found) => {
             *key_len = found.len;
             *padded = flag_of(found.form);

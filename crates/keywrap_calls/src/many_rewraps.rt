@@ -12,7 +12,8 @@ use crate::rewrapping::{request_of, rewrap_as};
 use crate::status::{BAD_KEK, BAD_LENGTH, DONE};
 use block_pair::{BlockPair, Meter};
 use fips197::KeyInit;
-use key_wrap_core::{RewrapRequest, rewrap_length_ok};
+use key_wrap_core::rewrap_length_ok;
+use key_wrap_steps::RewrapRequest;
 
 /// Rewraps, as `rewrap` does, the wrapped key in each slot of `texts`: as many slots of one length
 /// as there are `statuses`, each with its status, or with 1 if the wrapped key was under the new

@@ -2,7 +2,7 @@
 
 ghost use Rattle.std.specs.Prelude.{◌≡◌, ℕ, ℤ, List, Result, length};
 ghost use Rattle.block_pair.specs.Pair.{AreInverse};
-ghost use Rattle.key_wrap_core.specs.RewrapPhases.{CanBegin};
+ghost use Rattle.key_wrap_steps.specs.RewrapPhases.{CanBegin};
 ghost use Rattle.keywrap_calls.specs.Rewraps.{AreFlags, AreKeks, Rewraps, already_of, forms_of, passes_new, rewrap_status};
 ghost use Rattle.keywrap_calls.specs.RewrapSteps.{end_status};
 ghost use Rattle.keywrap_calls.specs.RewrapCalls.{CallAt, RewrapCalls};

@@ -5,7 +5,8 @@ ghost use Rattle.keywrap_calls.specs.RewrapSteps.{BeginsRewrap, TurnsRun, TurnsR
 
 use crate::rewrapping::{in_place_status, report, request_of};
 use crate::status::{ALREADY_NEW, BAD_KEK, BAD_LENGTH, DONE, INTEGRITY, KEY_NOT_PLAIN};
-use key_wrap_core::{Refusal, RewrapNext, RewrapPhase, Rewrapped};
+use key_wrap_core::{Refusal, Rewrapped};
+use key_wrap_steps::{RewrapNext, RewrapPhase};
 
 /// Begins to rewrap the wrapped key in `text`, as `rewrap` does: `*phase` is the operation of the first
 /// run, `*steps` its number of steps, and `block` the first block for the operation.
@@ -24,7 +25,7 @@ pub fn begin_rewrap(
     let Some(request) = request_of(flags) else {
         return BAD_LENGTH;
     };
-    match key_wrap_core::begin_rewrap(&request, text, steps, block) {
+    match key_wrap_steps::begin_rewrap(&request, text, steps, block) {
         Ok(first) => {
             *phase = number_of(first);
             DONE
@@ -56,7 +57,7 @@ pub fn next_rewrap(
     let Some(run) = run else {
         return BAD_LENGTH;
     };
-    match key_wrap_core::next_rewrap(&request, run, text, steps, block) {
+    match key_wrap_steps::next_rewrap(&request, run, text, steps, block) {
         Ok(next) => tell(next, phase),
         Err(_) => BAD_LENGTH,
     }
@@ -85,7 +86,7 @@ pub fn next_rewrap_from(
     let Some(run) = run else {
         return BAD_LENGTH;
     };
-    match key_wrap_core::next_rewrap_from(&request, run, copy, text, steps, block) {
+    match key_wrap_steps::next_rewrap_from(&request, run, copy, text, steps, block) {
         Ok(next) => tell(next, phase),
         Err(_) => BAD_LENGTH,
     }

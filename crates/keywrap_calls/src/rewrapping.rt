@@ -11,7 +11,8 @@ use crate::keks::aes_of;
 use crate::status::{BAD_KEK, BAD_LENGTH, DONE, INTEGRITY, KEY_NOT_PLAIN};
 use block_pair::{BlockPair, Meter};
 use fips197::KeyInit;
-use key_wrap_core::{Form, Refusal, RewrapForms, RewrapRequest, Rewrapped};
+use key_wrap_core::{Form, Refusal, RewrapForms, Rewrapped};
+use key_wrap_steps::RewrapRequest;
 
 // The flag beside the forms: a wrapped key that is new already is passed.
 const PASS_NEW: u32 = 8;

@@ -14,7 +14,7 @@ pub fn begin_unwrap(first: &[u8; 8], registers: &[u8], left: &mut u64, block: &m
     ensures { BeginsUnwrap IsPlainTextLength first.now registers.now left.old left.new block.old
         block.new result }
 {
-    match key_wrap_core::begin_unwrap(first, registers, left, block) {
+    match key_wrap_steps::begin_unwrap(first, registers, left, block) {
         Ok(()) => DONE,
         Err(_) => BAD_LENGTH,
     }
@@ -30,7 +30,7 @@ pub fn begin_unwrap_padded(
     ensures { BeginsUnwrap IsPaddedTextLength first.now registers.now left.old left.new block.old
         block.new result }
 {
-    match key_wrap_core::begin_unwrap_padded(first, registers, left, block) {
+    match key_wrap_steps::begin_unwrap_padded(first, registers, left, block) {
         Ok(()) => DONE,
         Err(_) => BAD_LENGTH,
     }
@@ -41,7 +41,7 @@ pub fn begin_unwrap_padded(
 pub fn step_unwrap(registers: &mut [u8], left: &mut u64, block: &mut [u8; 16]) -> i32
     ensures { StepsUnwrap registers.old registers.new left.old left.new block.old block.new result }
 {
-    match key_wrap_core::step_unwrap(registers, left, block) {
+    match key_wrap_steps::step_unwrap(registers, left, block) {
         Ok(()) => DONE,
         Err(_) => BAD_LENGTH,
     }
@@ -55,7 +55,7 @@ pub fn end_unwrap(iv: &[u8], registers: &mut [u8], left: u64, block: &mut [u8; 1
     let Some(value) = iv_from_bytes(iv) else {
         return BAD_IV;
     };
-    match key_wrap_core::end_unwrap(&value, registers, left, block) {
+    match key_wrap_steps::end_unwrap(&value, registers, left, block) {
         Ok(()) => DONE,
         Err(InPlaceFault::BadLength) => BAD_LENGTH,
         Err(InPlaceFault::Integrity) => INTEGRITY,
@@ -74,7 +74,7 @@ pub fn end_unwrap_padded(
     ensures { EndsPadded registers.old registers.new left block.old block.new key_len.new result }
 {
     *key_len = 0;
-    match key_wrap_core::end_unwrap_padded(registers, left, block) {
+    match key_wrap_steps::end_unwrap_padded(registers, left, block) {
         Ok(m) => {
             *key_len = m;
             DONE

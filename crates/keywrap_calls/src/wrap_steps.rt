@@ -13,7 +13,7 @@ pub fn begin_wrap(iv: &[u8], registers: &[u8], done: &mut u64, block: &mut [u8; 
     let Some(value) = iv_from_bytes(iv) else {
         return BAD_IV;
     };
-    match key_wrap_core::begin_wrap(&value, registers, done, block) {
+    match key_wrap_steps::begin_wrap(&value, registers, done, block) {
         Ok(()) => DONE,
         Err(_) => BAD_LENGTH,
     }
@@ -30,7 +30,7 @@ pub fn begin_wrap_padded(
     ensures { BeginsPadded key_len registers.old registers.new done.old done.new block.old
         block.new result }
 {
-    match key_wrap_core::begin_wrap_padded(key_len, registers, done, block) {
+    match key_wrap_steps::begin_wrap_padded(key_len, registers, done, block) {
         Ok(()) => DONE,
         Err(_) => BAD_LENGTH,
     }
@@ -41,7 +41,7 @@ pub fn begin_wrap_padded(
 pub fn step_wrap(registers: &mut [u8], done: &mut u64, block: &mut [u8; 16]) -> i32
     ensures { StepsWrap registers.old registers.new done.old done.new block.old block.new result }
 {
-    match key_wrap_core::step_wrap(registers, done, block) {
+    match key_wrap_steps::step_wrap(registers, done, block) {
         Ok(()) => DONE,
         Err(_) => BAD_LENGTH,
     }
@@ -52,7 +52,7 @@ pub fn step_wrap(registers: &mut [u8], done: &mut u64, block: &mut [u8; 16]) -> 
 pub fn end_wrap(first: &mut [u8; 8], registers: &[u8], done: u64, block: &[u8; 16]) -> i32
     ensures { EndsWrap first.old first.new registers.now done block.now result }
 {
-    match key_wrap_core::end_wrap(first, registers, done, block) {
+    match key_wrap_steps::end_wrap(first, registers, done, block) {
         Ok(()) => DONE,
         Err(_) => BAD_LENGTH,
     }

@@ -51,6 +51,7 @@ loop-slot-preserved g c =
           (record {
             before = c.loop-slot.scratch;
             after = c.kind_under-status.new.scratch;
+            room = ap length (sym text) ∙ size ∙ ap (λ (n : ℕ). n + 8) (sym scratch);
             call = rw (text, status) at (c.kind_under-status.ensures.finds kek legal);
           }));
       cleared = λ _. scratch_cleared _ some_kek _ _ _ _ _ _ (c.kind_under-status.ensures.finds some_kek some_kek_legal) some_kek_legal

@@ -11,6 +11,6 @@ returns-in-Ok c =
       statuses = inl refl;
       bad_length = (λ s. absurd (let wrong = s in cc), λ none. absurd (false≢true (legal.1 (λ can. none (named.0, can)))));
       kept = λ no. absurd (no refl);
-      begins = λ _. (c.in-Ok.first, c.number_of.ensures, rw (named.1, named.2) at c.in-Ok.ensures.begins);
+      begins = λ _. (c.in-Ok.first, c.number_of.ensures, rw (named.1, named.2) at c.in-Ok.ensures.begins, c.in-Ok.ensures.starts);
       refuses = λ no. absurd (no refl);
     }

@@ -14,7 +14,7 @@ returns-in-Ok c =
     record {
       turns = λ phase ended.
           let same : c.in-Some-run.run' ≡ phase = cc in
-          (c.in-Ok.next, rw (passed_on fits refl) c.tell.ensures, rw same at told);
+          (c.in-Ok.next, rw (passed_on fits refl) c.tell.ensures, rw same at c.in-Ok.ensures.advances, rw same at told);
       refused = λ none.
           let bad = c.next_rewrap.ensures.refused.bad_length.1
           (λ legal. none c.in-Some-run.run' (named.0, sym c.phase_of-run.ensures ∙ c.in-Some-run.is, legal.0, legal.1)) in

@@ -1,5 +1,0 @@
-use Rattle.key_wrap_core.proofs.RewrapTurns.{whole_rewrap}
-use Rattle.key_wrap_core.proofs.whole_runs.whole_rewrap_law.Goals as goal
-
-pub returns : goal.returns
-returns c = whole_rewrap

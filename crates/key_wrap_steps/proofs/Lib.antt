@@ -1,0 +1,3 @@
+-- The lemmas on whole runs of the steps, and on the turns of a rewrapping.
+pub mod Runs
+pub mod RewrapTurns

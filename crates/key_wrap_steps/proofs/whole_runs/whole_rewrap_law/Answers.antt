@@ -1,0 +1,5 @@
+use Rattle.key_wrap_steps.proofs.RewrapTurns.{whole_rewrap}
+use Rattle.key_wrap_steps.proofs.whole_runs.whole_rewrap_law.Goals as goal
+
+pub returns : goal.returns
+returns c = whole_rewrap

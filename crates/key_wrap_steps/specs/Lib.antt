@@ -1,0 +1,2 @@
+-- The definition of a rewrapping as runs of steps.
+pub mod RewrapPhases

@@ -1,0 +1,195 @@
+//! An unwrapping step by step, for a block permutation that is not a value in memory: the AES of a
+//! token, or of the processor.
+//!
+//! The caller holds the registers, which are the wrapped key after its first 8 bytes, the number of
+//! steps left, and a block. It begins, and then decrypts the block and undoes a step, until none is
+//! left. A block that was not decrypted, or a number that the caller changed, cannot be noticed, and
+//! an unwrapping that is not ended leaves key material in the registers and the block.
+
+ghost use Rattle.std.specs.Prelude.{◌≡◌, ◌↔◌, ◌+◌, ◌≤◌, [], length, take, All};
+ghost use Rattle.std.specs.Prelude.{Err, OnOk, IfOk};
+ghost use Rattle.key_wrap_core.specs.Lengths.{IsPlainKeyLength, IsPlainTextLength, IsPaddedTextLength};
+ghost use Rattle.key_wrap_core.specs.BlockCalls.{block_calls};
+ghost use Rattle.key_wrap_core.specs.BufferCalls.{RefusesLength, KeepsOrClears, IsKeyBuffer};
+ghost use Rattle.key_wrap_core.specs.StepCalls.{UnwrapBegun, IsUnwrapStep, EndsUnwrapping, EndsUnwrappingEither};
+ghost use Rattle.key_wrap_core.specs.Words.{word_bytes};
+
+use byteorder::{BigEndian, ByteOrder};
+use key_wrap_core::{
+    AgreedForm, FoundKey, InPlaceFault, InitialValue, end_any, end_padded, end_plain,
+    key_length_ok, last_block, registers_ok, step_count, unstep_registers,
+};
+
+/// Begins the plain unwrapping of the text of which `first` has the first 8 bytes and the registers
+/// the rest (RFC 3394, section 2.2.2): `left` becomes the number of steps, and the block the first
+/// to decrypt.
+///
+/// `BadLength`, with everything as it was, if `text_length_ok` refuses the length of the text.
+pub fn begin_unwrap(
+    first: &[u8; 8],
+    registers: &[u8],
+    left: &mut u64,
+    block: &mut [u8; 16],
+) -> Result<(), InPlaceFault>
+    ensures refused { RefusesLength (IsPlainTextLength (8 + length registers.now))
+        ((left.new ≡ left.old) × (block.new ≡ block.old)) result }
+    ensures begins { OnOk result (UnwrapBegun first.now left.new registers.now block.new) }
+{
+    if !key_length_ok(registers.len()) {
+        return Err(InPlaceFault::BadLength);
+    }
+    begin_last(first, registers, left, block);
+    Ok(())
+}
+
+/// As `begin_unwrap`, for the padded form (RFC 5649, section 4.2).
+///
+/// `BadLength`, with everything as it was, if `padded_text_length_ok` refuses the length of the text.
+pub fn begin_unwrap_padded(
+    first: &[u8; 8],
+    registers: &[u8],
+    left: &mut u64,
+    block: &mut [u8; 16],
+) -> Result<(), InPlaceFault>
+    ensures refused { RefusesLength (IsPaddedTextLength (8 + length registers.now))
+        ((left.new ≡ left.old) × (block.new ≡ block.old)) result }
+    ensures begins { OnOk result (UnwrapBegun first.now left.new registers.now block.new) }
+{
+    if !registers_ok(registers.len()) {
+        return Err(InPlaceFault::BadLength);
+    }
+    begin_last(first, registers, left, block);
+    Ok(())
+}
+
+// The number of the steps, and the block of the last one.
+fn begin_last(first: &[u8; 8], registers: &[u8], left: &mut u64, block: &mut [u8; 16])
+    requires { IsPaddedTextLength (8 + length registers.now) }
+    ensures { UnwrapBegun first.now left.new registers.now block.new }
+{
+    *left = step_count(registers.len());
+    *block = last_block(BigEndian::read_u64(first), registers);
+}
+
+/// Undoes one step more, with the block decrypted since the last: `left` counts down, and the block
+/// becomes the next to decrypt.
+///
+/// `BadLength`, with everything as it was, if the registers have no legal length, no step is left, or
+/// more than there are.
+pub fn step_unwrap(
+    registers: &mut [u8],
+    left: &mut u64,
+    block: &mut [u8; 16],
+) -> Result<(), InPlaceFault>
+    ensures refused { RefusesLength (IsPaddedTextLength (8 + length registers.old)
+        × (1 ≤ left.old) × (left.old ≤ block_calls (8 + length registers.old)))
+        ((registers.new ≡ registers.old) × (left.new ≡ left.old) × (block.new ≡ block.old)) result }
+    ensures counts { OnOk result (left.old ≡ left.new + 1) }
+    ensures steps { OnOk result (IsUnwrapStep left.old left.new
+        registers.old registers.new block.old block.new) }
+{
+    if !registers_ok(registers.len()) || *left == 0 || *left > step_count(registers.len()) {
+        return Err(InPlaceFault::BadLength);
+    }
+    *left -= 1;
+    *block = unstep_registers(registers, *left, *block);
+    Ok(())
+}
+
+/// Ends a plain unwrapping: the registers hold the key whose wrapping under this initial value the
+/// text is. The block becomes zeros.
+///
+/// `BadLength`, with everything as it was, if the registers have no legal length, or a step is left;
+/// `Integrity` if the text is not a valid plain wrapping, and then every byte of the registers is zero.
+pub fn end_unwrap(
+    iv: &InitialValue,
+    registers: &mut [u8],
+    left: u64,
+    block: &mut [u8; 16],
+) -> Result<(), InPlaceFault>
+    ensures bad_length { (result ≡ Err InPlaceFault.BadLength)
+        ↔ ¬ (IsPlainKeyLength (length registers.old) × (left ≡ 0)) }
+    ensures refused { KeepsOrClears registers.old registers.new result }
+    ensures block_kept { result ≡ Err InPlaceFault.BadLength → block.new ≡ block.old }
+    ensures answer { ¬ (result ≡ Err InPlaceFault.BadLength)
+        → EndsUnwrapping (AgreedForm.Plain iv.now) left registers.old block.old
+        (λ _. registers.new) result }
+    ensures block_cleared { ¬ (result ≡ Err InPlaceFault.BadLength)
+        → All (λ byte. byte ≡ 0) block.new }
+{
+    if !key_length_ok(registers.len()) || left != 0 {
+        return Err(InPlaceFault::BadLength);
+    }
+    let found = take_value(block);
+    end_plain(found, iv.word(), registers)
+}
+
+/// Ends a padded unwrapping: the registers hold the key and zero bytes to the end. Returns the length of
+/// the key. The block becomes zeros.
+///
+/// `BadLength`, with everything as it was, if the registers have no legal length, or a step is left;
+/// `Integrity` if the text is not a valid padded wrapping, and then every byte of the registers is zero.
+pub fn end_unwrap_padded(
+    registers: &mut [u8],
+    left: u64,
+    block: &mut [u8; 16],
+) -> Result<usize, InPlaceFault>
+    ensures bad_length { (result ≡ Err InPlaceFault.BadLength)
+        ↔ ¬ (IsPaddedTextLength (8 + length registers.old) × (left ≡ 0)) }
+    ensures refused { KeepsOrClears registers.old registers.new result }
+    ensures block_kept { result ≡ Err InPlaceFault.BadLength → block.new ≡ block.old }
+    ensures answer { ¬ (result ≡ Err InPlaceFault.BadLength)
+        → EndsUnwrapping AgreedForm.Padded left registers.old block.old
+        (λ m. take m registers.new) result }
+    ensures key { IfOk result (λ m. IsKeyBuffer [] (take m registers.new) m registers.new) }
+    ensures block_cleared { ¬ (result ≡ Err InPlaceFault.BadLength)
+        → All (λ byte. byte ≡ 0) block.new }
+{
+    if !registers_ok(registers.len()) || left != 0 {
+        return Err(InPlaceFault::BadLength);
+    }
+    let found = take_value(block);
+    end_padded(found, registers)
+}
+
+/// Ends an unwrapping in either form, the plain one under this initial value: the registers hold the key
+/// and zero bytes to the end. Returns the form of the text and the length of the key. The block becomes
+/// zeros.
+///
+/// `BadLength`, with everything as it was, if the registers have no legal length, or a step is left;
+/// `Integrity` if the text is not a valid wrapped key in either form, and then every byte of the registers
+/// is zero.
+pub fn end_unwrap_any(
+    iv: &InitialValue,
+    registers: &mut [u8],
+    left: u64,
+    block: &mut [u8; 16],
+) -> Result<FoundKey, InPlaceFault>
+    ensures bad_length { (result ≡ Err InPlaceFault.BadLength)
+        ↔ ¬ (IsPaddedTextLength (8 + length registers.old) × (left ≡ 0)) }
+    ensures refused { KeepsOrClears registers.old registers.new result }
+    ensures block_kept { result ≡ Err InPlaceFault.BadLength → block.new ≡ block.old }
+    ensures answer { ¬ (result ≡ Err InPlaceFault.BadLength)
+        → EndsUnwrappingEither iv.now left registers.old block.old
+        (λ found. take found.len registers.new) result }
+    ensures key { IfOk result (λ found.
+        IsKeyBuffer [] (take found.len registers.new) found.len registers.new) }
+    ensures block_cleared { ¬ (result ≡ Err InPlaceFault.BadLength)
+        → All (λ byte. byte ≡ 0) block.new }
+{
+    if !registers_ok(registers.len()) || left != 0 {
+        return Err(InPlaceFault::BadLength);
+    }
+    let found = take_value(block);
+    end_any(found, iv.word(), registers)
+}
+
+// The initial value that the steps led back to; the block becomes zeros.
+fn take_value(block: &mut [u8; 16]) -> u64
+    ensures value { word_bytes result ≡ take 8 block.old }
+    ensures cleared { All (λ byte. byte ≡ 0) block.new }
+{
+    let found = BigEndian::read_u64(&block[..]);
+    block.fill(0);
+    found
+}
