@@ -32,7 +32,7 @@ def rewrap_all(keys: Mapping[str, bytes], keks: Keks) -> Dict[str, bytes]:
     names, found = list(keys), Found()
     fresh = renewed(keks.rings(), Notation("raw"), [keys[name] for name in names], found, names.__getitem__)
     if found.refused:
-        raise Refused("; ".join(f"{name}: {why}" for name, why in found.named))
+        raise Refused("; ".join(f"{name!r}: {why}" for name, why in found.named))
     return {name: fresh.get(at, keys[name]) for at, name in enumerate(names)}
 
 

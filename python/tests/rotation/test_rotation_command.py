@@ -70,6 +70,9 @@ class TestStatus:
         assert (again.status, again.counts["passes"], again.counts["rewrapped"]) == (0, 1, 0)
         assert again.has("no key was under the KEK: this rotation ran before, or the KEKs are swapped")
 
+    def test_a_caller_that_ignores_the_ends_of_processes(self, store):
+        assert rotate(store, preexec_fn=lambda: signal.signal(signal.SIGCHLD, signal.SIG_IGN)) == 0
+
     def test_dry_run_and_verify_write_nothing(self, store):
         before = list(map(seen, sorted(store.iterdir())))
         dry = rotate("--dry-run", str(store))

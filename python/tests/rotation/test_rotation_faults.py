@@ -38,12 +38,12 @@ def failing(module, name, number):
     real = getattr(module, name)
     def call(first, *more, **others):
         where = place(first)
-        if is_this(what == f"fail {name}" and "/store" in where):
+        is_dir = name == "fsync" and os.path.isdir(where)
+        if is_this((what == f"fail {name}" or is_dir and "fail dirsync" in what) and "/store" in where):
             raise OSError(number, os.strerror(number))
         if name == "write" and is_this(what == "short write" and "/store" in where and len(more[0]) > 1):
             return real(first, more[0][: len(more[0]) // 2])
-        kill = is_this(what == f"kill at {name}" and ".rotating." in where
-                       or what == "kill at dirsync" and name == "fsync" and os.path.isdir(where))
+        kill = is_this(what == f"kill at {name}" and ".rotating." in where or is_dir and "kill at dirsync" in what)
         if kill and name != "rename":
             die()
         answer = real(first, *more, **others)
@@ -95,11 +95,12 @@ def broken(store, what, number, **more):
     fill(store, KEYS)
     if os.path.exists("once"):
         os.unlink("once")
-    return rotate("--jobs", "1", store, program=BROKEN, env={**os.environ, "WHAT": what, "NUMBER": str(number), **more})
+    files, more = store.iterdir() if "names" in what else [store], {"WHAT": what, "NUMBER": str(number), **more}
+    return rotate("--jobs", "1", *files, program=BROKEN, env={**os.environ, **more})
 
 
-FAULTS = ["fail fsync", "fail pread", "fail write", "short write", "fail unlink", "fail rename", "fail fchmod",
-          "fail flock", "fail exchange", "fail exchanged", "fail none"]
+FAULTS = ["fail fsync", "fail dirsync", "fail dirsync of names", "fail pread", "fail write", "short write",
+          "fail unlink", "fail rename", "fail fchmod", "fail flock", "fail exchange", "fail exchanged", "fail none"]
 
 
 @pytest.mark.parametrize("what", FAULTS)
@@ -114,6 +115,9 @@ def test_faults_of_input_and_output(store, what, numbers):
         assert set(found) <= {"old", "new"}
         if number == -1 and what in ("fail exchange", "fail none"):
             assert done.status in (5, 6) and set(found) == {"old"}
+        if number == -1 and "dirsync" in what:  # Files that are new, also before, and may be old again after a crash.
+            for done in done, rotate(store, program=BROKEN, env={**os.environ, "WHAT": what, "NUMBER": "-1"}):
+                assert done == 6 and done.has(": it was not synced: Input/output error") and set(found) == {"new"}
         assert rotate(store) == 0
         assert (set(kinds(store)), sorted(os.listdir(store))) == ({"new"}, list(map(str, range(FILES))))
 

@@ -412,5 +412,5 @@ def test_rewraps_all_or_none():
     pair = rotate.challenges()
     assert list(rotate.rewrap_all(old, pair).items()) == list(new.items())
     assert rotate.rewrap_all({**old, "k3": new["k3"]}, pair) == new
-    with pytest.raises(rotate.Refused, match="^k2: bad length; k5: blank; k4: under no KEK of this rotation$"):
+    with pytest.raises(rotate.Refused, match="^'k2': bad length; 'k5': blank; 'k4': under no KEK of this rotation$"):
         rotate.rewrap_all({**old, "k2": b"no", "k4": bytes(40), "k5": b""}, pair)

@@ -67,8 +67,8 @@ def under(kek):
 class TestObjects:
     @pytest.mark.parametrize("jobs", ["1", "4"])
     def test_each_name_of_an_object(self, jobs):
-        for rewrapped in (8, 0):
-            done = rotated("--jobs", jobs)
+        for rewrapped, act in (8, ""), (0, 'call == "put" and sys.exit(1)'):
+            done = rotated("--jobs", jobs, meanwhile=act)
             assert (done.status, held(), done.counts["rewrapped"]) == (0, under(NEW_KEK), rewrapped)
 
     def test_dry_run_verify_and_a_record(self):

@@ -248,13 +248,3 @@ class TestEnds:
     @pytest.mark.parametrize("pool, status", [(Forgetful, UNFINISHED), (Stopped, INTERRUPTED)])
     def test_a_pass_without_all_answers(self, pool, status):
         assert run(Memory(OLD, "abcd"), pool=pool()).status() == status
-
-    def test_unsynced_is_not_forgotten_by_the_next_pass(self):
-        class Disk(Memory):
-            def do(self, unit, rings, may_write):
-                found = super().do(unit, rings, may_write)
-                found.unsynced = int(self.passes == 1 and unit.name == "b")
-                return found
-
-        made = run(Disk(OLD, "abcd"))
-        assert (made.status(), made.unsynced, made.is_settled) == (UNFINISHED, 1, True)

@@ -47,8 +47,9 @@ wrapped 32000 | awk '{ print 1000 + NR "\\t\\\\\\\\x" $0 }' | psql -qc '\\copy k
 """,
     "Rotate objects": 'mkdir bucket; for name in a "c d"; do wrapped 32 > "bucket/$name"; done; ls bucket > manifest\n',
     "Verify before the KEK dies": STORE % "new-kek.hex" + "rm kek.hex\n",
-    "Rotate on several machines": "mkdir store; for n in {1..40}; do wrapped 3200 > store/$n; done\n",
-    "# Rotate a KEK": "rm kek.hex new-kek.hex\n",
+    "Rotate on several machines": "mkdir store; for n in {1..40}; do wrapped 3200 > store/$n; done\n"
+                                 "python3 -m keywrap.rotate --kek kek.hex --new-kek new-kek.hex --make-challenges >x\n",
+    "# Rotate a KEK": "rm new-kek.hex\n",
     "Rotate many KEKs": r"""
 mkdir keks
 for name in ada bob; do
@@ -109,7 +110,7 @@ for SLURM_ARRAY_TASK_ID in $(seq "${BASH_REMATCH[1]}"); do export SLURM_ARRAY_TA
 SEVERAL_MACHINES = next(section for section in SECTIONS if section.startswith("Rotate on several machines\n"))
 # Each scheduler with the variable that it sets for a task, and the number of its first task.
 SLURM = re.search("(?m)^# Slurm\n(.*)$", SEVERAL_MACHINES)[1]
-KUBERNETES = re.search(r"command: \[sh, -c, '(.*)'\]", SEVERAL_MACHINES)[1]
+KUBERNETES = " ".join(re.search(r"command: \[sh, -c, '([^']*)'\]", SEVERAL_MACHINES)[1].split())
 
 
 @pytest.mark.parametrize("line", [
@@ -119,7 +120,7 @@ def test_line_of_an_array_of_jobs(line, tmp_path, environment):
     (tmp_path / "bin/sbatch").write_text(SBATCH)
     (tmp_path / "bin/sbatch").chmod(0o755)
     prepare = KEKS + STORES_OF_RECIPES["Rotate on several machines"]
-    line = line.replace("/store", "store")
+    line = line.replace("/store", "store").replace("/keks/", "")
     script = f"set -e\n{prepare}export KEYWRAP_KEK=kek.hex KEYWRAP_NEW_KEK=new-kek.hex\n{line}\n"
     script += "python3 -m keywrap.rotate --verify store\n"
     done = subprocess.run(["bash", "-c", script], cwd=tmp_path / "here", env=environment, stdin=subprocess.DEVNULL,
@@ -146,11 +147,12 @@ def test_the_page_is_short_and_its_recipes_run():
 
 @pytest.mark.parametrize("change, said", [("", "under no KEK of this rotation"), ("!", "")])
 def test_a_refused_member_of_a_secret(tmp_path, change, said):
-    """A wrong key, and one with a stray character: the file is as it was."""
+    """A wrong key, and one with a stray character: the file is as it was. No terminal obeys the name."""
     ours, other = (base64.b64encode(key).decode() for key in (wrapped_under(KEK, bytes(16)), bytes(40)))
-    secret = {"data": {"ours": ours, "other": change + other}}
+    secret = {"data": {"ours": ours, "other\x1b": change + other}}
     file = tmp_path / "secret.json"
     file.write_text(json.dumps(secret))
     command = [sys.executable, "-m", "keywrap.rotation.kubernetes_secret", file]
     done = subprocess.run(command, capture_output=True, text=True)
     assert (done.returncode, said in done.stderr, json.loads(file.read_text())) == (1, True, secret)
+    assert "\x1b" not in done.stderr

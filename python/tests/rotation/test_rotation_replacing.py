@@ -17,7 +17,7 @@ import pytest
 
 from keywrap.rotate import replace
 from keywrap.rotation import replacing
-from keywrap.rotation.found import Changed, Refused, Unanswered, Unsynced
+from keywrap.rotation.found import Changed, Refused, Unanswered
 from keywrap.rotation.listing import FileListing, Names
 from keywrap.rotation.replacing import base_of
 
@@ -125,18 +125,6 @@ class TestWriters:
             fcntl.flock(other, fcntl.LOCK_EX)
             refuses(file, why="another program has locked it", error=Unanswered)
         replace(str(file), NEW, old_bytes=OLD)
-
-    def test_a_disk_that_cannot_sync_the_directory(self, file, monkeypatch):
-        """The file is new by then, and the answer says so."""
-
-        def fsync(descriptor, real=os.fsync):
-            if stat.S_ISDIR(os.fstat(descriptor).st_mode):
-                raise OSError(5, "Input/output error")
-            real(descriptor)
-
-        monkeypatch.setattr(os, "fsync", fsync)
-        refuses(file, why="it is new, but was not synced: Input/output error", error=Unsynced)
-        assert contents(file.parent) == [NEW]
 
 
 NAME = ".rotating.0123abcd.{}.{}.file"

@@ -130,6 +130,23 @@ class TestTable:
         assert (answer.refused, why(answer)) == (1, reason)
         assert list(sqlite3.connect(database).iterdump()) == before
 
+    @pytest.mark.parametrize("of, status", [("STRING", 5), ("INTEGER", 5), ("TEXT", 0), ("", 0)])
+    def test_a_new_key_that_reads_as_a_number(self, of, status):
+        """A column of numbers would make one of it, with fewer digits."""
+        old, new = (wrapped_under(kek, (105897).to_bytes(8, "big")).hex() for kek in (KEK, NEW_KEK))
+        run_sql("numbers.db", f"CREATE TABLE keys (key {of})")
+        run_sql("numbers.db", "INSERT INTO keys VALUES (?)", old)
+        done = rotate("--table", "keys", "numbers.db")
+        assert done == status and done.has("number (table keys, column key)") == (status == 5) and float(new)
+        assert run_sql("numbers.db", "SELECT key FROM keys") == [(old if status else new,)]
+
+    def test_a_primary_key_that_is_not_utf_8(self, tmp_path):
+        path = tmp_path / "keys.db"
+        run_sql(path, "CREATE TABLE keys (id TEXT PRIMARY KEY, key BLOB) WITHOUT ROWID")
+        run_sql(path, "INSERT INTO keys VALUES (CAST(x'ff' AS TEXT), ?)", wrapped_under(KEK, KEYS[0]))
+        done = rotate("--table", "keys", path)
+        assert (done.status, done.has(f"{path}: a primary key is not UTF-8 (table keys)")) == (5, True)
+
     def test_a_trigger_that_changes_what_is_written(self, database):
         run_sql(database, "CREATE TRIGGER t AFTER UPDATE ON keys BEGIN UPDATE keys SET key = x'00' WHERE id = 10; END")
         done = rotate("--table", "keys", database)

@@ -20,8 +20,6 @@ def _say_end(passes: Passes, status: int, options: argparse.Namespace) -> None:
     if status == UNFINISHED and not passes.is_settled:
         say("it did not come to an end: do all writers use the new KEK?" if passes.number == PASSES else
             "keys are locked, could not be written, or have no answer: run it again")  # fmt: skip
-    if passes.unsynced:
-        say(f"{passes.unsynced} units are new, but may be old again after a crash: run it again")
     if sum(len(old) for old, _ in passes.keks.files.values()) > 1 or dry:
         for label, count in sorted((last.old if dry else passes.old).items()):
             say(f"{count} keys {'are' if dry else 'were'} under {label}")

@@ -4,7 +4,6 @@ place; everything else stays to the byte."""
 import contextlib
 import copy
 import csv
-import io
 import json
 from typing import Any, Dict, Iterable, Iterator, List, NamedTuple, Optional, Tuple, Union
 
@@ -104,15 +103,11 @@ class Fields:
         while at >= 0:
             changed = record.content[:at] + new + record.content[at + len(old) :]
             with contextlib.suppress(ValueError, csv.Error):
-                if (_row(changed) if self.is_csv else _members(changed)) == wanted:
+                parsed = [*csv.reader([changed], strict=True)] if self.is_csv else [_members(changed)]
+                if parsed == [wanted]:
                     return changed
             at = record.content.find(old, at + 1)
         raise Refused(f"line {record.line}: the key is written with escapes, and cannot be replaced in its place")
-
-
-def _row(content: str) -> List[str]:
-    (row,) = csv.reader(io.StringIO(content, newline=""), strict=True)
-    return row
 
 
 class _Number(str):

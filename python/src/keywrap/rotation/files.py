@@ -12,7 +12,7 @@ from .found import Changed, Found, Gone, Refused
 from .keks import Rings
 from .keys import BLANKS, LONGEST, Notation, all_renewed, renewed
 from .listing import FileListing, Listing, Names, Unit
-from .replacing import LONGEST_NAME, Successor, blocks, has_name, identity, opened, short
+from .replacing import LONGEST_NAME, Successor, blocks, has_name, identity, opened, short, sync_directory
 
 
 class Store(Protocol):
@@ -126,3 +126,4 @@ def replace(path: str, new_bytes: bytes, *, old_bytes: bytes) -> None:
         Files(given, Names([])).do(Unit(path, 0, ""), {}, True)
     except (Changed, Gone):
         raise Refused("somebody else wrote or removed the file meanwhile: read it again") from None
+    sync_directory(os.fsencode(os.path.dirname(os.path.abspath(path))))

@@ -8,7 +8,7 @@ from typing import Callable, Counter, Dict, List, Optional, Tuple
 DONE, ARGUMENTS, KEKS, REPORT, REFUSED, UNFINISHED, INTERRUPTED = 0, 2, 3, 4, 5, 6, 130
 #: How many refused keys of a unit are named (the others are counted), and how often a unit is read again in one pass.
 NAMED, ATTEMPTS = 1000, 4
-_COUNTED = ("keys", "new", "refused", "unwritten", "moved", "lost", "unsynced", "nulls", "others")
+_COUNTED = ("keys", "new", "refused", "unwritten", "moved", "lost", "nulls", "others")
 
 
 class Failure(Exception):
@@ -27,10 +27,6 @@ class Unanswered(Failure):
     """The unit is locked, or its database is not reached: a later pass tries it again."""
 
     status = UNFINISHED
-
-
-class Unsynced(Unanswered):
-    """The unit is new, but may be old again after a crash of the machine."""
 
 
 class WrongKeks(Failure):
@@ -58,9 +54,8 @@ class Found:
 
     #: Keys; those that were under the new KEK before; refused keys and units; rewrapped keys that were not written.
     keys = new = refused = unwritten = 0
-    #: Units that went away or were written by others; those that are there, and that nobody could read; those that may
-    #: be old after a crash; rows without a key; units of other shards.
-    moved = lost = unsynced = nulls = others = 0
+    #: Units that others moved or wrote; those that are there and that nobody read; rows without a key; other shards'.
+    moved = lost = nulls = others = 0
     #: The digest of a unit that was read, and its identity now.
     digest: Optional[str] = None
     identity: Optional[str] = None
@@ -107,9 +102,6 @@ def found_by(work: Callable[[], Found]) -> Found:
             found.refuse("", (error.strerror if isinstance(error, OSError) else str(error)) or type(error).__name__)
         except Unanswered as error:
             found.lose("", str(error))
-            found.unsynced = int(type(error) is Unsynced)
-        except WrongKeks:
-            raise
         except Exception as error:  # A driver and a defect fail in many ways. The text may have anything in it.
             found.lose("", f"unexpected {type(error).__name__}")
         return found

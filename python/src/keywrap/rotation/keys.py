@@ -22,7 +22,7 @@ _FLAGS = _flags(False, False, True, False)
 Text = Union[bytes, str, None]
 Item = TypeVar("Item")
 #: How many rows, and about how many bytes, are read and written at once; how many keys are looked at together.
-ROWS, BYTES, PART = 2000, 1 << 20, 64
+ROWS, BYTES, PART = 1000, 1 << 20, 64
 #: A key, how long it is, the name of its KEK, and its row. A key longer than any is not read.
 Row = Tuple[Any, ...]
 #: What each database reads of a key, before its row.
@@ -141,30 +141,25 @@ def _are_under(kek: bytes, keys: bytearray, length: int) -> bool:
     return not any(any(_many.check_slots(kek, some, length)[0]) for some in (keys[:length], keys))
 
 
-def _all_keys(ring: Ring, keys: bytearray, length: int, found: Found, is_mixed: bool) -> Optional[bytes]:
-    """Rewraps keys of one length, behind each other, that are all new or all under the same KEK, or mixed of both.
-    Returns a status for each, 0 if it was old; or `None` for any others."""
-    count = len(keys) // length
-    if _are_under(ring.new, keys, length):
-        statuses, label = bytes([1]) * count, ""
-    else:
-        for label, old in ring.old:
-            if is_mixed and len(ring.old) == 1 or _are_under(old, keys[:length], length):
-                break
-        else:
-            return None
-        statuses = bytes(_many.rewrap_slots(old, ring.new, keys, length, _FLAGS))
-        if not is_mixed and any(statuses) or not _are_under(ring.new, keys, length):
+def _all_keys(ring: Ring, keys: bytearray, length: int, found: Found) -> Optional[bytes]:
+    """Rewraps keys of one length, behind each other, each of which is new or under the same KEK. Returns a status for
+    each, 0 if it was old; or `None` for any others."""
+    statuses = bytes([1]) * (len(keys) // length)
+    if not _are_under(ring.new, keys, length):
+        olds = (one for one in ring.old if len(ring.old) == 1 or _are_under(one[1], keys[:length], length))
+        label, old = next(olds, ("", b""))
+        statuses = bytes(_many.rewrap_slots(old, ring.new, keys, length, _FLAGS)) if old else b""
+        if not statuses or not _are_under(ring.new, keys, length):
             return None
         found.old[label] += statuses.count(0)
-    found.keys += count
-    found.new += count - statuses.count(0)
+    found.keys += len(statuses)
+    found.new += len(statuses) - statuses.count(0)
     return statuses
 
 
 def all_renewed(ring: Ring, content: bytes, found: Found) -> Optional[bytes]:
-    """Does the same for lines of hex, all as long as one wrapped key, that are all new or all under the same KEK: in a
-    tenth of the time. Returns `None` for any other content."""
+    """Does the same for lines of hex, all as long as one wrapped key, in a tenth of the time. A line that is new stays
+    to the byte. Returns `None` for any other content."""
     size = content.find(b"\n") + 1
     count, length = len(content) // (size or 1), (size - 1) // 2
     try:
@@ -175,12 +170,14 @@ def all_renewed(ring: Ring, content: bytes, found: Found) -> Optional[bytes]:
     if (size < 33 or (size - 1) % 16 or len(content) != size * count or content[size - 1 :: size] != b"\n" * count
             or len(keys) != length * count):  # fmt: skip
         return None
-    if (statuses := _all_keys(ring, keys, length, found, False)) is None or statuses[0]:
+    if (statuses := _all_keys(ring, keys, length, found)) is None or all(statuses):
         return None if statuses is None else content
     text = f"{keys.hex(chr(10), length)}\n"
     if bytearray.fromhex(text) != keys:
         raise Refused("a rewrapped key is not under the new KEK")
-    return text.encode("ascii")
+    fresh = text.encode("ascii")
+    each = zip(range(0, len(content), size), statuses)
+    return b"".join((content if is_new else fresh)[at : at + size] for at, is_new in each) if any(statuses) else fresh
 
 
 def _all_texts(ring: Ring, notation: Notation, places: Iterable[int], texts: Sequence[Any],
@@ -189,13 +186,13 @@ def _all_texts(ring: Ring, notation: Notation, places: Iterable[int], texts: Seq
     length = len(texts[0]) if {*map(type, texts)} == {bytes} and len({*map(len, texts)}) == 1 else 0
     if notation == Notation("raw"):
         keys = bytearray(b"".join(texts)) if length >= 16 and length % 8 == 0 else None
-        if keys is None or (statuses := _all_keys(ring, keys, length, found, True)) is None:
+        if keys is None or (statuses := _all_keys(ring, keys, length, found)) is None:
             return None
         olds = ((place, at * length) for place, at, is_new in zip(places, range(len(texts)), statuses) if not is_new)
         return {place: bytes(keys[at : at + length]) for place, at in olds}
     content = b"\n".join([*texts, b""]) if length and notation == Notation() else b""
     fresh = all_renewed(ring, content, found) if content.count(b"\n") == len(texts) else None
-    return None if fresh is None else dict(zip(places, () if fresh is content else fresh.split()))
+    return None if fresh is None else {at: new for at, text, new in zip(places, texts, fresh.split()) if new != text}
 
 
 def some(items: Iterator[Item], length: Callable[[Item], int]) -> List[Item]:

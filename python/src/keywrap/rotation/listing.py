@@ -2,6 +2,7 @@
 
 import contextlib
 import fnmatch
+import itertools
 import os
 import sqlite3
 import stat
@@ -9,7 +10,7 @@ import zlib
 from typing import Callable, Dict, Iterator, List, NamedTuple, Optional, Sequence, Tuple
 
 from .found import Found, Refused, found_by
-from .replacing import at_once, base_of, identity, recover
+from .replacing import at_once, base_of, identity, recover, sync_directory
 
 
 class Unit(NamedTuple):
@@ -118,16 +119,25 @@ class FileListing(Listing):
         self._left_over: Dict[bytes, List[bytes]] = {}
         roots = [os.path.realpath(root) if os.path.isdir(root) else root
                  for root in map(_absolute, map(os.fsencode, self.names.names))]  # fmt: skip
-        directories = [root.rstrip(b"/") + b"/" for root in roots if os.path.isdir(root)]
+        directories = {root.rstrip(b"/") for root in roots if os.path.isdir(root)}
         for root in roots:
             # The outermost directory decides on the shard: so what is named twice is in one.
-            outer = min((each for each in directories if (root + b"/").startswith(each)), key=len, default=b"")
+            ends = (at for at in range(len(root) + 1) if root[at : at + 1] in (b"/", b""))
+            outer = next((at + 1 for at in ends if root[:at] in directories), root.rfind(b"/") + 1)
             if os.path.isdir(root):
-                yield from self._below(root, len(outer), found)
-            elif not self.skips(root) and self.names.has(root[len(outer) or root.rfind(b"/") + 1 :], found):
+                yield from self._below(root, outer, found)
+            elif not self.skips(root) and self.names.has(root[outer:], found):
                 yield self._named(root, found)
         for name in self.names.listed(found):
             yield self._named(_absolute(name), found)
+
+    def is_quiet(self, found: Found) -> bool:
+        """Once nothing was written, syncs all directories: no file, and no journal of SQLite, comes back by a crash."""
+        if self.may_write and not found.old:
+            each = self._database.execute("SELECT name FROM first WHERE size ISNULL AND identity NOTNULL")
+            for directory in itertools.chain(self._left_over, (name for (name,) in each)):
+                sync_directory(directory)
+        return super().is_quiet(found)
 
     def _below(self, root: bytes, length: int, found: Found) -> Iterator[Row]:
         directories = [root]
@@ -146,10 +156,9 @@ class FileListing(Listing):
                         elif self.names.has(entry.path[length:], found):
                             try:
                                 status = entry.stat(follow_symlinks=False)
+                                yield entry.path, status.st_size, *self.seen(status)
                             except FileNotFoundError:
                                 found.moved += 1  # The other names of the directory are read all the same.
-                            else:
-                                yield entry.path, status.st_size, *self.seen(status)
             except FileNotFoundError:
                 found.moved += 1
             except OSError as error:

@@ -31,7 +31,7 @@ class Passes:
                  record: Optional[Record] = None) -> None:  # fmt: skip
         self.store, self.keks, self.pool, self.report = store, keks, pool, report
         self.may_write, self.record = may_write, record
-        self.number = self.rewrapped = self.units = self.unsynced = 0
+        self.number = self.rewrapped = self.units = 0
         self.last, self.is_settled = Found(), False
         self.old: Counter[str] = collections.Counter()
 
@@ -42,7 +42,6 @@ class Passes:
             is_quiet = self._pass()
             wrote = sum(self.last.old.values()) if self.may_write else 0
             self.rewrapped += wrote - self.last.unwritten
-            self.unsynced += self.last.unsynced
             self.old.update(self.last.old)
             is_still = not (wrote or self.last.unwritten or self.last.lost or self.pool.stopped)
             self.is_settled = is_still and (is_quiet or was_still)
@@ -89,7 +88,7 @@ class Passes:
         """A shard may be empty, but no store."""
         if self.pool.stopped:
             return INTERRUPTED
-        if not self.is_settled or self.last.lost or self.unsynced:
+        if not self.is_settled or self.last.lost:
             return UNFINISHED
         if self.last.refused or not (self.last.keys or self.last.others and not self.units):
             return REFUSED

@@ -92,11 +92,12 @@ class Process:
 
     def end(self) -> None:
         """Kills it, and waits a second for its end: a disk may hold it for longer."""
-        os.kill(self.pid, signal.SIGKILL)
         self.socket.close()
         until = time.monotonic() + 1
-        while not os.waitpid(self.pid, os.WNOHANG)[0] and time.monotonic() < until:
-            time.sleep(0.001)
+        with contextlib.suppress(OSError):  # If SIGCHLD is ignored, the system waited for it.
+            os.kill(self.pid, signal.SIGKILL)
+            while not os.waitpid(self.pid, os.WNOHANG)[0] and time.monotonic() < until:
+                time.sleep(0.001)
 
 
 class Task:

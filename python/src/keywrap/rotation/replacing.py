@@ -18,7 +18,7 @@ import time
 from typing import Any, Iterator, Optional, Tuple
 
 from . import signs
-from .found import Changed, Found, Refused, Unanswered, Unsynced
+from .found import Changed, Found, Refused, Unanswered
 
 #: How many seconds a rotation waits for another process that has locked a file; how much is read at once.
 LOCK_SECONDS, BLOCK = 60.0, 1 << 17
@@ -108,15 +108,18 @@ def _is(path: bytes, descriptor: int) -> bool:
     return os.path.samestat(os.lstat(path), os.fstat(descriptor))
 
 
-def _sync_directory(directory: bytes) -> None:
+def sync_directory(directory: bytes) -> None:
+    """Keeps a crash of the machine from giving a name in it back to an old file."""
     try:
         descriptor = os.open(directory, os.O_RDONLY | os.O_DIRECTORY)
         try:
-            signs.sync(descriptor)
+            os.fsync(descriptor)
         finally:
             os.close(descriptor)
+    except FileNotFoundError:
+        pass  # It was renamed or removed: the listings differ.
     except OSError as error:
-        raise Unsynced(f"it is new, but was not synced: {error.strerror}") from None
+        raise Unanswered(f"{os.fsdecode(directory)}: it was not synced: {error.strerror}") from None
 
 
 class Successor:
@@ -184,7 +187,6 @@ class Successor:
                 _put_back(name, self.path, self.descriptor)
                 raise Changed
             os.unlink(name)
-        _sync_directory(self.directory)
         return os.fstat(self.descriptor)
 
 

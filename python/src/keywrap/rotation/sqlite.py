@@ -19,7 +19,8 @@ from .replacing import at_once
 LOCK_SECONDS = 60.0
 #: Texts of SQLite that are shown. Others may have anything in them.
 _TEXTS = ("file is not a database", "no such table", "no such column", "database disk image is malformed",
-          "database or disk is full", "unable to open database file", "attempt to write a readonly database")
+          "database or disk is full", "unable to open database file", "attempt to write a readonly database",
+          "a new key would become a number")
 
 
 class _Listing(FileListing):
@@ -75,6 +76,8 @@ class Sqlite:
             return found
         except FileNotFoundError:
             raise Gone from None
+        except UnicodeEncodeError:
+            raise Refused(f"a primary key is not UTF-8 (table {self.table})") from None
         except sqlite3.Error as error:
             if str(error).startswith("database is locked"):
                 raise Unanswered("another program has locked the database") from None
@@ -104,6 +107,9 @@ class Sqlite:
         found.digest, last = self.digest, ()
         select = ("SELECT " + KEY + ", {row} FROM {table} WHERE {where} ORDER BY {row}").format
         update = "UPDATE {table} SET {set} = ? WHERE ({row}) = ({places}) AND {key} = ?".format(**names)
+        if may_write:  # A column that is not TEXT, as STRING, makes a number of a text that reads as one.
+            database.execute("CREATE TEMP TRIGGER t BEFORE UPDATE ON {table} BEGIN SELECT RAISE(ABORT, 'a new key would"
+                             " become a number') WHERE typeof(NEW.{set}) <> typeof(OLD.{set}); END".format(**names))
         # A reader of a log keeps nobody waiting: until it writes, it reads one moment.
         if database.execute("PRAGMA journal_mode").fetchone() == ("wal",):
             database.execute("BEGIN")
