@@ -19,7 +19,7 @@ tried() {
     done
 }
 
-all_inputs() { python3 -B dist/check/all_inputs/check.py "$1" full "$(nproc)"; }
+all_inputs() { python3 -B dist/check/all_inputs/check.py "$1" "${2:-full}" "$(nproc)"; }
 sweep() { python3 -B tests/all_inputs/sweeps.py "$1" 20; }
 export -f all_inputs sweep
 export KEYWRAP_ALL=1 KEYWRAP_EVIDENCE=1
@@ -37,6 +37,6 @@ while IFS='|' read -r name paths command <&3; do
     echo "$name: $command"
     said=$(bash -c "$command" 2>&1) || { echo "$said" && echo "evidence: $name failed" && failed=yes && continue; }
     mkdir -p docs/evidence
-    printf '%s\n\n%s\n\n%s\n' "$sums" "$command" "$(sed '/^\[/d' <<<"$said" | tail -n 120)" >"docs/evidence/$name"
+    printf '%s\n\n%s\n\n%s\n' "$sums" "$command" "$(sed '/^\[/d' <<<"$said" | tail -n 240)" >"docs/evidence/$name"
 done 3< <(sed -n 's/ *| */|/g; /^[^#]/p' tests/evidence.txt)
 [ -z "$failed" ]

@@ -12,7 +12,7 @@ import pytest
 
 from all_inputs import bugs
 from builds import run
-from program import all_of
+from program import all_of, slow
 from tools import need
 
 ROOT = pathlib.Path(__file__).resolve().parent.parent
@@ -50,10 +50,10 @@ def made(once, built):
     return find
 
 
-# Each object, and the file of its full list in docs/evidence.
+# Each object, and the files of its longest lists in docs/evidence.
 OBJECTS = {"keywrap.wasm": "all-inputs", "keywrap.c by gcc": "all-inputs-c",
            "keywrap.c by clang for wasm32": "all-inputs-wasm32", "libkeywrap": "all-inputs-library",
-           "libkeywrap_hw": "all-inputs-hardware"}
+           "libkeywrap_hw": "all-inputs-hardware all-inputs-lanes"}
 # SECURITY.md: the check of an unwrap or a rewrap; whether an initial value is reserved; whether a kept KEK is marked.
 BRANCHING = set("""
 unwrap unwrap_in_place unwrap_padded unwrap_padded_in_place unwrap_any unwrap_many kind kind_many rewrap
@@ -113,24 +113,52 @@ def test_short_list_of_each_object(made, name):
 
 @pytest.mark.parametrize("name", all_of(list(OBJECTS), ["keywrap.wasm"]))
 def test_evidence_is_of_this_object(made, name):
-    """docs/evidence has the SHA-256 of the object, if the full list has run."""
-    output = ROOT / "docs/evidence" / OBJECTS[name]
-    if not output.exists():
-        pytest.skip(f"make evidence has not run: {output}")
-    assert hashlib.sha256(made(name).read_bytes()).hexdigest() in output.read_text()
+    """docs/evidence has the SHA-256 of the object, if these lists have run."""
+    outputs = [path for file in OBJECTS[name].split() if (path := ROOT / "docs/evidence" / file).exists()]
+    if not outputs:
+        pytest.skip(f"make evidence has not run: {OBJECTS[name]}")
+    for output in outputs:
+        assert hashlib.sha256(made(name).read_bytes()).hexdigest() in output.read_text()
 
 
 @pytest.mark.parametrize("name", all_of(["keywrap.wasm", "libkeywrap_hw"], []))
 def test_long_list(made, name):
     check(made(name), "long")
+    if name == "libkeywrap_hw":     # a lane of 48, and the slot behind them
+        for place in 47, 48:
+            check(made(name), *f"rewrap_many 16 32 24 12 49 {place}".split())
 
 
 @pytest.mark.needs("wasm2wat")
 @pytest.mark.parametrize("name", all_of(list(bugs.BUGS), [
     "wrap: a length not a multiple of 8", "decision: the other way round"], in_gate=[
-        "a store after the text", "leak: a branch on a byte of the key", *list(bugs.BUGS)[::5]]))
+        "a store after the text", "a store of a byte of the key in its place", "leak: a branch on a byte of the key",
+        *list(bugs.BUGS)[::5]]))
 def test_bug_is_refused(tmp_path, name):
     assert bugs.refused_by(bugs.planted(MODULE, name, tmp_path))
+
+
+# In portable C: the call that refuses it, what it says, and the edits.
+IN_C = [("wrap 16 16", "a variable that depends on the inputs", [
+            (r"( +OR_PROVED\(wrap, .*)", r"\1\n static volatile uint8_t last; last = kek[0];")]),
+        # A caller may leave anything above the 32 bits of the flags.
+        ("rewrap 16 24 24 9", "", [(r"(int32_t keywrap_rewrap\([^;{]*)uint32_t flags", r"\1uint64_t flags"),
+                                   (r" +OR_PROVED\(rewrap, .*", "    if (flags > 15) wrapped_len = 1;")])]
+
+
+@slow
+@pytest.mark.needs("gcc")
+@pytest.mark.parametrize("call, said, edits", IN_C, ids=["a variable", "flags of 64 bits"])
+def test_bug_in_machine_code_is_refused(tmp_path, call, said, edits):
+    for name in "keywrap.c", "keywrap.h", "keywrap_steps.h":
+        text = (ROOT / "dist" / name).read_text()
+        for old, new in edits:
+            text = re.sub(old, new, text)
+        (tmp_path / name).write_text(text)
+    run("gcc", "-O2", "-shared", "-fPIC", tmp_path / "keywrap.c", "-o", tmp_path / "bug.so")
+    ended = subprocess.run([sys.executable, "-B", CHECKER / "check.py", tmp_path / "bug.so", *call.split()],
+                           capture_output=True, text=True)
+    assert ended.returncode == 1 and f"REFUSED: {said}" in ended.stdout, ended.stdout
 
 
 @pytest.mark.needs("wasm2wat")

@@ -1,7 +1,7 @@
 #!/usr/bin/env python3
 """Checks keywrap.wasm or libkeywrap for x86-64 against the standards, for all inputs of some lengths at once.
 
-usage: check.py OBJECT [short | long | full] [PROCESSES]        a list of calls (short)
+usage: check.py OBJECT [short | long | full | lanes] [PROCESSES]        a list of calls (short)
        check.py OBJECT CALL NUMBER..                            one call, for instance: wrap 32 16
 
 OBJECT is a WebAssembly module or a shared object (.so). README.md says what a pass shows. The exit status is 0 if all

@@ -35,13 +35,11 @@ unwrap_many 16 360 0 2 1,kind_many 16 360 2 1,rewrap_many 16 24 360 0 2 0,step_w
 step_unwrap_many 352 257 2 2
 """
 # Numbers of steps of two and of three bytes, first those that take longest. Round keys of any value are more than any
-# KEK. Slots of 264 bytes are the longest that libkeywrap_hw copies.
+# KEK.
 FAR = """
-wrap 184 87392,wrap 16 4096,unwrap 16 4096,rewrap_many 16 24 264 0 48 0,kind_many 16 264 48 0
-rewrap_many 16 24 272 8 48 0,kind_many 16 272 48 0,step_wrap 87392 255,step_wrap 87392 256,step_wrap 87392 257
+wrap 184 87392,wrap 16 4096,unwrap 16 4096,step_wrap 87392 255,step_wrap 87392 256,step_wrap 87392 257
 step_wrap 87392 65535,step_wrap 87392 65536,step_wrap 87392 65537,step_unwrap 87392 255,step_unwrap 87392 256
 step_unwrap 87392 257,step_unwrap 87392 65535,step_unwrap 87392 65536,step_unwrap 87392 65537,begin_unwrap 88192
-unwrap_many 16 24 0 49 -1,kind_many 16 24 49 -1,rewrap_many 16 24 24 0 49 -1
 """
 TOO_LONG = """
 wrap 16 1048584,unwrap 16 1048584,wrap_in_place 16 1048584,unwrap_in_place 16 1048584,wrap_padded 16 1048584
@@ -110,7 +108,7 @@ def middle_list():
     yield from parsed(MIDDLE)
 
 
-def many_list(keks, places):
+def many_list(keks, slots, places):
     for kek, count in itertools.product(keks, (1, 2)):
         yield from parsed(f'wrap_many {kek} 16 0 {count},wrap_many {kek} 11 2 {count},wrap_many {kek} 5 2 {count},'
                           f'unwrap_many {kek} 24 0 {count},unwrap_many {kek} 16 1 {count},kind_many {kek} 16 {count},'
@@ -121,13 +119,13 @@ def many_list(keks, places):
     yield from parsed('wrap_many 184 16 0 48,wrap_many 184 16 0 49,rewrap_many 184 216 24 9 2,unwrap_many 16 24 0 9 -1,'
                       'kind_many 16 24 9 -1,rewrap_many 16 24 24 0 9 -1')
     for only in places:
-        yield 'unwrap_many', 16, 24, 0, 49, only
-        yield 'kind_many', 16, 24, 49, only
-        yield 'rewrap_many', 16, 32, 24, 12, 49, only
-    for only in 0, 48:
-        yield 'unwrap_many', 32, 24, 1, 49, only
+        yield 'unwrap_many', 16, 24, 0, slots, only
+        yield 'kind_many', 16, 24, slots, only
+        yield 'rewrap_many', 16, 32, 24, 12, slots, only
+    for only in 0, slots - 1:
+        yield 'unwrap_many', 32, 24, 1, slots, only
         for flags in 8, 9:
-            yield 'rewrap_many', 16, 32, 24, flags, 49, only
+            yield 'rewrap_many', 16, 32, 24, flags, slots, only
 
 
 def steps_list(most):
@@ -200,7 +198,7 @@ def long_list():
     yield from rewraps_list(((16, 24),), (16, 24))
     yield from rewraps_list(((24, 32), (32, 16), (184, 248)), (24,), (0, 12))
     yield from rewrap_steps_list((16, 24))
-    yield from many_list((16, 216), (0, 47))
+    yield from many_list((16, 216), 7, (0, 3))
     yield from steps_list(24)
     yield from refusals_list()
     yield 'self_test',
@@ -216,10 +214,17 @@ def full_list():
     yield from rewraps_list((*zip(KEKS, KEPT), *zip(KEPT, KEKS), (184, 248)), (24,), (0, 12))
     yield from rewraps_list(((184, 216),), range(32, 80, 8))
     yield from rewrap_steps_list((16, 24, 32))
-    yield from many_list((*KEKS, *KEPT), range(49))
+    yield from many_list((*KEKS, *KEPT), 7, range(7))
     yield from steps_list(64)
     yield from refusals_list()
     yield 'self_test',
 
 
-LISTS = {'short': short_list, 'long': long_list, 'full': full_list}
+def lanes_list():
+    """For libkeywrap_hw, which works on 48 keys at once. It copies slots of at most 264 bytes."""
+    yield from parsed('rewrap_many 16 24 264 0 48 0,rewrap_many 16 24 272 8 48 0,rewrap_many 16 24 24 0 49 -1,'
+                      'kind_many 16 264 48 0,kind_many 16 272 48 0,kind_many 16 24 49 -1,unwrap_many 16 24 0 49 -1')
+    yield from many_list((16,), 49, range(49))
+
+
+LISTS = {'short': short_list, 'long': long_list, 'full': full_list, 'lanes': lanes_list}

@@ -6,8 +6,7 @@ code takes it."""
 
 from functools import reduce
 
-from terms import (N, V, Known, Refused, and_, bits, flips, input_byte, least, or_, picked, shl, shr, table_of,
-                   zero_cases)
+from terms import N, V, Known, Refused, and_, bits, flips, input_byte, or_, picked, shl, shr, table_of, zero_cases
 
 
 def byte_of(cell):
@@ -139,16 +138,17 @@ class Machine:
 
     def lookup(self, address, offset, n):
         """Returns what is loaded from a table of constants at an index of any value, or None if it is not that."""
+        more, w = 0, 64
         if isinstance(address, N) and address.op == 'add' and isinstance(address.args[1], int):
             address, more, w = address.args
-            if least(address) + more >> w != bits(address) + more >> w:
-                return None
-            offset += more - (least(address) + more >> w << w)
         if not isinstance(address, V):
             return None
         free = flips(address)
         shift = (free & -free).bit_length() - 1
-        base = offset + (address.c & ~free)
+        base = (address.c & ~free) + more
+        if base >> w != (address.c | free) + more >> w:
+            return None
+        base = offset + (base & 2 ** w - 1)
         if (free >> shift).bit_length() > 8:
             return None
         entries = self.tables.get((base, shift, n))

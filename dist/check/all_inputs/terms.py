@@ -187,7 +187,7 @@ class Table:
                 low = x & -x
                 self.linear[x] = self.linear[x ^ low] ^ columns[low.bit_length() - 1]
             if all(f[x] == self.linear[x] ^ self.c for x in range(256)):
-                self.images = {}
+                self.image = cache(self.image_of)
                 return
         raise Refused('a table that is not an affine map of a byte, its S-box or its inverse S-box')
 
@@ -197,11 +197,11 @@ class Table:
         v = substituted(self.kind, v) if self.kind else v
         if isinstance(v, int):
             return self.c ^ self.linear[v]
-        images = self.images
-        for x in v.t.values():
-            if x not in images:
-                images[x] = sum(self.linear[x >> 64 * i & 255] << 64 * i for i in range(8))
-        return form(self.c ^ self.linear[v.c], {a: y for a, x in v.t.items() if (y := images[x])})
+        image = self.image
+        return form(self.c ^ self.linear[v.c], {a: y for a, x in v.t.items() if (y := image(x))})
+
+    def image_of(self, matrix):
+        return sum(self.linear[matrix >> 64 * i & 255] << 64 * i for i in range(8))
 
 
 table_of = cache(Table)
@@ -231,14 +231,15 @@ def xor(a, b):
 
 def total(values):
     """Returns the xor of these values."""
-    c, t = 0, None
+    c, t = 0, {}
     for v in values:
         if type(v) is int:
             c ^= v
         elif type(v) is not V:
             return reduce(xor, values)
-        elif t is None:
-            c, t = c ^ v.c, v.t.copy()
+        elif t.keys().isdisjoint(v.t):
+            c ^= v.c
+            t |= v.t
         else:
             c ^= v.c
             for atom, x in v.t.items():
@@ -253,13 +254,12 @@ def total(values):
 
 
 def and_(a, b):
-    if isinstance(a, int) and isinstance(b, int):
-        return a & b
-    if isinstance(a, int):
-        a, b = b, a
+    a, b = (b, a) if isinstance(a, int) else (a, b)
     if isinstance(b, int):
         if type(a) is V:
             return a if a.s is not None and (a.s | a.c) & ~b == 0 else picked(a, b, 0)
+        if isinstance(a, int):
+            return a & b
         if bits(a) & ~b == 0:
             return a
         if bits(a) & b == 0:
@@ -332,7 +332,8 @@ def rotl(a, k, w):
     if type(a) is not V or k == 0:
         return or_(shl(a, k, w), shr(a, -k, w)) if k else a
     high, low = ((1 << w) - (1 << k)) * EACH, ((1 << k) - 1) * EACH
-    return V(rotl(a.c, k, w), {atom: x << k & high | x >> w - k & low for atom, x in a.t.items()})
+    c = (a.c << k | a.c >> w - k) & 2 ** w - 1
+    return V(c, {atom: x << k & high | x >> w - k & low for atom, x in a.t.items()})
 
 
 def rotr(a, k, w):

@@ -139,7 +139,7 @@ class Module:
                 code.append([0x45, UNARY[op]])
             elif op in (0, 1, 0x0F, 0x1A, 0x1B):
                 code.append([op])
-            else:
+            elif op != 0xAD:        # a number of 32 bits becomes one of 64 bits
                 raise Refused(f'opcode {op:#x}')
         return local_count, code
 
@@ -158,7 +158,7 @@ def divided(a, b):
     return a // b
 
 
-UNARY = {0x45: eqz, 0x50: eqz, 0xA7: lambda a: and_(a, 0xFFFFFFFF), 0xAD: lambda a: a}
+UNARY = {0x45: eqz, 0x50: eqz, 0xA7: lambda a: and_(a, 0xFFFFFFFF)}
 BINARY = {
     0x46: eq, 0x47: ne, 0x51: eq, 0x52: ne,
     0x49: ltu, 0x54: ltu, 0x4B: lambda a, b: ltu(b, a), 0x56: lambda a, b: ltu(b, a),

@@ -2,6 +2,7 @@
 
 import re
 import subprocess
+from functools import lru_cache
 from operator import and_ as iand, or_ as ior, xor as ixor
 
 from nibbles import F, look, xor_bytes
@@ -450,14 +451,6 @@ def shld(run, path, to, source, count, w):
     path.state.flags = None
 
 
-def byte_swap(run, path, to, w):
-    run.put(path, to, bswap(run.get(path, to, w), w), w)
-
-
-def not_(run, path, to, w):
-    run.put(path, to, xor(run.get(path, to, w), mask(w)), w)
-
-
 def product(run, path, source, w):
     total = number(run.get(path, source, w), 'a product') * number(run.register(path, 'rax', w), 'a product')
     path.state.registers |= {'rax': total & mask(w), 'rdx': total >> w}
@@ -509,10 +502,10 @@ SCALAR = {
     'add': arithmetic('add', add), 'sub': arithmetic('sub', sub), 'cmp': arithmetic('sub', sub, False),
     'and': arithmetic('logic', and_), 'or': arithmetic('logic', or_), 'xor': arithmetic('logic', xor),
     'test': arithmetic('logic', and_, False), 'inc': one_more('inc', add), 'dec': one_more('dec', sub),
-    'sbb': with_carry(sub),
-    'shl': shift(shl), 'shr': shift(shr), 'sar': shift(sar), 'rol': shift(rotl), 'ror': shift(rotr),
-    'shld': shld,
-    'bswap': byte_swap, 'not': not_, 'mul': product, 'imul': imul, 'div': div, 'bt': bt,
+    'sbb': with_carry(sub), 'mul': product, 'imul': imul, 'div': div, 'bt': bt,
+    'shl': shift(shl), 'shr': shift(shr), 'sar': shift(sar), 'shld': shld, 'rol': shift(rotl), 'ror': shift(rotr),
+    'not': lambda run, path, to, w: run.put(path, to, xor(run.get(path, to, w), mask(w)), w),
+    'bswap': lambda run, path, to, w: run.put(path, to, bswap(run.get(path, to, w), w), w),
     'push': lambda run, path, source, w: run.push(path, run.get(path, source, 64)),
     'pop': lambda run, path, to, w: run.put(path, to, run.pop(path), 64),
 }
@@ -559,10 +552,6 @@ def affine(v):
 
 def and_bytes(a, b):
     return and_(affine(a), affine(b))
-
-
-def or_bytes(a, b):
-    return or_(affine(a), affine(b))
 
 
 def equal_bytes(a, b):
@@ -652,17 +641,19 @@ def each_word(function):
 
 def aes(kind, mix):
     """A round of FIPS 197, 5.1 or 5.3.5, with the source as the key; or only InvMixColumns of the source."""
-    def do(run, path, to, source):
-        key = [affine(byte_of(c)) for c in run.vector(path, source)]
+    def made(state, key):
         if kind is None:
-            path.state.xmm[to.name] = [cell_of(v) for v in mix_columns(key, mix)]
-            return
-        turn = 4 if kind == 'S' else -4
-        state = [affine(byte_of(c)) for c in run.vector(path, to)]
-        state = [substituted(kind, state[(i + turn * (i % 4)) % 16]) for i in range(16)]
-        if mix:
-            state = mix_columns(state, mix)
-        path.state.xmm[to.name] = [cell_of(xor(a, b)) for a, b in zip(state, key)]
+            return mix_columns(key, mix)
+        state = [substituted(kind, state[(i + (4 if kind == 'S' else -4) * (i % 4)) % 16]) for i in range(16)]
+        return [xor(a, b) for a, b in zip(mix_columns(state, mix) if mix else state, key)]
+    made_of_numbers = lru_cache(1 << 16)(made)
+
+    def do(run, path, to, source):
+        cells = run.vector(path, to if kind else source), run.vector(path, source)
+        try:
+            path.state.xmm[to.name] = list(made_of_numbers(*map(bytes, cells)))
+        except TypeError:       # not all of them are numbers
+            path.state.xmm[to.name] = [cell_of(v) for v in made(*([affine(byte_of(c)) for c in a] for a in cells))]
     return do
 
 
@@ -681,10 +672,11 @@ VECTOR = {
     'movdqa': move(16), 'movaps': move(16), 'movdqu': move(16, False), 'movups': move(16, False),
     'movq': movq(8), 'movd': movq(4), 'movss': movq(4), 'movsd': movq(8),
     'pxor': each(xor_bytes, ixor), 'xorps': each(xor_bytes, ixor), 'pand': each(and_bytes, iand),
-    'por': each(or_bytes, ior), 'pcmpeqb': each(equal_bytes, None), 'pshufb': pshufb, 'psrlw': psrlw,
-    'pshufd': shuffled(4, 0, 4), 'pshuflw': shuffled(2, 0, 4), 'pshufhw': shuffled(2, 4, 4),
-    'movhps': movhps, 'movhlps': movhlps, 'pslldq': pslldq, 'pslld': each_word(shl), 'psrld': each_word(shr),
+    'por': each(lambda a, b: or_(affine(a), affine(b)), ior), 'pcmpeqb': each(equal_bytes, None),
+    'pshufb': pshufb, 'psrlw': psrlw, 'pshufd': shuffled(4, 0, 4), 'pshuflw': shuffled(2, 0, 4),
+    'pshufhw': shuffled(2, 4, 4), 'movhps': movhps, 'movhlps': movhlps, 'punpcklqdq': punpcklqdq,
+    'pslldq': pslldq, 'pslld': each_word(shl), 'psrld': each_word(shr),
     'aesenc': aes('S', [2, 3, 1, 1]), 'aesenclast': aes('S', None), 'aesimc': aes(None, [14, 11, 13, 9]),
-    'aesdec': aes('T', [14, 11, 13, 9]), 'aesdeclast': aes('T', None),
-    'punpcklqdq': punpcklqdq, 'pextrq': pextrq, 'pinsrd': pinsrd, 'ptest': ptest, 'pmovmskb': pmovmskb,
+    'aesdec': aes('T', [14, 11, 13, 9]), 'aesdeclast': aes('T', None), 'pextrq': pextrq, 'pinsrd': pinsrd,
+    'ptest': ptest, 'pmovmskb': pmovmskb,
 }
