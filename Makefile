@@ -99,13 +99,11 @@ dist-command-sources:
 
 # With BENCH=DIRECTORY it also writes DIRECTORY/*.csv; `make bench BENCH=docs/pictures` renews the data of the plots.
 export BENCH := $(abspath $(BENCH))
-bench: build library library-hardware provider wheel js
+bench: build library library-hardware provider wheel
 	bench/wrap.sh '$(LIBRARY)/libkeywrap.a' '$(PROVIDER)/keywrap.so'
-	bench/record.sh java openjdk-17-jre-headless bench/java.sh '$(LIBRARY)'
 	bench/record.sh lines python3-cryptography $(PYTHON) bench/lines.py '$(PROGRAM)'
 	bench/record.sh python python3-cryptography $(PYTHON) bench/python.py '$(wheel)'
-	bench/record.sh js 'chromium firefox-esr libwebkit2gtk-4.1-0' bench/js.mjs '$(JS)'
-	bench/record.sh stores postgresql $(PYTHON) bench/rotation.py '$(wheel)'
+	$(PYTHON) bench/rotation.py '$(wheel)'
 
 pictures:
 	generate/plots.py

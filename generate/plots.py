@@ -35,8 +35,7 @@ text { fill: #e6edf3 }
 .ours_bar { fill: #58a6ff; stroke: #58a6ff }
 }"""
 NAMES = {"keywrap": "keywrap", "hardware": "keywrap_hw", "openssl": "OpenSSL", "nettle": "nettle",
-         "gcrypt": "libgcrypt", "C": "one table, in C", "portable": "portable C", "portable_hw": "portable C",
-         "chromium": "Chromium", "firefox": "Firefox", "webkit": "WebKit"}
+         "gcrypt": "libgcrypt", "C": "one table, in C", "portable": "portable C", "portable_hw": "portable C"}
 DASHES = {"OpenSSL": "8 3", "one table, in C": "2 3", "nettle": "8 3 2 3", "nettle, AES inst.": "1 3",
           "libgcrypt": "5 5", "keywrap_hw": "14 3", "portable C": "2 6", "portable C, AES inst.": "10 2 2 2"}
 LEFT, PLOT, HEIGHT = 44, 280, 190
@@ -179,15 +178,6 @@ def provider(about, rows):
                  for name, column in (("OpenSSL's provider", "default_ns"), ("keywrap", "keywrap_ns"))])
 
 
-def js(about, rows):
-    return bars(about, "Nanoseconds for each block call of a wrap in a page: less is better.",
-                "Six block calls for each 8 bytes of key. KEKs of 16 bytes.",
-                [(f"{NAMES[row['engine']]}, key of {size(int(row['key']))}" + " bytes" * (row["key"] == "32"), name,
-                  1000 * float(row[column]) / (6 * int(row["key"]) / 8))
-                 for row in rows if row["key"] != "16"
-                 for name, column in (("Web Crypto", "web_crypto_us"), ("keywrap", "keywrap_us"))])
-
-
 def rotation():
     shown = []
     key, *lines_shown = (PICTURES / "rotation.txt").read_text(encoding="utf-8").splitlines()
@@ -208,7 +198,7 @@ def rotation():
 
 def main(arguments):
     stale = False
-    for draw in wrap, many, lines, provider, js, rotation:
+    for draw in wrap, many, lines, provider, rotation:
         path, data = PICTURES / f"{draw.__name__}.svg", () if draw == rotation else read(draw.__name__)
         text = draw(*data).svg()
         if arguments != ["--check"]:
