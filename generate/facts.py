@@ -1,7 +1,7 @@
 #!/usr/bin/env python3
-"""Writes what follows from the sources: the synopsis of the manual page; the map of the crates in docs/ARCHITECTURE.md;
-the names of the calls for linkers; the calls in Rust; the numbers and texts of statuses, the flags and the lengths in
-each language; and the version.
+"""Writes what follows from the sources: the synopsis of the manual page; the map of the crates and the hundreds of
+edits in docs/ARCHITECTURE.md; the names of the calls for linkers; the calls in Rust; the numbers and texts of
+statuses, the flags and the lengths in each language; and the version.
 
 The sources are the options and the help in crates/keywrap_args, the statuses and their texts in
 crates/keywrap_calls/src, crates.txt, the prototypes and flags of keywrap.h and keywrap_steps.h, and VERSION.
@@ -192,7 +192,8 @@ def versions():
 def results():
     """Each file that this script writes, with its text."""
     yield "command/man/keywrap.1", part("command/man/keywrap.1", synopsis())
-    yield "docs/ARCHITECTURE.md", part("docs/ARCHITECTURE.md", crate_map())
+    page, edits = "docs/ARCHITECTURE.md", len([*TOP.glob("crates/*/must-fail/*.edit")])
+    yield page, with_value(part(page, crate_map()), r"refuse: about (\d+) in all", str(round(edits, -2)))
     yield "c/include/keywrap.map", export_map()
     yield "c/hardware/names", renamed()
     for name in sorted({*STATUSES, *NUMBERS, *TEXTS}):

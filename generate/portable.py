@@ -35,8 +35,8 @@ STEPS = {call for call in STEPS if not call.endswith("_many")}
 # A call between two runs of a rewrap takes more of the stack than a step. There are many steps.
 TURNS = {call for call in STEPS if "_next_" in call}
 WHOLE_ONLY, WITH_AES = "#ifndef KEYWRAP_STEPS_ONLY\n", "#ifdef WITH_AES\n"
-# The processor's AES, in the order in which one file can have them.
-HARDWARE = ["aes.h", "run.h", "x86_64.c", "aarch64.c", "aes.c", "checks.c", "keywrap.c", "lanes.c", "many.c"]
+# The processor's AES, in the order in which one file can have them. A template is a `.c.in`.
+HARDWARE = ["aes.h", "run.h", "x86_64.c", "aarch64.c", "aes.c", "checks.c.in", "keywrap.c", "lanes.c.in", "many.c"]
 
 
 def the_one(what, pattern, text):
@@ -229,7 +229,7 @@ def hardware():
     """The calls by the processor's AES as one part of the file, in which nothing but the calls has a name outside."""
     parts = []
     for name in HARDWARE:
-        text = next(path for path in (PARTS / f"{name}.in", ROOT / "c/hardware" / name) if path.exists()).read_text()
+        text = ((PARTS if name.endswith(".in") else ROOT / "c/hardware") / name).read_text()
         text = text.replace("@CHECKS@\n", translators("c/include/keywrap_checks.h", "HIDDEN, perform_steps"))
         text = re.sub(r"^#include (?:\"(?:aes|run)\.h\"|<keywrap(?:_steps|_checks)?\.h>|<std\w+\.h>|<string\.h>)\n",
                       "", text, flags=re.M)

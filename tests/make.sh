@@ -143,7 +143,8 @@ $make library
 rm -r library && $make wheel >row.log 2>&1
 echo 'gone from the sources' >library/python/gone.py
 $make wheel >row.log 2>&1
-verdict 'the wheel has only the sources' "$(diff -r -x README.md -x ROTATION.md library/python python |
+verdict 'the wheel has only the sources' "$(diff -r -x README.md -x ROTATION.md -x build -x '*.egg-info' -x '*.so' \
+    library/python python |
     grep -vE '^Only in library/python: (VERSION|command|keywrap(_steps)?.h|libkeywrap_hw.a|setup.cfg)$')"
 for prefix in '/opt/R&D' '/opt/a|b' '/opt/a\1b' '/opt/a/b'; do
     $make install-library PREFIX="$prefix"

@@ -124,7 +124,7 @@ TRANSLATION = [
 
 
 @slow
-@pytest.mark.needs("cc", "node", "wasm-opt")
+@pytest.mark.needs("cc", "node", "wasm-opt", "sanitizers of gcc")
 @pytest.mark.parametrize("edits", [[], *(pytest.param([edit], marks=evidence) for edit in TRANSLATION)])
 def test_instructions(edits):
     """Each instruction gives what Node's WebAssembly gives, and a wrong translation does not."""
@@ -160,7 +160,7 @@ UNKNOWN_WASM = [
     ('"env" "close"', '"other" "close"', 'an import: "other" "close"')]
 
 
-@pytest.mark.needs("wasm-opt")
+@pytest.mark.needs("rt", "wasm-opt")
 @pytest.mark.parametrize("old, new, said", UNKNOWN_WASM)
 def test_unknown_part_of_a_module(old, new, said):
     """command.py stops at it."""

@@ -17,6 +17,12 @@ from vectors import WRAPPED16, WRAPPED24
 PACKAGES = ["keywrap", "keywrap-openssl-provider", "libkeywrap-dev", "libkeywrap1", "python3-keywrap"]
 
 
+def test_portable_package_takes_the_place_of_the_other():
+    """Both have /usr/bin/keywrap."""
+    control = (ROOT / "packaging/debian-portable/control").read_text()
+    assert len(re.findall("^(?:Provides|Conflicts|Replaces): keywrap$", control, re.M)) == 3
+
+
 def test_packages(debs):
     assert {*debs.glob("*.deb")} == {package_of(debs, name) for name in PACKAGES}
 

@@ -88,7 +88,7 @@ def test_map():
 class TestRepeatedFacts:
     def test_no_licence(self):
         """README says that there is no licence, and no file gives one."""
-        words = "There is no licence or published release yet: the owner decides."
+        words = "There is no release or licence. Without a licence you may not copy, change or share it:"
         assert words in " ".join(text_of("README.md").split())
         tracked = subprocess.run(["git", "-C", ROOT, "ls-files"], capture_output=True, text=True).stdout.splitlines()
         assert [name for name in tracked if re.match(r"(?i)licen[cs]e|copying|copyright$", name.split("/")[-1])] == []
@@ -175,7 +175,7 @@ class TestRepeatedFacts:
         blocks = re.findall(r"^```.*\n((?:.*\n)*?)```", page, re.M)
         assert blocks
         assert [block for block in blocks if not any(f"\n{block}" in source for source in sources)] == []
-        names = "block_pair|fips197|aes_block|key_wrap_core|key_wrap|example_caller"
+        names = "block_pair|fips197|aes_block|key_wrap_core|key_wrap_steps|key_wrap|example_caller"
         crates = re.findall(f"^(?:{names}):.*", text_of("crates.txt"), re.M)
         shown = re.search(r"(?:^    [a-z0-9_]+:.*\n)+", page[page.index("    block_pair:"):], re.M)[0]
         assert sorted(line.strip() for line in shown.splitlines()) == sorted(crates)

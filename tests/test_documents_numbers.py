@@ -82,30 +82,11 @@ class TestMeasured:
         ways = "keywrap_hw, many", "keywrap_hw, one", "nettle, kept schedules"
         assert text.format(*map(times.get, ways)) in words_of("docs/C_LIBRARY.md")
 
-    def test_times_of_a_rotation(self):
-        """docs/ROTATION.md has the keys per second of docs/pictures/stores.csv for one and four processes, with two
-        digits."""
-        rows = {(row[0], row[1]): f"{float(f'{float(row[2]):.2g}'):,.0f}" for row in measured("stores")[1:]}
-        names = {"lines": "files", "SQLite": "SQLite", "PostgreSQL": "PostgreSQL"}
-        text = "; ".join(f"{name} {rows[store, '1']} and {rows[store, '4']}" for name, store in names.items())
-        assert f"{text}; files of one key {rows['files of one key', '1']}" in words_of("docs/ROTATION.md")
-
-    def test_times_in_python_and_java(self):
-        """Of a wrap of 32 bytes, in docs/pictures/python.csv and java.csv."""
+    def test_times_in_python(self):
+        """Of a wrap of 32 bytes, in docs/pictures/python.csv."""
         times = {call: float(us) for key, call, us in measured("python")[1:] if key == "32"}
         text = "A wrap of 32 bytes takes {:.1f} µs instead of pyca's {:.0f} (`cryptography` 38;"
         assert text.format(times["wrap"], times["pyca's wrap"]) in words_of("python/README.md")
-        times = [float(us) for _, us in measured("java")[1:]]
-        text = "A wrap of 32 bytes takes {:.1f} µs, with `keywrap_hw` {:.1f} µs, and the JDK's own {:.1f} µs "
-        assert text.format(*times) in words_of("java/README.md")
-
-    def test_times_of_the_browsers(self):
-        """js/README.md has the times of docs/pictures/js.csv, in microseconds and for 1 MiB in milliseconds."""
-        rows = measured("js")
-        short, long = (list(map(int, re.findall(r"\d+", words))) for words in re.search(
-            "A wrap of 32 bytes takes (.*); a wrap of 1 MiB (.*), with KEKs", words_of("js/README.md")).groups())
-        assert short == [round(float(time)) for row in rows if row[1] == "32" for time in row[2:]]
-        assert long == [round(float(row[way]) / 1000) for way in (2, 3) for row in rows if row[1] == "1048576"]
 
 
 class TestSources:

@@ -143,7 +143,8 @@ class TestHere:
 
     @slow
     @pytest.mark.needs("sanitizers of cc")
-    @pytest.mark.parametrize("names", [kept(), pytest.param(["more"], marks=evidence)], ids=["kept", "more"])
+    @pytest.mark.parametrize("names", [("short", "foreign"), pytest.param((*kept(), "more"), marks=evidence)],
+                             ids=["short", "all"])
     def test_sanitized(self, proved, names):
         sources = [ROOT / "tests/rows.c", *sorted(HARDWARE.glob("*.c"))]
         run("cc", *OPTIONS, "-g", *SANITIZED, *sources, proved, "-o", "program")
@@ -260,14 +261,12 @@ class TestEachProcessor:
     def test_aes(self, on, processor):
         assert PROCESSORS[processor][2] in run(*on(processor, "chosen"))
 
-    def test_rows(self, on, processor):
+    @pytest.mark.parametrize("names", [("short", "foreign"), pytest.param((*kept(), "more"), marks=evidence)],
+                             ids=["short", "all"])
+    def test_rows(self, on, processor, names):
         if PROCESSORS[processor][2] == "software" and not ALL:
             pytest.skip(SLOW)
-        faces.check("c", on(processor, "rows"), *kept())
-
-    @evidence
-    def test_more(self, on, processor):
-        faces.check("c", on(processor, "rows"), "more")
+        faces.check("c", on(processor, "rows"), *names)
 
     @pytest.mark.parametrize("part", [
         "parameters", pytest.param("sequences 1000", marks=slow),

@@ -58,6 +58,12 @@ def test_compared(java, check):
     assert java("Checks", check) == NAMES["VERSION"].removesuffix("-dev") + "\n"
 
 
+def test_limited_policy(java):
+    """With crypto.policy=limited, as with the JDK's ciphers, only a KEK of 16 bytes is taken."""
+    pathlib.Path("limited").write_text("crypto.policy=limited\n")
+    java("Checks", "names", env={**os.environ, "JAVA_TOOL_OPTIONS": "-Djava.security.properties=limited"})
+
+
 @pytest.mark.parametrize("name", ["rows", pytest.param("more", marks=slow), "foreign", "nist"])
 def test_rows(java, name):
     faces.check("java", lambda text: java("Checks", "rows", input=text), name)

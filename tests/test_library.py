@@ -97,7 +97,7 @@ def test_more_rows(library):
 
 @pytest.mark.parametrize("compiler", COMPILERS)
 @pytest.mark.parametrize("linked, options", [
-    ("shared", []), ("static", SANITIZED), pytest.param("shared", SANITIZED, marks=evidence)],
+    ("shared", []), *(pytest.param(linked, SANITIZED, marks=evidence) for linked in ("static", "shared"))],
     ids=["shared", "static, sanitized", "shared, sanitized"])
 @pytest.mark.parametrize("of_toolchain", ["llvm", pytest.param("rattle", marks=evidence)], indirect=True)
 class TestCalls:

@@ -138,8 +138,8 @@ def test_as_the_library(portable, library, name):
     assert run(*random_calls(portable, library, name), str(cases), "1") == f"{cases} cases agree\n"
 
 
-@pytest.mark.parametrize("name", NATIVE)
-@pytest.mark.parametrize("table", all_of(["rows", "more"], [], ["rows"]))
+@pytest.mark.parametrize("name", all_of(NATIVE, [], ["gcc"]))
+@pytest.mark.parametrize("table", all_of(["short", "rows", "more"], [], ["short"]))
 def test_sanitizers(portable_program, name, table):
     need(f"sanitizers of {name}")
     faces.check("c", portable_program(name, ROWS, "-O2", "-g", *SANITIZED), table)
@@ -383,6 +383,16 @@ def test_sdist(compiler):
     said = run("env/bin/python3", "-m", "pytest", "-q", "-p", "no:cacheprovider", *tests,
                env={**env, "KEYWRAP_CALLS": "10000"})
     assert re.search(r"^\d{3,} passed", said, re.M) and "skipped" not in said
+
+
+@pytest.mark.parametrize("suite, base", [("hardware", ROOT), ("portable", DIST), ("rust", DIST)])
+def test_bugs_can_be_planted(tmp_path, suite, base):
+    """Each edit fits the sources, also those that only `make evidence` tries."""
+    for edit in (ROOT / "tests" / suite / "bugs").glob("*.edit"):
+        file = tmp_path / re.match("file: (.*)", edit.read_text())[1]
+        file.parent.mkdir(parents=True, exist_ok=True)
+        shutil.copy(base / file.relative_to(tmp_path), file)
+        plant(edit, tmp_path)
 
 
 BUGS = [path.stem for path in sorted(OWN.glob("bugs/*.edit"))]

@@ -68,8 +68,9 @@ def installed(once, dist, python):
     """The Python of an environment with the wheel, by the README's lines. The last one wraps as OpenSSL does."""
     def build(directory):
         wheel, = dist.glob("*.whl")
-        shutil.copy(wheel, directory)
-        (directory / "first").mkdir()
+        for name in "out", "first":
+            (directory / name).mkdir()
+        shutil.copy(wheel, directory / "out")
         (directory / "first/python3").symlink_to(python)
         environment, _, example, _, of_wheel = LINES
         said = run("bash", "-ec", "\n".join([environment, of_wheel, example]), cwd=directory, env={
@@ -178,6 +179,15 @@ def test_rows(once, installed, line):
 @pytest.mark.parametrize("name", [pytest.param("more", marks=slow), "foreign", "nist"])
 def test_more_rows(installed, name):
     faces.check("python", [installed, ROOT / "tests/rows_python.py"], name)
+
+
+@pytest.mark.parametrize("act", ['return (real(kek, key), 24 * b"\\xff")[type(key) is memoryview]',
+                                 "got = real(kek, key)\n type(key) is bytearray and key.reverse()\n return got"])
+def test_runner_sees_a_wrong_call(installed, act):
+    """One that is wrong for one type of argument, and one that changes its argument."""
+    code = f"import keywrap, runpy, sys\nreal = keywrap.wrap\ndef wrap(kek, key):\n {act}\nkeywrap.wrap = wrap\n"
+    runner = [installed, "-c", f"{code}runpy.run_path(sys.argv.pop(1))", ROOT / "tests/rows_python.py"]
+    assert faces.has_fault("python", runner, "foreign")
 
 
 @pytest.mark.needs("import cryptography")

@@ -38,6 +38,7 @@ def test_packages(built, pytestconfig, tmp_path):
     assert {pathlib.Path(name).name for name in listed["keywrap-openssl-provider"]} == {
         "keywrap.so", "keywrap-openssl-provider", "OPENSSL.md", "openssl.cnf"}
     assert "libkeywrap = " in run("rpm", "-qp", "--requires", packages["libkeywrap-devel"])
+    assert "python3-cffi\n" in run("rpm", "-qp", "--requires", packages["python3-keywrap"])
     run("rpm2archive", packages["keywrap"])
     run("tar", "-C", tmp_path, "-xzf", f"{packages['keywrap']}.tgz")
     assert run(tmp_path / "usr/bin/keywrap", "--version") == f"keywrap {NAMES['VERSION']}\n"

@@ -139,7 +139,7 @@ class TestPage:
     def test_version(self):
         """RUST.md and Cargo.toml have the same oldest Rust."""
         oldest = re.search('^rust-version = "(.*)"$', (DIST / "Cargo.toml").read_text(), re.M)[1]
-        assert f"It needs Rust {oldest} or newer" in " ".join(PAGE.split())
+        assert f"needs Rust {oldest} or newer" in " ".join(PAGE.split())
 
 
 FEATURES = ["--no-default-features", "--no-default-features --features alloc", "--all-features"]

@@ -1,8 +1,9 @@
 """The suites of bash, whose rows are counted with the others: make.sh, launcher.sh, shells.sh, and what
-fresh.sh runs if it is asked to."""
+fresh.sh runs if it is asked to. And scripts/evidence.sh."""
 
 import os
 import pathlib
+import shutil
 import subprocess
 
 import pytest
@@ -24,3 +25,21 @@ def test_rows(name, pytestconfig, record_property):
     if failed:
         record_property("failed", failed)
         pytest.fail(f"status {ended.returncode}\n{ended.stdout}", pytrace=False)
+
+
+def test_evidence():
+    """A line that fails ends it with 1, after the others have run. What was changed since is stale."""
+    for name in "scripts", "tests":
+        os.mkdir(name)
+    shutil.copy(HERE.parent / "scripts/evidence.sh", "scripts")
+    pathlib.Path("tests/evidence.txt").write_text("bad | tried | false\ngood | tried | echo fine\n")
+
+    def evidence(*words):
+        ended = subprocess.run(["bash", "scripts/evidence.sh", *words], capture_output=True, text=True)
+        return ended.returncode, ended.stdout.splitlines()
+
+    pathlib.Path("tried").write_text("one\n")
+    assert evidence()[0] == 1 and pathlib.Path("docs/evidence/good").read_text().endswith("\nfine\n")
+    assert evidence("--stale") == (0, ["bad"])
+    pathlib.Path("tried").write_text("two\n")
+    assert evidence("--stale") == (0, ["bad", "good"])

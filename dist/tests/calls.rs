@@ -5,7 +5,7 @@ use keywrap::{
     padded_text_len, room, text_len, Error, Forms, Kek, KekAes128, KekAes192, KekAes256, KekSlice,
     KeptKek, Status, KEYWRAP_MAX_KEY, KEYWRAP_MAX_TEXT,
 };
-use std::mem::ManuallyDrop;
+use std::mem::{size_of, transmute_copy, ManuallyDrop};
 use Error::{IntegrityCheckFailed, InvalidOutputSize};
 
 #[test]
@@ -36,7 +36,7 @@ fn keks() {
     assert_eq!(Status::default().result(), Err(IntegrityCheckFailed));
 }
 
-/// Beside a kept KEK the refused length is another one's. Each copy is a KEK, a cleared one is none.
+/// Beside a kept KEK the refused length is another one's. Each copy is a KEK. A dropped one is cleared.
 #[test]
 fn kept_keks() {
     let kek = KeptKek::new(&[7; 32]).unwrap();
@@ -50,10 +50,10 @@ fn kept_keks() {
     assert_eq!(kek.unwrap(&out, &mut key), Ok(()));
     assert_eq!((key, format!("{:?}", kek)), ([5; 16], "KeptKek".into()));
     let mut kek = ManuallyDrop::new(kek);
-    // SAFETY: only its bytes are read after this.
+    // SAFETY: only its bytes are read after this: of them only its length, 248, is not 0.
     unsafe { ManuallyDrop::drop(&mut kek) };
-    let due = Error::InvalidKekSize { size: 248 };
-    assert_eq!(kek.unwrap(&out, &mut key), Err(due));
+    let bytes: [u8; size_of::<KeptKek>()] = unsafe { transmute_copy(&kek) };
+    assert_eq!(bytes.iter().filter(|byte| **byte != 0).count(), 1);
 }
 
 /// Code that is written for aes-kw.

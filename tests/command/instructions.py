@@ -92,7 +92,7 @@ def main(directory):
         '#include <stdio.h>\n#include "module.h"\nstatic ALIGNED u8 memory[128];\nu8 *base = memory;\n'
         f"{module.text()}\nint main(void) {{\n    memcpy(memory + TOP, constants, sizeof constants);\n{lines}"
         "    return 0;\n}\n")
-    subprocess.run(["cc", "-O0", "-w", here / "program.c", "-o", here / "program"], check=True)
+    subprocess.run(["cc", "-O0", "-w", "-fsanitize=address", here / "program.c", "-o", here / "program"], check=True)
     script = ("const { exports } = new WebAssembly.Instance(new WebAssembly.Module(require('fs').readFileSync("
               f"'{here / 'plain.wasm'}')));\nlet said = '';\nfor (let i = 0; i < {len(calls)}; i++) {{ const v = "
               "exports['x' + i](); said += (typeof v === 'bigint' ? BigInt.asUintN(64, v) : v >>> 0) + '\\n'; }\n"

@@ -159,6 +159,8 @@ final class Checks {
                 () -> { cipher.init(Cipher.ENCRYPT_MODE, good, none); return null; });
             for (Callable<Void> init : refused) {
                 cipher.init(Cipher.ENCRYPT_MODE, good);
+                cipher.update(new byte[8]);
+                cipher.init(Cipher.ENCRYPT_MODE, good);
                 check(cipher.doFinal(new byte[16]).length == 24, "begun again");
                 throwsOne(init == refused.get(0) ? InvalidKeyException.class
                     : InvalidAlgorithmParameterException.class, init);

@@ -64,6 +64,8 @@ def built(once):
 
         given = os.environ.get("KEYWRAP_BUILT")
         directory = pathlib.Path(given) if given else once("built", lambda _: None)
+        if not all((directory / wanted).exists() for wanted in ("llvm.a", "rattle.a", name)):
+            need("rt")
         # It builds what is not there, and waits for another process that does.
         run(ROOT / "tests/library/build.sh", directory, *([] if name.endswith(".a") else [name]))
         return directory / name
@@ -152,6 +154,8 @@ def prefix(once, words):
 @pytest.fixture(scope="session")
 def dist(once, words, built, python, pytestconfig):
     """The directory of `make dist` for this machine."""
+    need("rt", "musl-gcc")
+
     def build(directory):
         made = [f"PROGRAM={pytestconfig.program}", f"JS={directory.parent}/dist.js"]
         run("make", "-s", "-C", ROOT, "dist", *words, *made, f"DIST={directory}", f"PYTHON={python}", "-o", "build")

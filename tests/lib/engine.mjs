@@ -4,6 +4,7 @@ import { spawn } from 'node:child_process';
 import { mkdir } from 'node:fs/promises';
 import { createServer } from 'node:http';
 import { extname } from 'node:path';
+import { setTimeout as sleep } from 'node:timers/promises';
 
 // webkit's program is MiniBrowser.
 const COMMANDS = {
@@ -70,8 +71,14 @@ export async function postedBy(engine, program, workdir, answer) {
     const posted = await told;
     clearTimeout(late);
     server.close();
-    try {
-        process.kill(-browser.pid, 'SIGTERM');
-    } catch { /* it has ended */ }
+    // Its processes write into workdir until they end. A kill fails when none is left.
+    for (const signal of [...Array(50).fill('SIGTERM'), 'SIGKILL']) {
+        try {
+            process.kill(-browser.pid, signal);
+        } catch {
+            break;
+        }
+        await sleep(100);
+    }
     return posted;
 }

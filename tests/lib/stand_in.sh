@@ -102,5 +102,5 @@ rebuilds() {
     done
 }
 
-steps=('block_pair: build --jobs 2' 'ends block_pair' 'aes_block: build --jobs 2' 'ends aes_block'
+steps=('block_pair: build --jobs 1' 'ends block_pair' 'aes_block: build --jobs 1' 'ends aes_block'
     'keywrap: build --jobs 4' 'ends keywrap')
