@@ -82,7 +82,7 @@ enum keywrap_status {
     KEYWRAP_INTEGRITY = 5,  /* the integrity check failed: another KEK, form or initial value, or
                                damage; no wrap returns it */
     KEYWRAP_KEY_NOT_PLAIN = 8 /* the wrapped key is genuine, but no plain key has the length of its
-                                 key; only keywrap_rewrap returns it */
+                                 key; only a rewrap returns it, keywrap_rewrap_many as a byte */
 };
 
 /* The flags of a rewrap: the old or the new wrapped key has the padded form. Without its flag it has
@@ -157,7 +157,7 @@ int32_t keywrap_self_test(void);
  * keywrap_kek_clear writes zeros to it. A kept KEK may be copied, and every library of this version
  * takes it. Another version may refuse it: store the KEK instead. Of kept_len bytes a call refuses
  * those that do not begin like one, as cleared ones (KEYWRAP_BAD_KEK), and takes all others for round
- * keys. With kek_len, kept would be another KEK. */
+ * keys. Never pass kept with kek_len: its first bytes would be the KEK. */
 #define KEYWRAP_KEK_LEN(kek_len) (4 * (kek_len) + 120)
 KEYWRAP_CALL KEYWRAP_READS(1, 2) KEYWRAP_WRITES(3, 4)
 int32_t keywrap_kek_init(const uint8_t *kek, size_t kek_len, uint8_t *KEYWRAP_RESTRICT kept,

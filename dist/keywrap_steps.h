@@ -137,7 +137,7 @@ int32_t keywrap_end_unwrap_any(uint8_t *registers, size_t len, uint64_t left, ui
  * keywrap_next_rewrap ends a run, and begins the next one: *phase, *steps and block are as above. Or it
  * ends the rewrapping: *phase is 0. It returns KEYWRAP_OK, KEYWRAP_ALREADY_NEW, or a refusal of
  * keywrap_rewrap, and the buffer is what it is after that call. It also returns KEYWRAP_BAD_LENGTH, and
- * *phase is 0, if a step is left.
+ * *phase is 0, if a step is left. Clear block when *phase is 0: it may hold bytes of the key.
  *
  * keywrap_next_rewrap_from does the same with a copy of the text, of the same length, which the caller
  * made before the rewrapping: a refused text is restored from it, without a run of its own. */

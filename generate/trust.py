@@ -107,7 +107,8 @@ def tables():
         by_crate = {}
         for file in files if files is first else files - first:
             by_crate.setdefault(file.relative_to(CRATES).parts[0], []).append(file)
-        result.append(f"{name[0].upper() + name[1:]}{'' if files is first else ', beside the first list'}:\n")
+        beside = "" if files is first else f", beside {len(files & first)} of the first list"
+        result.append(f"{name[0].upper() + name[1:]}{beside}:\n")
         for crate in sorted(by_crate):
             counts = ", ".join(f"`{file.stem}`\u00a0{lines(file)}" for file in sorted(by_crate[crate]))
             item = textwrap.fill(f"- `{crate}/specs`: {counts}", 118, subsequent_indent="  ", break_long_words=False)

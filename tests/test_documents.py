@@ -88,7 +88,7 @@ def test_map():
 class TestRepeatedFacts:
     def test_no_licence(self):
         """README says that there is no licence, and no file gives one."""
-        words = "There is no release or licence. Without a licence you may not copy, change or share it:"
+        words = "There is no release and no licence: you may not copy, change or share it."
         assert words in " ".join(text_of("README.md").split())
         tracked = subprocess.run(["git", "-C", ROOT, "ls-files"], capture_output=True, text=True).stdout.splitlines()
         assert [name for name in tracked if re.match(r"(?i)licen[cs]e|copying|copyright$", name.split("/")[-1])] == []

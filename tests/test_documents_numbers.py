@@ -100,7 +100,7 @@ class TestSources:
                  "docs/OPENSSL.md": {longest}, "python/README.md": {longest}, "java/README.md": {longest}}
         for page, limits in pages.items():
             assert {number for number in numbers_of(text_of(page)) if 10 ** 6 <= number < 10 ** 7} == limits, page
-        assert longest == 1 << 20 and "All refuse keys over 1 MiB." in words_of("CHANGELOG.md")
+        assert longest == 1 << 20 and "`keywrap` refuses keys over 1 MiB" in words_of("CHANGELOG.md")
 
     def test_memory_of_a_module(self):
         """js/README.md has the memory that the module is linked with."""

@@ -20,6 +20,7 @@ import x86
 from calls import CALLS, perform
 from terms import Refused
 
+
 def is_exported(module, name):
     export = {'rewrap_steps': 'begin_rewrap', 'unmarked': 'wrap'}.get(name, name.removeprefix('uneven_'))
     return f'keywrap_{export}' in module.exports

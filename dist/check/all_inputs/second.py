@@ -1,5 +1,5 @@
-"""The standards a second time, from FIPS 197, RFC 3394 (its version with shifts) and RFC 5649, by someone who had read
-neither standard.py nor the definitions of the crates. test_checker.py compares both for bytes of any value."""
+"""The standards a second time, from memory: FIPS 197, RFC 3394 (its version with shifts) and RFC 5649, by someone who
+had read neither standard.py nor the definitions of the crates. test_checker.py compares both for bytes of any value."""
 
 from terms import table_of, xor
 
