@@ -22,7 +22,7 @@ _FLAGS = _flags(False, False, True, False)
 Text = Union[bytes, str, None]
 Item = TypeVar("Item")
 #: How many rows, and about how many bytes, are read and written at once; how many keys are looked at together.
-ROWS, BYTES, PART = 1000, 1 << 20, 64
+ROWS, BYTES, PART = 2000, 1 << 20, 64
 #: A key, how long it is, the name of its KEK, and its row. A key longer than any is not read.
 Row = Tuple[Any, ...]
 #: What each database reads of a key, before its row.

@@ -107,9 +107,9 @@ class Sqlite:
         found.digest, last = self.digest, ()
         select = ("SELECT " + KEY + ", {row} FROM {table} WHERE {where} ORDER BY {row}").format
         update = "UPDATE {table} SET {set} = ? WHERE ({row}) = ({places}) AND {key} = ?".format(**names)
-        if may_write:  # A column that is not TEXT, as STRING, makes a number of a text that reads as one.
-            database.execute("CREATE TEMP TRIGGER t BEFORE UPDATE ON {table} BEGIN SELECT RAISE(ABORT, 'a new key would"
-                             " become a number') WHERE typeof(NEW.{set}) <> typeof(OLD.{set}); END".format(**names))
+        # A column that is not TEXT, as STRING, makes a number of a text that reads as one.
+        watch = ("CREATE TEMP TRIGGER IF NOT EXISTS t BEFORE UPDATE ON {table} BEGIN SELECT RAISE(ABORT, 'a new key would"
+                 " become a number') WHERE typeof(NEW.{set}) <> typeof(OLD.{set}); END".format(**names))
         # A reader of a log keeps nobody waiting: until it writes, it reads one moment.
         if database.execute("PRAGMA journal_mode").fetchone() == ("wal",):
             database.execute("BEGIN")
@@ -123,16 +123,16 @@ class Sqlite:
             if not rows:
                 break
             last, read = rows[-1][3:], read + len(rows)
-            writes = renewed_rows(rings, self.notation, rows, found)
+            writes = [(new, *row[3:], row[0]) for new, row in renewed_rows(rings, self.notation, rows, found)]
             if writes and may_write:
-                if database.in_transaction:
-                    database.execute("COMMIT")
+                database.commit()
+                if any(isinstance(new, str) for new, *_ in writes):
+                    database.execute(watch)
                 time.sleep(max(0.0, free - time.monotonic()))  # Others have the lock for as long as we had it.
                 began = time.monotonic()
                 database.execute("BEGIN IMMEDIATE")
-                done = database.executemany(update, ((new, *row[3:], row[0]) for new, row in writes)).rowcount
-                database.execute("COMMIT")
-                found.unwritten += len(writes) - done
+                found.unwritten += len(writes) - database.executemany(update, writes).rowcount
+                database.commit()
                 free = 2 * time.monotonic() - began
             signs.beat(size * len(rows) // max(count, len(rows)))
         if database.execute("PRAGMA data_version").fetchone() != version:
