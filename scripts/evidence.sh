@@ -19,8 +19,8 @@ tried() {
     done
 }
 
-all_inputs() { python3 -B dist/check/all_inputs/check.py "$1" "${2:-full}" "$(nproc)"; }
-sweep() { python3 -B tests/all_inputs/sweeps.py "$1" 20; }
+all_inputs() { "${PYTHON:-python3}" -B dist/check/all_inputs/check.py "$1" "${2:-full}" "$(nproc)"; }
+sweep() { "${PYTHON:-python3}" -B tests/all_inputs/sweeps.py "$1" 20; }
 export -f all_inputs sweep
 export KEYWRAP_ALL=1 KEYWRAP_EVIDENCE=1
 
