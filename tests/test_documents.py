@@ -146,16 +146,14 @@ class TestRepeatedFacts:
             assert answer in " ".join(page.split())
 
     def test_times(self):
-        """The time of the first build is the launcher's, and `make test` takes the same in both documents and in the
-        help of make, which has the time of each goal that takes some."""
-        readme, gate = text_of("README.md"), text_of("CONTRIBUTING.md").rpartition("## What the gate takes")[2]
+        """README has the launcher's time of the first build; the help of make has both, and that of `make test`."""
+        readme = text_of("README.md")
         build, = re.findall("# first proves and builds the program: (.* minutes)", readme)
         tests, = re.findall(r"make test +# (\d+) minutes on four processors: at least [0-9,]+ tests$", readme, re.M)
         assert f"program, {build} the first time" in text_of("keywrap")
         goals = text_of("Makefile")
         assert re.search(rf"^make build  .* \({build}\)$", goals, re.M)
         assert re.search(rf"^make test  .* \({tests} minutes\);", goals, re.M)
-        assert f"the first `./keywrap` {build}, " in gate and f"`make test` {tests}." in gate
 
     @pytest.mark.needs("rt")
     def test_kit(self):
