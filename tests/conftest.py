@@ -19,7 +19,7 @@ import pytest
 pytest.register_assert_rewrite("checks")
 
 import counting
-from builds import built, debs, dist, in_c, library, once, portable, prefix, python, thing, words  # noqa: F401
+from builds import built, debs, dist, in_c, library, once, portable, prefix, python, thing, wheel, words  # noqa: F401
 from commands import FILES, LARGE
 from program import SLOW, Ended, Program, shared, wait_for
 from tools import need

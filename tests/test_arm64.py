@@ -13,10 +13,10 @@ import faces
 from builds import NAMES, ROOT, run, unpacked
 from machines import (ARCHIVED, ARM, MACHINES, NAMES as CALLS, STRICT, SYSROOT, check_glibc, check_hardened,
                       check_needs, check_versions, need_sysroot, shown)
-from program import evidence
+from program import evidence, slow
 from vectors import WRAPPED24
 
-pytestmark = pytest.mark.needs("aarch64-linux-gnu-gcc", "qemu-aarch64")
+pytestmark = [slow, pytest.mark.needs("aarch64-linux-gnu-gcc", "qemu-aarch64")]
 CC, TOOLS, RUNS, _ = MACHINES["aarch64"]
 PYTHON = ["qemu-aarch64", "-L", SYSROOT, f"{SYSROOT}/usr/bin/python3", "-B"]
 PACKED = f"keywrap-library-{NAMES['VERSION']}-aarch64-linux"

@@ -14,6 +14,8 @@ from program import slow
 from test_recipes import typed_and_shown
 from vectors import WRAPPED16, WRAPPED24
 
+pytestmark = slow
+
 PACKAGES = ["keywrap", "keywrap-openssl-provider", "libkeywrap-dev", "libkeywrap1", "python3-keywrap"]
 
 

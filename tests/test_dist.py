@@ -14,6 +14,8 @@ from builds import MACHINE, NAMES, ROOT, alone, copied_tree, run
 from program import slow
 from vectors import KEY16, WRAPPED24
 
+pytestmark = slow
+
 VERSION = NAMES["VERSION"]
 # Each archive that is used as its README says: its README, the root of the archive, and the directory of the documents.
 ARCHIVES = ["command", "library"]

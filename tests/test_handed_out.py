@@ -15,6 +15,8 @@ from builds import NAMES, ROOT, package_of, run
 from commands import table
 from program import slow
 
+pytestmark = slow
+
 LIB = "lib/" + subprocess.run(["cc", "-dumpmachine"], capture_output=True, text=True).stdout.strip()
 THINGS = ["command", "library", "hardware", "provider", "dist", "portable", "go", "npm", "wheel"]
 HEADERS = "".join((ROOT / "dist" / name).read_text() for name in ("keywrap.h", "keywrap_steps.h"))

@@ -13,7 +13,7 @@ import faces
 from builds import NAMES, ROOT, run
 from machines import ARM, EXPORTS, MACHINES, NAMES as CALLS, SANITIZED, STRICT, SYSROOT
 from machines import check_hardened, check_needs, check_versions, shown
-from program import ALL, SLOW, evidence, slow
+from program import evidence, slow
 from test_library import rows_over
 from test_secrets import DECISION, left_on_the_stack, reports
 from tools import missing, need
@@ -66,6 +66,7 @@ class TestFiles:
         check_needs(archive)
         check_hardened(shared, "libkeywrap_hw")
 
+    @slow
     def test_with_lto(self, built):
         """Built by these flags, in a directory with a blank in its name."""
         run("make", "-s", "-C", ROOT, "library", "HARDWARE=1", "CC=cc", "CFLAGS=-O2 -flto",
@@ -255,6 +256,7 @@ def on(programs, hardware, request, monkeypatch):
     return found
 
 
+@slow
 @pytest.mark.parametrize("processor", [
     pytest.param(name, marks=evidence) if name == "aarch64 without AES" else name for name in PROCESSORS])
 class TestEachProcessor:
@@ -264,8 +266,6 @@ class TestEachProcessor:
     @pytest.mark.parametrize("names", [("short", "foreign"), pytest.param((*kept(), "more"), marks=evidence)],
                              ids=["short", "all"])
     def test_rows(self, on, processor, names):
-        if PROCESSORS[processor][2] == "software" and not ALL:
-            pytest.skip(SLOW)
         faces.check("c", on(processor, "rows"), *names)
 
     @pytest.mark.parametrize("part", [

@@ -13,7 +13,7 @@ import pytest
 import faces
 from builds import NAMES, ROOT, alone, run
 from hardware.bugs import plant
-from program import slow
+from program import all_of, slow
 from tools import need
 
 pytestmark = pytest.mark.needs("javac", "jna.jar")
@@ -64,7 +64,7 @@ def test_limited_policy(java):
     java("Checks", "names", env={**os.environ, "JAVA_TOOL_OPTIONS": "-Djava.security.properties=limited"})
 
 
-@pytest.mark.parametrize("name", ["rows", pytest.param("more", marks=slow), "foreign", "nist"])
+@pytest.mark.parametrize("name", all_of(["rows", "more", "foreign", "nist"], ["rows"]))
 def test_rows(java, name):
     faces.check("java", lambda text: java("Checks", "rows", input=text), name)
 

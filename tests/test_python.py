@@ -41,6 +41,7 @@ def test_a_command_that_does_not_compile():
     assert ended.returncode != 0 and "CalledProcessError" in ended.stderr, ended.stderr
 
 
+@slow
 def test_make_wheel_names_it_last(words, python, dist):
     said = run("make", "-s", "-C", ROOT, "wheel", *words, f"DIST={os.getcwd()}", f"PYTHON={python}")
     wheel, = pathlib.Path().glob("*.whl")
@@ -64,10 +65,9 @@ def test_stripped_extension(thing):
 
 
 @pytest.fixture(scope="session")
-def installed(once, dist, python):
+def installed(once, wheel, python):
     """The Python of an environment with the wheel, by the README's lines. The last one wraps as OpenSSL does."""
     def build(directory):
-        wheel, = dist.glob("*.whl")
         for name in "out", "first":
             (directory / name).mkdir()
         shutil.copy(wheel, directory / "out")
@@ -139,7 +139,8 @@ def own_tests(installed, keywrap, record_property):
 
 FILES = sorted(str(path.relative_to(TESTS)) for path in TESTS.rglob("test_*.py"))
 # These start servers, make a run for each row, or kill runs.
-LONG = {f"rotation/test_rotation_{name}.py" for name in "command dask faults kills objects postgresql recipes".split()}
+LONG = {f"rotation/test_rotation_{name}.py" for name in (
+    "command dask faults keks kills objects postgresql recipes sqlite").split()}
 
 
 @pytest.mark.parametrize("file", all_of(FILES, {*FILES} - LONG))

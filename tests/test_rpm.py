@@ -8,9 +8,11 @@ import re
 import pytest
 
 from builds import NAMES, copied_tree, run
+from program import slow
 from test_handed_out import expected
 
 
+@slow
 @pytest.mark.needs("rpmbuild", "import build", "import cffi", "import setuptools", "import wheel", "Python.h",
                    "<openssl/evp.h>")
 def test_packages(built, pytestconfig, tmp_path):

@@ -164,6 +164,15 @@ def dist(once, words, built, python, pytestconfig):
 
 
 @pytest.fixture(scope="session")
+def wheel(once, words, python):
+    """The wheel of `make wheel` for this machine."""
+    need("rt")
+    made, = once("wheel", lambda directory: run(
+        "make", "-s", "-C", ROOT, "wheel", *words, f"DIST={directory}", f"PYTHON={python}")).glob("*.whl")
+    return made
+
+
+@pytest.fixture(scope="session")
 def debs(once, built, pytestconfig):
     """Debian's packages, built in tree/ over the program and the archive, and log."""
     need("dpkg-buildpackage", "dh", "dh_python3", "import build", "import cffi", "import setuptools", "import wheel",
@@ -219,8 +228,7 @@ def thing(request, once):
             shutil.rmtree(directory / name)
 
     def wheel(directory):
-        packed, = request.getfixturevalue("dist").glob("*.whl")
-        with zipfile.ZipFile(packed) as files:
+        with zipfile.ZipFile(request.getfixturevalue("wheel")) as files:
             files.extractall(directory)
             for member in files.infolist():
                 (directory / member.filename).chmod(stat.S_IMODE(member.external_attr >> 16))
