@@ -446,16 +446,16 @@ pool._serve = lambda *words, real=pool._serve: time.sleep(1) or real(*words)""")
     def test_an_interrupt_ends_between_two_files(self, store, sent, to_all):
         """Ctrl-C of a terminal reaches all processes. The units at work are done, and the report is whole."""
         running = started("--report", "report", *names(store))
-        for pid in [*(children(running) if to_all else []), running.pid]:
+        for pid in [running.pid, *(children(running) * 2 if to_all else [])]:
             os.kill(pid, sent)
+            time.sleep(0.1)  # Apart, so that both arrive. A process with the handler of the parent ends at the second.
         assert ((done := ended(running)).status, done.said[-1]) == (130, "keywrap.rotate: interrupted: run it again")
         found = found_in(store)
         assert "neither" not in found and "old" in found and found.count("new") >= 2
         *units, last = report_of("report")
         assert (last["status"], {line["unit"] for line in units}) == (
             130, {name for name, is_new in zip(names(store), found) if is_new == "new"})
-        assert left_over(store) == []
-        assert rotate(store) == 0
+        assert left_over(store) == [] and rotate(store) == 0
 
     def test_a_second_interrupt_ends_at_once(self, store):
         running = started(store)
