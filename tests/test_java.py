@@ -48,14 +48,13 @@ def java(classes, library):
 
 def test_no_warning_for_java_11():
     """Of the provider and of the example."""
-    options = ["-Xlint:all", "-Werror", "--release", "11"]
-    run("javac", *options, "-cp", JNA, "-d", ".", *SOURCES, ROOT / "java/Example.java")
+    run("javac", *"-Xlint:all -Werror --release 11 -d . -cp".split(), JNA, *SOURCES, ROOT / "java/Example.java")
 
 
-@pytest.mark.parametrize("check", ["names", "values", "calls", "ignored", "keys", "cleared"])
-def test_compared(java, check):
-    """It prints the numbers of the library's version."""
-    assert java("Checks", check) == NAMES["VERSION"].removesuffix("-dev") + "\n"
+@pytest.mark.parametrize("made", ["names 1158", "values 10", "calls 416", "ignored 32", "keys 8", "cleared 12"])
+def test_compared(java, made):
+    """It prints its name, how often it has compared, and the numbers of the library's version."""
+    assert java("Checks", made.split()[0]) == f"{made} {NAMES['VERSION'].removesuffix('-dev')}\n"
 
 
 def test_limited_policy(java):

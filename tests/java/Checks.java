@@ -13,8 +13,10 @@ final class Checks {
     private static final String[] FORMS = {"AES/KW/NoPadding", "AES/KWP/NoPadding"};
     private static final Random RANDOM = new Random(78);
     private static final Map<String, Integer> STATUSES = Map.of("bad length", 4, "integrity check failed", 5);
+    private static int checked;
 
     private static void check(boolean right, Object what) {
+        checked++;
         if (!right) {
             throw new AssertionError(what);
         }
@@ -172,7 +174,7 @@ final class Checks {
 
     /** Keys of other kinds, and keys without bytes. */
     static void keys() throws Exception {
-        Key kek = aes(random(32));
+        Key kek = aes(random(32)), hidden = ofThese(null);
         KeyPair pair = KeyPairGenerator.getInstance("EC").generateKeyPair();
         String name = FORMS[1];
         for (Key key : List.of(pair.getPrivate(), pair.getPublic())) {
@@ -184,7 +186,6 @@ final class Checks {
             throwsOne(InvalidKeyException.class,
                 () -> begun(name, OURS, Cipher.UNWRAP_MODE, kek).unwrap(noKey, "EC", type));
         }
-        Key hidden = ofThese(null);
         throwsOne(InvalidKeyException.class, () -> begun(name, OURS, Cipher.WRAP_MODE, hidden));
         throwsOne(InvalidKeyException.class, () -> begun(name, OURS, Cipher.WRAP_MODE, kek).wrap(hidden));
     }
@@ -248,6 +249,6 @@ final class Checks {
     public static void main(String[] args) throws Exception {
         Security.insertProviderAt(new keywrap.KeywrapProvider(), 1);
         Checks.class.getDeclaredMethod(args[0]).invoke(null);
-        System.out.println(Security.getProvider(OURS).getVersionStr());
+        System.out.println(args[0] + " " + checked + " " + Security.getProvider(OURS).getVersionStr());
     }
 }
