@@ -185,11 +185,11 @@ def text_of(face, call, row, due):
     if face.startswith("rust"):
         # It says what the output needs, if what is given has a legal length.
         is_legal, form = rows.is_key if call[0] == "w" else rows.is_text, call.startswith(("wrap_p", "unwrap_p", "k"))
-        is_sure = "room" in row and not call.endswith("_many") and is_legal(int(form), len(row["given"]))
+        is_sure = {"lens_count", "forms_count"} & {*row} or "room" in row and is_legal(int(form), len(row["given"]))
         needs = r"(: the output needs \d+ bytes)" + "?" * (not is_sure)
         return text + {BAD_KEK: f": {kek} bytes", BAD_LENGTH: needs}.get(status, "")
     what, given = "the key" if call[0] == "w" else "the wrapped key", row["given"]
-    is_long = f"{what} is {len(given[0] if call.endswith('_many') and given else given)} bytes long"
+    is_long = f"{what} is {len(max(given, key=len) if call.endswith('_many') and given else given)} bytes long"
     if status == BAD_LENGTH:
         ends = f"; it must be {legal(call, row)} bytes|, another one .*"
         return f"{text}: ({is_long}({ends})|{what}s must have one length, and there .*)"
