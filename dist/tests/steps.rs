@@ -1,13 +1,21 @@
 //! The steps over a block cipher of the caller: refusals, and what is left if they stop. Rows of the
 //! repository compare them over AES with the calls.
 
-use keywrap::steps::{Stopped, Unwrapping, Wrapping};
-use keywrap::Error;
+use keywrap::steps::{Operation, Rewrapping, Stopped, Unwrapping, Wrapping};
+use keywrap::{Error, Forms, Rewrapped};
 use std::convert::Infallible;
 use std::mem::ManuallyDrop;
 use Error::{IntegrityCheckFailed, InvalidDataSize, InvalidIv, InvalidStep};
 
 const IV: [u8; 8] = [1, 2, 3, 4, 5, 6, 7, 8];
+const RESERVED: [u8; 8] = [0xa6, 0x59, 0x59, 0xa6, 0, 0, 0, 16];
+
+/// Begins it, and drops it.
+type Begin = fn(&[u8], &mut [u8]) -> Option<Error>;
+const WRAP: Begin = |data, out| Wrapping::new(data, out).err();
+const WRAP_PADDED: Begin = |data, out| Wrapping::with_padding(data, out).err();
+const UNWRAP: Begin = |data, out| Unwrapping::new(data, out).err();
+const UNWRAP_PADDED: Begin = |data, out| Unwrapping::with_padding(data, out).err();
 
 /// A toy cipher: each byte is changed by the one before it, in this order.
 fn encrypt(block: &mut [u8; 16]) -> Result<(), Infallible> {
@@ -34,56 +42,36 @@ fn wrapped() -> [u8; 24] {
 /// A refused beginning leaves the buffer.
 #[test]
 fn refused() {
-    let reserved = [0xa6, 0x59, 0x59, 0xa6, 0, 0, 0, 16];
     for len in 0..=40_usize {
         let data = vec![3; len];
-        for out_len in len.saturating_sub(18)..len + 18 {
-            let due = |is_legal: bool, expected: usize| match is_legal {
-                true if out_len == expected => None,
-                true => Some(Error::InvalidOutputSize { expected }),
-                false => Some(InvalidDataSize),
-            };
-            let mut out = vec![1; out_len];
-            let refused = Wrapping::new(&data, &mut out).err();
-            assert_eq!(refused, due(len >= 16 && len % 8 == 0, len + 8));
-            // A wrapping that is dropped leaves zeros.
-            assert_eq!(out, vec![refused.is_some() as u8; out_len]);
-            let mut out = vec![1; out_len];
-            let refused = Wrapping::with_padding(&data, &mut out).err();
-            assert_eq!(refused, due(len > 0, (len + 15) / 8 * 8));
-            assert_eq!(out, vec![refused.is_some() as u8; out_len]);
-            let mut out = vec![1; out_len];
-            let refused = Unwrapping::new(&data, &mut out).err();
-            assert_eq!(
-                refused,
-                due(len >= 24 && len % 8 == 0, len.saturating_sub(8))
-            );
-            assert_eq!(out, vec![refused.is_some() as u8; out_len]);
-            let mut out = vec![1; out_len];
-            let refused = Unwrapping::with_padding(&data, &mut out).err();
-            assert_eq!(
-                refused,
-                due(len >= 16 && len % 8 == 0, len.saturating_sub(8))
-            );
-            assert_eq!(out, vec![refused.is_some() as u8; out_len]);
+        let (is, room) = (|least| len >= least && len % 8 == 0, len.saturating_sub(8));
+        for (begin, is_legal, expected) in [
+            (WRAP, is(16), len + 8),
+            (WRAP_PADDED, len > 0, (len + 15) / 8 * 8),
+            (UNWRAP, is(24), room),
+            (UNWRAP_PADDED, is(16), room),
+        ] {
+            for out_len in len.saturating_sub(18)..len + 18 {
+                let due = match is_legal {
+                    true if out_len == expected => None,
+                    true => Some(Error::InvalidOutputSize { expected }),
+                    false => Some(InvalidDataSize),
+                };
+                let mut out = vec![1; out_len];
+                assert_eq!(begin(&data, &mut out), due);
+                // One that is dropped leaves zeros.
+                assert_eq!(out, vec![due.is_some() as u8; out_len]);
+            }
         }
     }
     let mut out = [1; 24];
-    assert_eq!(
-        Wrapping::with_iv(&reserved, &[2; 16], &mut out).err(),
-        Some(InvalidIv)
-    );
-    assert_eq!(out, [1; 24]);
+    let refused = Wrapping::with_iv(&RESERVED, &[2; 16], &mut out).err();
+    assert_eq!((refused, out), (Some(InvalidIv), [1; 24]));
     let longer = vec![1; keywrap::KEYWRAP_MAX_KEY + 16];
     let mut out = vec![1; keywrap::KEYWRAP_MAX_KEY + 24];
-    assert_eq!(
-        Wrapping::new(&longer, &mut out).err(),
-        Some(InvalidDataSize)
-    );
-    assert_eq!(
-        Unwrapping::new(&longer, &mut out).err(),
-        Some(InvalidDataSize)
-    );
+    for begin in [WRAP, UNWRAP] {
+        assert_eq!(begin(&longer, &mut out), Some(InvalidDataSize));
+    }
 }
 
 #[test]
@@ -91,11 +79,10 @@ fn damaged() {
     let (mut wrapped, mut padded) = (wrapped(), [0; 24]);
     let begun = Wrapping::with_padding(&[5; 13], &mut padded).unwrap();
     begun.run(encrypt).unwrap();
-    let reserved = [0xa6, 0x59, 0x59, 0xa6, 0, 0, 0, 16];
     for (iv, due) in [
         (keywrap::IV, None),
         (IV, Some(IntegrityCheckFailed)),
-        (reserved, Some(InvalidIv)),
+        (RESERVED, Some(InvalidIv)),
     ] {
         let mut out = [1; 16];
         let begun = Unwrapping::with_iv(&iv, &wrapped, &mut out).unwrap();
@@ -104,20 +91,16 @@ fn damaged() {
     }
     wrapped[20] ^= 4;
     padded[20] ^= 4;
-    let mut out = [1; 16];
-    let begun = Unwrapping::new(&wrapped, &mut out).unwrap();
-    assert_eq!(
-        begun.run(decrypt),
-        Err(Stopped::Refused(IntegrityCheckFailed))
-    );
-    assert_eq!(out, [0; 16]);
-    let mut out = [1; 16];
-    let begun = Unwrapping::with_padding(&padded, &mut out).unwrap();
-    assert_eq!(
-        begun.run(decrypt),
-        Err(Stopped::Refused(IntegrityCheckFailed))
-    );
-    assert_eq!(out, [0; 16]);
+    for is_padded in [false, true] {
+        let mut out = [1; 16];
+        let begun = match is_padded {
+            false => Unwrapping::new(&wrapped, &mut out),
+            true => Unwrapping::with_padding(&padded, &mut out),
+        };
+        let refused = begun.unwrap().run(decrypt).err();
+        assert_eq!(refused, Some(Stopped::Refused(IntegrityCheckFailed)));
+        assert_eq!(out, [0; 16]);
+    }
 }
 
 /// A step too many and an end too early are refused, and an early end leaves zeros.
@@ -154,6 +137,28 @@ fn order() {
         };
         assert_eq!(unwrapping.end(), due);
         assert_eq!(out, [if steps < 12 { 0 } else { 5 }; 16]);
+    }
+}
+
+/// The same of a rewrapping, which has two runs.
+#[test]
+fn order_of_a_rewrapping() {
+    for steps in 0..=24 {
+        let (data, mut out) = (wrapped(), [1; 24]);
+        let mut begun = Rewrapping::new(&data, &mut out, Forms::Kept, false).unwrap();
+        for _ in 0..steps {
+            let (operation, mut block) = begun.block().map(|(it, block)| (it, *block)).unwrap();
+            match operation {
+                Operation::EncryptNew => encrypt(&mut block).unwrap(),
+                _ => decrypt(&mut block).unwrap(),
+            }
+            assert_eq!(begun.step(&block), Ok(()));
+        }
+        let is_done = steps == 24;
+        assert_eq!(begun.block().is_none(), is_done);
+        let due = is_done.then_some(Rewrapped::Fresh).ok_or(InvalidStep);
+        assert_eq!(begun.end(), due);
+        assert_eq!(out, if is_done { data } else { [0; 24] });
     }
 }
 
