@@ -16,19 +16,13 @@ import (
 // tests/rows.txt, which is not in the module, tests the calls. Here are the types around them, and goroutines.
 
 func aesOf(kek []byte) cipher.Block {
-	block, err := aes.NewCipher(kek)
-	if err != nil {
-		panic(err)
-	}
+	block, _ := aes.NewCipher(kek)
 	return block
 }
 
 func TestConstants(t *testing.T) {
-	if err := keywrap.SelfTest(); err != nil {
-		t.Error(err)
-	}
-	if keywrap.MaxKey != 1<<20 || keywrap.MaxWrapped != 1<<20+8 {
-		t.Error(keywrap.MaxKey, keywrap.MaxWrapped)
+	if err := keywrap.SelfTest(); err != nil || keywrap.MaxKey != 1<<20 || keywrap.MaxWrapped != 1<<20+8 {
+		t.Error(err, keywrap.MaxKey, keywrap.MaxWrapped)
 	}
 	if keywrap.Plain.String() != "plain" || keywrap.Padded.String() != "padded" || keywrap.Form(0).String() != "none" {
 		t.Error(keywrap.Plain, keywrap.Padded, keywrap.Form(0))
@@ -135,8 +129,11 @@ func TestGoroutines(t *testing.T) {
 				many, _ := keywrap.WrapMany(kek, [][]byte{kek, kek, kek}, 0)
 				_ = append(many[1], 1) // It leaves the next one as it is.
 				again, _ := keywrap.Unwrap(kek, due)
-				if found := bytes.Join([][]byte{one, two, many[2], again}, nil); !bytes.Equal(found, wanted) {
-					t.Errorf("%x, not %x", found, wanted)
+				_, isNew, _ := keywrap.Rewrap(kek[:16], kek, due, keywrap.PassNew)
+				_, isOld, _ := keywrap.Rewrap(kek, kek, due, 0)
+				found := bytes.Join([][]byte{one, two, many[2], again}, nil)
+				if !bytes.Equal(found, wanted) || !isNew || isOld {
+					t.Errorf("%x, not %x, or %v, %v", found, wanted, isNew, isOld)
 				}
 			}
 		})

@@ -1,6 +1,7 @@
 """What the package has around its calls: named flags, names, and around those for many keys the objects that they
 take, and wiping. tests/rows.txt has the calls, and tests/faces.py their messages."""
 
+import contextlib
 import copy
 import gc
 import pathlib
@@ -68,9 +69,7 @@ def test_names():
 
 def test_the_readme_says_what_is_so():
     """Runs its prompts as they are."""
-    doctest = pytest.importorskip("doctest")
-    readme = pathlib.Path(__file__).parents[1] / "README.md"
-    failed, tried = doctest.testfile(str(readme), module_relative=False)
+    failed, tried = pytest.importorskip("doctest").testfile("../README.md")
     assert tried > 3 and failed == 0
 
 
@@ -103,10 +102,8 @@ def test_keys_in_buffers_are_wiped(monkeypatch, name, item):
     made, wipe = [], _many._Slots.wipe
     monkeypatch.setattr(_many._Slots, "wipe", lambda slots: made.append(slots.buffer) or wipe(slots))
     for kek, items in ((KEK, [item] * 3), (KEK[1:], [item] * 3), (KEK, [item, item[1:]])):
-        try:
+        with contextlib.suppress(keywrap.KeywrapError):
             getattr(keywrap, name)(kek, items, padded=len(item) == 9)
-        except keywrap.KeywrapError:
-            pass
     assert [len(buffer) >= 2 * len(item) - 1 for buffer in made] == [True] * 3
     assert all(buffer == bytes(len(buffer)) for buffer in made)
 

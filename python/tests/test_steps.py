@@ -248,7 +248,7 @@ def test_a_step_that_is_refused(monkeypatch):
         assert token.counted() == [1]
 
 
-def test_rewrap_with_a_callable_that_fails():
+def test_rewrap_with_a_callable_that_fails(wiped):
     """It passes through, after the buffers are wiped, and the caller's text is as it was."""
     def fails(blocks):
         raise OSError("no token")
@@ -257,4 +257,6 @@ def test_rewrap_with_a_callable_that_fails():
     for ciphers_of in (fails, Token(bytes(24)).encrypt), (Token().decrypt, fails):
         with pytest.raises(OSError, match="no token"):
             steps.rewrap(*ciphers_of, text)
+        assert sorted(len(before) for before, _ in wiped) == [16, 24, 24] and are_cleared(wiped, b"")
+        wiped.clear()
     assert text == pyca.aes_key_wrap(KEK, bytes(16))

@@ -101,7 +101,7 @@ class TestCommand:
             0, "file: tcId 3 SmallKey: unwrap_padded refuses it; acceptable\n"
             "file: tcId 3 SmallKey: wrap_padded refuses it; acceptable\n"
             "file: 9 cases: 4 answered, 5 refused, 2 of them acceptable, 0 wrong\n", "")
-        assert self.command(file=text.replace('"invalid"', '"valid"'))[0] == 5
+        assert self.command(file=text.replace('"invalid"', '"valid"'), right=text)[0] == 5
         assert self.command(file=text.replace('"valid"', '"invalid"'))[0] == 5
         # An acceptable case may be refused, but not answered otherwise.
         other = {**row, "tcId": 6, "msg": b"other".hex(), "result": "acceptable"}

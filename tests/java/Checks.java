@@ -96,7 +96,7 @@ final class Checks {
         check(Cipher.getInstance("AES/KW/PKCS5Padding").getProvider().getName().equals(THEIRS), "KW/PKCS5Padding");
     }
 
-    /** The initial values of both forms, by a specification and by parameters. */
+    /** The initial values of both forms, by a specification and by parameters. What getIV returns is a copy. */
     static void values() throws Exception {
         Key kek = aes(random(24));
         byte[] key = random(40), aiv = {-0x5a, 0x59, 0x59, -0x5a};
@@ -108,6 +108,7 @@ final class Checks {
             Cipher ours = begun(name, OURS, Cipher.ENCRYPT_MODE, kek);
             Cipher theirs = begun(name, THEIRS, Cipher.ENCRYPT_MODE, kek);
             check(Arrays.equals(ours.getIV(), theirs.getIV()), name);
+            Arrays.fill(ours.getIV(), (byte) 7);
             AlgorithmParameters parameters = ours.getParameters();
             check(Arrays.equals(parameters.getEncoded(), theirs.getParameters().getEncoded()), name);
             ours.init(Cipher.ENCRYPT_MODE, kek, parameters);
