@@ -80,7 +80,7 @@ def test_what_must_be_believed_is_counted():
     assert 2000 < total <= 2700
 
 
-@pytest.mark.parametrize("name", all_of(list(OBJECTS), ["keywrap.wasm"], in_gate=[]))
+@pytest.mark.parametrize("name", all_of(list(OBJECTS), [], in_gate=["keywrap.wasm"]))
 def test_checker(made, name):
     """Operations, equations and decisions against numbers; the instructions of an object against the processor."""
     assert "the checker passes its tests" in run(sys.executable, "-B", CHECKER / "test_checker.py", made(name))
@@ -131,9 +131,9 @@ def test_long_list(made, name):
 
 @pytest.mark.needs("wasm2wat")
 @pytest.mark.parametrize("name", all_of(list(bugs.BUGS), [
-    "wrap: a length not a multiple of 8", "decision: the other way round"], in_gate=[
-        "a store after the text", "a store of a byte of the key in its place", "leak: a branch on a byte of the key",
-        *list(bugs.BUGS)[::5]]))
+    "decision: the other way round"], in_gate=[
+        "wrap: a length not a multiple of 8", "a store after the text", "a store of a byte of the key in its place",
+        "leak: a branch on a byte of the key", *list(bugs.BUGS)[::5]]))
 def test_bug_is_refused(tmp_path, name):
     assert bugs.refused_by(bugs.planted(MODULE, name, tmp_path))
 

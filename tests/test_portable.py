@@ -131,7 +131,7 @@ def random_calls(directory, library, name, *options):
     return [*runner, "./fuzz"]
 
 
-@pytest.mark.parametrize("name", all_of([*NATIVE, "gcc, tables", "an old x86-64"], ["gcc, tables"], ["gcc"]))
+@pytest.mark.parametrize("name", all_of([*NATIVE, "gcc, tables", "an old x86-64"], [], ["gcc", "gcc, tables"]))
 def test_as_the_library(portable, library, name):
     """Random calls, right ones and refusals, of all calls and steps: as the library, byte by byte."""
     cases = 200000 if ALL and name in NATIVE else 10000 if "old" in name else 40000
@@ -174,7 +174,7 @@ def documented_secrets(name):
 
 
 @pytest.mark.parametrize("name", all_of(
-    [*NATIVE, "gcc, tables", "clang, tables"], ["gcc"], ["clang", "gcc, tables"]))
+    [*NATIVE, "gcc, tables", "clang, tables"], [], ["gcc", "clang", "gcc, tables"]))
 @pytest.mark.parametrize("level", all_of(["-O1", "-O2", "-O3", "-Os"], ["-O2"], ["-Os"]))
 def test_stack(portable, portable_program, name, level):
     """SECURITY.md's bytes below the stack pointer depend on a KEK or a key."""
@@ -218,7 +218,8 @@ def test_stack_in_readme(portable):
         assert 0.7 < used / int(stack.replace(",", "")) < 1
 
 
-@pytest.mark.parametrize("options", [pytest.param([], marks=slow), [TABLES]])
+@slow
+@pytest.mark.parametrize("options", [[], [TABLES]])
 def test_self_test_sees_a_changed_byte(portable, options):
     need("gcc")
     run("gcc", *STRICT, "-O2", "-shared", "-fPIC", *options, portable / "keywrap.c", "-o", "keywrap.so")
@@ -338,6 +339,7 @@ def test_cmake_optimizes(portable, given, found):
     assert re.findall(r"-O\S*", command) == found
 
 
+@slow
 def test_cmake(portable):
     need("cmake", "cc")
     run("cmake", "-S", portable, "-B", "built", "-DCMAKE_C_FLAGS=-fno-pie", "-DCMAKE_EXE_LINKER_FLAGS=-no-pie")

@@ -208,7 +208,7 @@ FACES = {"rust": "", "rust vec": "_vec", "rust steps": "_steps"}
 
 @pytest.mark.needs("<openssl/evp.h>")
 @pytest.mark.parametrize("name", ["rows", *(pytest.param(name, marks=slow) for name in ("more", "foreign", "nist"))])
-@pytest.mark.parametrize("face", FACES)
+@pytest.mark.parametrize("face", all_of(FACES, ["rust"]))
 def test_rows(cargo, crate_with_rows, face, name):
     faces.check(face, runner(cargo, crate_with_rows, face), name)
 

@@ -9,11 +9,13 @@ import subprocess
 import pytest
 
 import counting
+from program import all_of
 
 HERE = pathlib.Path(__file__).resolve().parent
 
 
-@pytest.mark.parametrize("name", sorted(path.stem for path in HERE.glob("*.sh")))
+@pytest.mark.parametrize("name", all_of(
+    sorted(path.stem for path in HERE.glob("*.sh")), ["fresh", "launcher", "shells"]))
 def test_rows(name, pytestconfig, record_property):
     env = {key: value for key, value in os.environ.items() if not key.startswith("PYTEST_")}
     ended = subprocess.run(["bash", HERE / f"{name}.sh"], stdin=subprocess.DEVNULL, stdout=subprocess.PIPE, text=True,
