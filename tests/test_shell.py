@@ -45,3 +45,8 @@ def test_evidence():
     assert evidence("--stale") == (0, ["bad"])
     pathlib.Path("tried").write_text("two\n")
     assert evidence("--stale") == (0, ["bad", "good"])
+
+
+def test_status_of_packages():
+    """It is 1 if a tool is missing, here one that no package has."""
+    assert subprocess.run(["bash", HERE.parent / "scripts/packages.sh", "no such tool"]).returncode == 1
