@@ -265,6 +265,7 @@ def test_check_of_a_wrong_unwrap(portable_program):
     assert subprocess.run(portable_program("gcc", ["wrong.c"], "-O2"), capture_output=True).returncode == 1
 
 
+@slow
 @pytest.mark.parametrize("place", ["to[room]", "to[-1]", "((uint8_t *)key)[0]"])
 def test_runner_sees_a_change_elsewhere(portable_program, place):
     """Behind a buffer, before it, and in what is only read."""
