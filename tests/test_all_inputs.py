@@ -148,7 +148,6 @@ IN_C = [("wrap 16 16", "a variable that depends on the inputs", [
 
 @slow
 @pytest.mark.needs("gcc")
-@slow
 @pytest.mark.parametrize("call, said, edits", IN_C, ids=["a variable", "flags of 64 bits"])
 def test_bug_in_machine_code_is_refused(tmp_path, call, said, edits):
     for name in "keywrap.c", "keywrap.h", "keywrap_steps.h":

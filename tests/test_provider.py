@@ -103,6 +103,7 @@ class TestCompared:
         run(compiled_programs / program[0], *program[1:])
 
     @pytest.mark.needs("sanitizers of cc")
+    @slow
     @pytest.mark.parametrize("args", ["", "sequences 2000", "parameters", "refusals"])
     def test_sanitized(self, sanitized, args):
         if args:

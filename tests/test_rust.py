@@ -108,6 +108,7 @@ def test_files(crate):
 class TestPage:
     """The lines of RUST.md."""
 
+    @slow
     def test_tests(self, cargo, crate):
         """Those without a network run all tests of the crate, without another configuration."""
         lines, = re.findall(r"^    (cargo --config .*\\\n.*)", PAGE, re.M)
