@@ -91,8 +91,8 @@ def test_is_what_the_tree_makes(built):
 @pytest.mark.parametrize("compiler", all_of(NATIVE, ["clang"]))
 @pytest.mark.parametrize("only", all_of(
     ["", TABLES, "-DKEYWRAP_STEPS_ONLY", "-DKEYWRAP_TRAP()=__builtin_trap()"], [""]))
-@pytest.mark.parametrize("options", all_of(["-O0 -std=c99", "-O2 -std=c17", "-O3 -std=c99", "-Os -std=c99"], [
-    "-O2 -std=c17"], []))
+@pytest.mark.parametrize("options", all_of(["-O0 -std=c99", "-O2 -std=c17", "-O3 -std=c99", "-Os -std=c99"], [], [
+    "-O2 -std=c17"]))
 def test_compiles_without_a_warning(portable, compiler, only, options):
     """The other tests compile it with -O2 as C99, most by gcc."""
     need(compiler)
@@ -105,7 +105,7 @@ def test_rows(portable_program, once, line):
     faces.check_line(line, once, "portable", "c", program)
 
 
-@pytest.mark.parametrize("name", all_of(MACHINES, ["gcc", "gcc, tables"], IN_GATE))
+@pytest.mark.parametrize("name", all_of(MACHINES, ["gcc"], IN_GATE))
 def test_rows_of_machines(portable_program, name):
     """Under an emulator without the long ones, and with the published cases."""
     program = portable_program(name, ROWS, "-O2")
@@ -257,6 +257,7 @@ def test_makefile_for_another_machine(copied):
     assert RIGHT in run("bash", "-ec", line, cwd=copied)
 
 
+@slow
 def test_check_of_a_wrong_unwrap(portable_program):
     """The check fails over a library that unwraps to a key with a wrong byte."""
     pathlib.Path("wrong.c").write_text(

@@ -140,7 +140,7 @@ def own_tests(installed, keywrap, record_property):
 FILES = sorted(str(path.relative_to(TESTS)) for path in TESTS.rglob("test_*.py"))
 # These start servers, make a run for each row, or kill runs.
 LONG = {f"rotation/test_rotation_{name}.py" for name in (
-    "command dask faults files keks kills objects postgresql recipes sqlite").split()}
+    "command dask faults files keks kills objects passes postgresql recipes sqlite").split()}
 
 
 @pytest.mark.parametrize("file", all_of(FILES, {*FILES} - LONG))
