@@ -74,8 +74,7 @@ class TestTable:
     def test_text_in_each_encoding(self, tmp_path, encoding):
         path = tmp_path / "text.db"
         with connected(path) as connection:
-            connection.execute(f"PRAGMA encoding = '{encoding}'")
-            connection.execute("CREATE TABLE keys (key TEXT)")
+            connection.executescript(f"PRAGMA encoding = '{encoding}'; CREATE TABLE keys (key TEXT)")
             connection.execute("INSERT INTO keys VALUES (?), ('é')", (wrapped_under(KEK, KEYS[0]).hex(),))
         assert rotated(path).named == [("row 2", "not in the notation of the store")]
         assert run_sql(path, "SELECT key FROM keys") == [(wrapped_under(NEW_KEK, KEYS[0]).hex(),), ("é",)]
