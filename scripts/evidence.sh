@@ -3,7 +3,7 @@
 # docs/evidence/NAME: what was tried, with its SHA-256, and the end of the output, without lines that begin with [. If
 # one fails, the others run nevertheless, and the exit status is 1.
 #
-# usage: scripts/evidence.sh [NAME..]        only these lines, if one is named
+# usage: scripts/evidence.sh [NAME..]        only these lines, if one is named; PYTHON=pypy3 takes a third of the time
 #        scripts/evidence.sh --stale         runs nothing, and prints the names of which something was changed since
 
 set -euo pipefail

@@ -75,7 +75,7 @@ class Postgresql:
             some_blocks = f"{{name}}.ctid >= '({first},0)' AND {{name}}.ctid < '({last},0)'"
             self.run(cursor, "SELECT " + KEY + ", {name}.ctid::text FROM {table} WHERE " + some_blocks, type=type)
             # Few at once: each stays locked until the others are written, too.
-            while rows := cursor.fetchmany(ROWS // 4):
+            while rows := cursor.fetchmany(ROWS // 8):
                 writes = renewed_rows(rings, self.notation, rows, found)
                 if writes and may_write:
                     writer = writer or stack.enter_context(self._connected(autocommit=True))
