@@ -3,7 +3,7 @@
 # docs/evidence/NAME: what was tried, with its SHA-256, and the end of the output, without lines that begin with [. If
 # one fails, the others run nevertheless, and the exit status is 1.
 #
-# usage: scripts/evidence.sh [NAME..]        only these lines, if one is named; PYTHON=pypy3 takes a third of the time
+# usage: scripts/evidence.sh [NAME..]        only these lines, if one is named
 #        scripts/evidence.sh --stale         runs nothing, and prints the names of which something was changed since
 
 set -euo pipefail
@@ -19,13 +19,16 @@ tried() {
     done
 }
 
-all_inputs() { "${PYTHON:-python3}" -B dist/check/all_inputs/check.py "$1" "${2:-full}" "$(nproc)"; }
-sweep() { "${PYTHON:-python3}" -B tests/all_inputs/sweeps.py "$1" 20; }
-export -f all_inputs sweep
+# PyPy takes less than half the time.
+checker() { "$(command -v pypy3 || echo python3)" -B "$@"; }
+all_inputs() { checker dist/check/all_inputs/check.py "$1" "${2:-full}" "$(nproc)"; }
+sweep() { checker tests/all_inputs/sweeps.py "$1" 20; }
+export -f checker all_inputs sweep
 export KEYWRAP_ALL=1 KEYWRAP_EVIDENCE=1
 
 stale='' failed=''
 [ "${1:-}" != --stale ] || { stale=yes && shift; }
+[ -n "$stale" ] || mkdir -p out docs/evidence
 while IFS='|' read -r name paths command <&3; do
     [ $# = 0 ] || [[ " $* " = *" $name "* ]] || continue
     # shellcheck disable=SC2086
@@ -36,7 +39,6 @@ while IFS='|' read -r name paths command <&3; do
     fi
     echo "$name: $command"
     said=$(bash -c "$command" 2>&1) || { echo "$said" && echo "evidence: $name failed" && failed=yes && continue; }
-    mkdir -p docs/evidence
     printf '%s\n\n%s\n\n%s\n' "$sums" "$command" "$(sed '/^\[/d' <<<"$said" | tail -n 240)" >"docs/evidence/$name"
 done 3< <(sed -n 's/ *| */|/g; /^[^#]/p' tests/evidence.txt)
 [ -z "$failed" ]

@@ -13,16 +13,18 @@ import pytest
 from all_inputs import bugs
 from builds import run
 from program import all_of, slow
-from tools import need
+from tools import missing, need
 
 ROOT = pathlib.Path(__file__).resolve().parent.parent
 CHECKER = ROOT / "dist/check/all_inputs"
 MODULE = ROOT / "dist/keywrap.wasm"
+# PyPy takes less than half the time.
+PYTHON = sys.executable if missing("pypy3") else "pypy3"
 
 
 def check(*words):
     """The output of the checker, which must exit with 0."""
-    return run(sys.executable, "-B", CHECKER / "check.py", *words)
+    return run(PYTHON, "-B", CHECKER / "check.py", *words)
 
 
 @pytest.fixture
@@ -118,7 +120,8 @@ def test_evidence_is_of_this_object(made, name):
     if not outputs:
         pytest.skip(f"make evidence has not run: {OBJECTS[name]}")
     for output in outputs:
-        assert hashlib.sha256(made(name).read_bytes()).hexdigest() in output.read_text()
+        assert hashlib.sha256(made(name).read_bytes()).hexdigest() in output.read_text(), (
+            f"of another object: run scripts/evidence.sh {output.name}, or remove it and what TRUST.md says of it")
 
 
 @pytest.mark.parametrize("name", all_of(["keywrap.wasm", "libkeywrap_hw"], []))

@@ -15,7 +15,8 @@ def main(output):
     headers = "".join((ROOT / "dist" / name).read_text() for name in ("keywrap.h", "keywrap_steps.h"))
     portable = headers.split("#ifndef KEYWRAP_PORTABLE\n/* The calls for many keys")[0]
     calls = sorted(set(re.findall(r"^(?:u?int32_t|uint64_t|size_t|void) (keywrap_\w+)\(", portable, re.M)))
-    subprocess.run(["clang", "--target=wasm32", "-O2", "-mbulk-memory", "-mmutable-globals", "-ffreestanding",
+    # With -O2 an address depends on the outcome of a check, in rewrap_steps 16 24 16 10: the checker stops there.
+    subprocess.run(["clang", "--target=wasm32", "-Os", "-mbulk-memory", "-mmutable-globals", "-ffreestanding",
                     "-nostdlib", "-w", f"-I{NO_LIBRARY}", "-DKEYWRAP_TRAP()=__builtin_trap()", "-Wl,--no-entry",
                     *(f"-Wl,--export={name}" for name in (*calls, "__heap_base", "__stack_pointer")),
                     ROOT / "dist/keywrap.c", NO_LIBRARY / "memory.c", "-o", output], check=True)
