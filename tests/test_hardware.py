@@ -10,9 +10,8 @@ import sys
 import pytest
 
 import faces
-from builds import NAMES, ROOT, run
-from machines import ARM, EXPORTS, MACHINES, NAMES as CALLS, SANITIZED, STRICT, SYSROOT
-from machines import check_hardened, check_needs, check_versions, shown
+from builds import NAMES, ROOT, make_library, run
+from machines import ARM, EXPORTS, MACHINES, NAMES as CALLS, SANITIZED, STRICT, SYSROOT, check_library
 from program import evidence, slow
 from test_library import rows_over
 from test_secrets import DECISION, left_on_the_stack, reports
@@ -32,19 +31,13 @@ HAS_OPENSSL = (SYSROOT / "usr/include/openssl").is_dir()
 @pytest.fixture(scope="session")
 def hardware(once, built):
     """The directory of `make library HARDWARE=1`."""
-    def build(directory):
-        run("make", "-s", "-C", ROOT, "library", "HARDWARE=1", f"LIBRARY={directory}", f"ARCHIVE={built('llvm.a')}")
-
-    return once("hardware", build)
+    return once("hardware", lambda directory: make_library(directory, built("llvm.a"), "HARDWARE=1"))
 
 
 @pytest.fixture(scope="session")
 def arm_hardware(once, built):
-    def build(directory):
-        run("make", "-s", "-C", ROOT, "library", "HARDWARE=1", *ARM, f"LIBRARY={directory}",
-            f"ARCHIVE={built('arm64')}/libkeywrap.a")
-
-    return once("hardware-arm", build)
+    archive = built("arm64") / "libkeywrap.a"
+    return once("hardware-arm", lambda directory: make_library(directory, archive, "HARDWARE=1", *ARM))
 
 
 @pytest.fixture
@@ -60,17 +53,12 @@ def kept():
 
 class TestFiles:
     def test_names_and_needs(self, hardware):
-        archive, shared = hardware / "libkeywrap_hw.a", hardware / "libkeywrap_hw.so.1"
-        assert shown(archive, "-g") == shown(shared, "-D", "--without-symbol-versions") == CALLS
-        check_versions(shared)
-        check_needs(archive)
-        check_hardened(shared, "libkeywrap_hw")
+        check_library(hardware, "libkeywrap_hw", CALLS)
 
     @slow
     def test_with_lto(self, built):
         """Built by these flags, in a directory with a blank in its name."""
-        run("make", "-s", "-C", ROOT, "library", "HARDWARE=1", "CC=cc", "CFLAGS=-O2 -flto",
-            f"LIBRARY={os.getcwd()}/with lto", f"ARCHIVE={built('llvm.a')}")
+        make_library(f"{os.getcwd()}/with lto", built("llvm.a"), "HARDWARE=1", "CC=cc", "CFLAGS=-O2 -flto")
         run("cc", "-flto", *OPTIONS, ROOT / "tests/rows.c", "with lto/libkeywrap_hw.a", "-o", "program")
         faces.check("c", ["./program"], "rows")
 
@@ -269,7 +257,7 @@ class TestEachProcessor:
         faces.check("c", on(processor, "rows"), *names)
 
     @pytest.mark.parametrize("part", [
-        "parameters", pytest.param("sequences 1000", marks=slow),
-        *[pytest.param(part, marks=evidence) for part in ("lengths", "refusals few")]])
+        "parameters", pytest.param("sequences 200", marks=slow),
+        *[pytest.param(part, marks=evidence) for part in ("lengths", "refusals few", "sequences 1000")]])
     def test_provider(self, on, processor, part):
         run(*on(processor, "compared", *part.split()))

@@ -14,7 +14,7 @@ import pytest
 
 import faces
 from builds import run
-from hardware.bugs import plant
+from hardware.bugs import bugs_of, plant
 from program import ALL, all_of, evidence, slow
 from tools import need
 
@@ -394,23 +394,20 @@ def test_sdist(compiler):
 @pytest.mark.parametrize("suite, base", [("hardware", ROOT), ("portable", DIST), ("rust", DIST)])
 def test_bugs_can_be_planted(tmp_path, suite, base):
     """Each edit fits the sources, also those that only `make evidence` tries."""
-    for edit in (ROOT / "tests" / suite / "bugs").glob("*.edit"):
-        file = tmp_path / re.match("file: (.*)", edit.read_text())[1]
+    for bug, (name, _, _) in bugs_of(suite).items():
+        file = tmp_path / name
         file.parent.mkdir(parents=True, exist_ok=True)
-        shutil.copy(base / file.relative_to(tmp_path), file)
-        plant(edit, tmp_path)
+        shutil.copy(base / name, file)
+        plant(suite, bug, tmp_path)
 
 
-BUGS = [path.stem for path in sorted(OWN.glob("bugs/*.edit"))]
-
-
-@pytest.mark.parametrize("bug", all_of(BUGS, [], ["numbers-exchanged"]))
+@pytest.mark.parametrize("bug", all_of([*bugs_of("portable")], [], ["numbers-exchanged"]))
 def test_bug_is_caught(portable, portable_program, library, tmp_path, bug):
     """By random calls, with AES instructions or without, by the longest lengths, or by what is left on the stack."""
     need("sanitizers of gcc")
     for name in "keywrap.c", "keywrap.h", "keywrap_steps.h":
         shutil.copy(portable / name, tmp_path)
-    plant(OWN / f"bugs/{bug}.edit", tmp_path)
+    plant("portable", bug, tmp_path)
 
     def fails(program, *words):
         return subprocess.run([*program, *words], capture_output=True).returncode != 0

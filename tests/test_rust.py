@@ -12,7 +12,7 @@ import pytest
 
 import faces
 from builds import ROOT, alone, run
-from hardware.bugs import plant
+from hardware.bugs import bugs_of, plant
 from program import all_of, evidence, slow
 from tools import need
 
@@ -154,7 +154,7 @@ def test_features(name, home, crate, features):
     assert counted(said) >= len(names_of_tests()) - 2 and "warning" not in said
 
 
-@pytest.mark.parametrize("name", all_of(NAMES, []))
+@pytest.mark.parametrize("name", all_of(NAMES, [], NAMES[:1]))
 def test_lints(name, home, crate):
     """No warning of the compiler, of clippy or of rustdoc."""
     cargo = Cargo(name, home)
@@ -244,7 +244,7 @@ def test_aarch64(home, crate):
 @evidence
 @pytest.mark.needs("<openssl/evp.h>")
 def test_bugs_are_caught(cargo, crate, crate_with_rows):
-    """Each edit of bugs/, one after the other in one copy, without which its tests and the rows pass."""
+    """Each edit of bugs.txt, one after the other in one copy, without which its tests and the rows pass."""
     copy = pathlib.Path(shutil.copytree(crate_with_rows, "copy"))
     tests = ["cargo", "test", "--offline", "--all-features", "--lib", "--tests"]
     target, lines = os.path.abspath("out"), pathlib.Path("none.txt")
@@ -259,9 +259,9 @@ def test_bugs_are_caught(cargo, crate, crate_with_rows):
 
     assert passes()
     survived = []
-    for bug in sorted(OWN.glob("bugs/*.edit")):
-        plant(bug, copy)
-        survived += [bug.stem] * passes()
+    for bug in bugs_of("rust"):
+        plant("rust", bug, copy)
+        survived += [bug] * passes()
         for path in (crate / "src").glob("*.rs"):
             (copy / "src" / path.name).write_bytes(path.read_bytes())
     assert survived == []

@@ -1,4 +1,4 @@
-"""Plants the bugs of bugs/*.edit in the C of c/hardware/, one at a time in a copy. The programs of test_hardware.py
+"""Plants the bugs of bugs.txt in the C of c/hardware/, one at a time in a copy. The programs of test_hardware.py
 must catch each bug, and must pass without one. Prints which program caught which bug.
 
 usage: bugs.py ARCHIVE        (ARCHIVE: the C library, for x86-64)"""
@@ -43,16 +43,22 @@ PROGRAMS = {
 }
 
 
-def plant(edit, directory):
-    """Makes the edit in a copy. Lines `old:` in a row are one text, which the file has exactly once."""
-    text = edit.read_text()
-    path = pathlib.Path(directory, re.match("file: (.*)", text)[1])
+def bugs_of(suite):
+    """The bugs of SUITE/bugs.txt: {name: (file, old text, new text)}. hardware/bugs.txt has the format."""
+    bugs = {}
+    for bug in re.split("^(?=[^-+ #])", (ROOT / "tests" / suite / "bugs.txt").read_text(), flags=re.M)[1:]:
+        name, file = re.match("(.*): (.*)", bug).groups()
+        bugs[name] = file, *("\n".join(re.findall(f"^[{mark} ](.*)", bug, re.M)) for mark in "-+")
+    return bugs
+
+
+def plant(suite, name, directory):
+    """Makes the edit in a copy."""
+    file, old, new = bugs_of(suite)[name]
+    path = pathlib.Path(directory, file)
     code = path.read_text()
-    for pair in re.findall(r"((?:old:.*\n)+)((?:new:.*\n)+)", text):
-        old, new = ("\n".join(line[5:] for line in lines.splitlines()) for lines in pair)
-        assert code.count(old) == 1 and old != new, edit
-        code = code.replace(old, new)
-    path.write_text(code)
+    assert code.count(old) == 1 and old != new, name
+    path.write_text(code.replace(old, new))
 
 
 def has_fault(directory, command, wanted):
@@ -71,7 +77,7 @@ def caught_by(archive, bug):
         os.symlink(ROOT / "dist", f"{directory}/dist")
         subprocess.run(["objcopy", "--redefine-syms=c/hardware/names", archive, "proved.a"], cwd=directory, check=True)
         if bug:
-            plant(bug, directory)
+            plant("hardware", bug, directory)
         for name, (sources, command, wanted) in PROGRAMS.items():
             # What does not build is a bug of the edit.
             subprocess.run(COMPILE + sources, shell=True, cwd=directory, check=True)
@@ -81,11 +87,11 @@ def caught_by(archive, bug):
 
 def main(archive):
     faces.asked("c", "rows", "more")
-    bugs = [None, *sorted(pathlib.Path(__file__).parent.glob("bugs/*.edit"))]
+    bugs = [None, *bugs_of("hardware")]
     with concurrent.futures.ThreadPoolExecutor(os.cpu_count()) as pool:
         found = list(pool.map(lambda bug: caught_by(archive, bug), bugs))
     for bug, program in zip(bugs, found):
-        print(f"{bug.stem if bug else 'no bug'}: {program or 'not caught'}")
+        print(f"{bug or 'no bug'}: {program or 'not caught'}")
     return int(len(bugs) == 1 or found[0] is not None or None in found[1:])
 
 

@@ -23,26 +23,22 @@ static void spoil(char way, unsigned rounds, uint8_t block[BLOCK]) {
     if (wrong != NULL && strcmp(place, wrong) == 0) block[BLOCK - 1] ^= 1;
 }
 
-void encrypt_block(const struct aes *aes, uint8_t block[BLOCK]);
 void encrypt_block(const struct aes *aes, uint8_t block[BLOCK]) {
     right_encrypt_block(aes, block);
     spoil('e', aes->rounds, block);
 }
 
-void decrypt_block(const struct aes *aes, uint8_t block[BLOCK]);
 void decrypt_block(const struct aes *aes, uint8_t block[BLOCK]) {
     right_decrypt_block(aes, block);
     spoil('d', aes->rounds, block);
 }
 
-void encrypt_8_blocks(const struct aes *aes, uint8_t blocks[8 * BLOCK]);
 void encrypt_8_blocks(const struct aes *aes, uint8_t blocks[8 * BLOCK]) {
     right_encrypt_8_blocks(aes, blocks);
     spoil('E', aes->rounds, blocks);
     spoil('F', aes->rounds, blocks + 7 * BLOCK);
 }
 
-void decrypt_8_blocks(const struct aes *aes, uint8_t blocks[8 * BLOCK]);
 void decrypt_8_blocks(const struct aes *aes, uint8_t blocks[8 * BLOCK]) {
     right_decrypt_8_blocks(aes, blocks);
     spoil('D', aes->rounds, blocks);
