@@ -1,5 +1,6 @@
-"""What version 1.0.0 of the C library declares is in the shared object of today, with the same types and numbers.
-tests/library/1.0.0 has the header of 1.0.0, without its comments, and its map, of commit a4f7e5c."""
+"""What versions 1.0.0 and 1.1.0 of the C library declare is in the shared object of today, with the same types and
+numbers. tests/library/1.1.0 has the declarations and the map of 1.1.0, of the commit 97235a54444b. Those of 1.0.0, of
+a4f7e5c, are the calls of its first node, unchanged."""
 
 import re
 
@@ -8,56 +9,63 @@ import pytest
 from builds import ROOT, run
 from machines import nodes
 
-FIRST = ROOT / "tests/library/1.0.0"
-TODAY = ROOT / "dist"
+BEFORE, TODAY = ROOT / "tests/library/1.1.0", ROOT / "c/include"
+MAP = BEFORE / "keywrap.map"
+CALLS = {"1.0.0": nodes(MAP)["KEYWRAP_1"], "1.1.0": sum(nodes(MAP).values(), [])}
 pytestmark = pytest.mark.needs("cc")
+each_version = pytest.mark.parametrize("calls", CALLS.values(), ids=CALLS)
 
 
-def stubs(directory, header, map_file):
-    """A shared object, with the types of the header's calls, whose functions return 0."""
-    source = re.sub(r"__attribute__ *\(\(.*?\)\)\)?(?= |\n)", "", run("cc", "-E", "-P", "-U__GNUC__", header))
-    calls = re.sub(r"(keywrap_\w+\([^;{}]*\));", r"\1 { return 0; }", source)
-    (directory / "stubs.c").write_text(calls)
-    run("cc", "-std=c99", "-g", "-w", "-shared", "-fPIC", f"-Wl,--version-script={map_file}", "-o",
+def calls_of(header):
+    return re.findall(r"\b(keywrap_\w+)\(", header.read_text())
+
+
+def stubs(directory, header, calls):
+    """A shared object with these calls, of the types that the header or what it includes declares. They return 0."""
+    text = run("cc", "-E", "-P", "-U__GNUC__", header)
+    source = re.sub(r"__attribute__ *\(\(.*?\)\)\)?(?= |\n)", "", text)
+    source = re.sub(r"\w+ (keywrap_\w+)\([^;{}]*\);",
+                    lambda call: call[0].replace(";", " { return 0; }") if call[1] in calls else "", source)
+    directory.mkdir()
+    (directory / "stubs.c").write_text(source)
+    run("cc", "-std=c99", "-g", "-w", "-shared", "-fPIC", f"-Wl,--version-script={MAP}", "-o",
         directory / "stubs.so", directory / "stubs.c")
     return directory / "stubs.so"
 
 
-def test_numbers_and_lengths_of_1_0_0_stay():
-    """Each constant and macro of 1.0.0, except its version."""
-    def constants(header):
-        text = re.sub(r"/\*.*?\*/", "", header.read_text(), flags=re.S).replace("\\\n", " ")
-        found = dict(re.findall(r"^ *(KEYWRAP_\w+) = (\d+)", text, re.M))
+def test_numbers_and_lengths_stay():
+    """Each constant and macro, except the version."""
+    def constants(*headers):
+        text = "".join(path.read_text() for path in headers)
+        text = re.sub(r"/\*.*?\*/", "", text, flags=re.S).replace("\\\n", " ")
+        found = dict(re.findall(r"\b(KEYWRAP_\w+) = (\d+)", text))
         found |= dict(re.findall(r"^#define (KEYWRAP_\w+(?:\(\w+\))?) +(.*?) *$", text, re.M))
         return {name: value for name, value in found.items() if not name.startswith("KEYWRAP_VERSION")}
 
-    first, today = constants(FIRST / "keywrap.h"), constants(TODAY / "keywrap.h")
-    assert {"KEYWRAP_OK", "KEYWRAP_INTEGRITY", "KEYWRAP_MAX_KEY", "KEYWRAP_ROOM(wrapped_len)"} <= first.keys()
-    values = {name: value for name, value in first.items() if value}
-    assert values == {name: today.get(name) for name in values}
+    before, today = constants(BEFORE / "keywrap.h"), constants(*sorted(ROOT.glob("dist/keywrap*.h")))
+    assert {"KEYWRAP_OK", "KEYWRAP_INTEGRITY", "KEYWRAP_MAX_KEY", "KEYWRAP_ROOM(wrapped_len)"} <= before.keys()
+    assert before == {name: today.get(name) for name in before}
 
 
 def test_each_name_is_in_the_node_of_its_version():
-    first, today = nodes(FIRST / "keywrap.map"), nodes(ROOT / "c/include/keywrap.map")
-    assert list(first) == ["KEYWRAP_1"] and list(today) == ["KEYWRAP_1", "KEYWRAP_1.1", "KEYWRAP_1.2"]
-    assert today["KEYWRAP_1"] == first["KEYWRAP_1"]
-    headers = (TODAY / "keywrap.h").read_text() + (TODAY / "keywrap_steps.h").read_text()
-    assert {name for names in today.values() for name in names} == set(re.findall(r"\b(keywrap_\w+)\(", headers))
+    today = nodes(TODAY / "keywrap.map")
+    assert list(today) == ["KEYWRAP_1", "KEYWRAP_1.1", "KEYWRAP_1.2"] and nodes(MAP).items() <= today.items()
+    assert sorted(calls_of(BEFORE / "keywrap.h")) == sorted(CALLS["1.1.0"])
+    declared = {call for header in ROOT.glob("dist/keywrap*.h") for call in calls_of(header)}
+    assert declared == {name for names in today.values() for name in names}
 
 
 @pytest.mark.needs("abidiff")
-def test_types_of_1_0_0_stay(tmp_path):
+@each_version
+def test_types_stay(calls, tmp_path):
     """abidiff compares the types of what both headers declare."""
-    for name in "first", "today":
-        (tmp_path / name).mkdir()
-    map_file = FIRST / "keywrap.map"
-    first = stubs(tmp_path / "first", FIRST / "keywrap.h", map_file)
-    today = stubs(tmp_path / "today", TODAY / "keywrap.h", map_file)
-    run("abidiff", "--no-added-syms", first, today)
+    before = stubs(tmp_path / "before", BEFORE / "keywrap.h", calls)
+    run("abidiff", before, stubs(tmp_path / "today", TODAY / "keywrap_steps.h", calls))
 
 
 @pytest.mark.needs("abidiff")
-def test_names_of_1_0_0_stay(library, tmp_path):
+@each_version
+def test_names_stay(calls, library, tmp_path):
     """The library has no types for abidiff, only names and their versions."""
-    first = stubs(tmp_path, FIRST / "keywrap.h", FIRST / "keywrap.map")
-    run("abidiff", "--no-added-syms", "--ignore-soname", first, library / "libkeywrap.so.1")
+    before = stubs(tmp_path / "before", BEFORE / "keywrap.h", calls)
+    run("abidiff", "--no-added-syms", "--ignore-soname", before, library / "libkeywrap.so.1")

@@ -11,8 +11,7 @@ import pytest
 
 import faces
 from builds import NAMES, ROOT, run, unpacked
-from machines import (ARCHIVED, ARM, MACHINES, NAMES as CALLS, STRICT, SYSROOT, check_glibc, check_hardened,
-                      check_needs, check_versions, need_sysroot, shown)
+from machines import ARM, MACHINES, STRICT, SYSROOT, check_glibc, check_library, need_sysroot, shown
 from program import evidence, slow
 from vectors import WRAPPED24
 
@@ -69,13 +68,8 @@ def are_arm(*files):
 
 class TestLibrary:
     def test_names_and_needs(self, library):
-        archive, shared = library / "libkeywrap.a", library / "libkeywrap.so.1"
-        assert are_arm(archive, shared)
-        assert shown(archive, "-g", tools=TOOLS) == ARCHIVED
-        assert shown(shared, "-D", "--without-symbol-versions", tools=TOOLS) == CALLS
-        check_needs(archive, TOOLS)
-        check_versions(shared, TOOLS)
-        check_hardened(shared, "libkeywrap")
+        assert are_arm(library / "libkeywrap.a", library / "libkeywrap.so.1")
+        check_library(library, tools=TOOLS)
 
     def test_instructions(self, library):
         """It has the processor's byte shuffles, and no instruction that a processor may lack."""

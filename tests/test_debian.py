@@ -41,7 +41,6 @@ def test_python_of_debian(debs):
     assert calls and "-m build" not in calls
 
 
-@slow
 @pytest.mark.needs("lintian")
 def test_lintian(debs):
     """Its only error is that no licence has been given."""
@@ -97,7 +96,6 @@ zsh -fc 'autoload -U compinit && compinit -D -u && print -r -- $_comps[keywrap]'
     assert left == ""
 
 
-@slow
 @pytest.mark.parametrize("package, name", [
     ("keywrap", "Before you trust a file"), ("libkeywrap-dev", "A KEK that never leaves a token")])
 @pytest.mark.needs("root", "overlay of the root directory", "cc", "openssl", "pkg-config", "softhsm2-util",

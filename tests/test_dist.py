@@ -11,6 +11,7 @@ import shutil
 import pytest
 
 from builds import MACHINE, NAMES, ROOT, alone, copied_tree, run
+from machines import check_glibc
 from program import slow
 from vectors import KEY16, WRAPPED24
 
@@ -58,13 +59,12 @@ class TestWhole:
         copy = shutil.copytree(dist, "copy")
         run("bash", "-ec", "\n".join(lines), cwd=copy)
 
-    @slow
     def test_same_elsewhere(self, dist, built, python, pytestconfig):
-        """make dist in a copy of the tree, of another path, umask and time, gives the same checksums."""
+        """make dist in a copy of the tree, of another path, umask, time and -j, gives the same checksums."""
         tree = copied_tree(pathlib.Path("another"), pytestconfig.program, built("llvm.a"))
         run("find", tree, "-exec", "touch", "-d", "2001-02-03", "{}", "+")
         words = [f"PROGRAM={pytestconfig.program}", f"ARCHIVE={built('llvm.a')}", "-o", "build"]
-        run("sh", "-c", 'umask 077; exec make -s "$@"', "-", "-C", tree, "dist", f"PYTHON={python}", MACHINE,
+        run("sh", "-c", 'umask 077; exec make -sj4 "$@"', "-", "-C", tree, "dist", f"PYTHON={python}", MACHINE,
             *words)
         assert (tree / "out/SHA256SUMS").read_text() == (dist / "SHA256SUMS").read_text()
 
@@ -92,9 +92,7 @@ class TestDocuments:
 
 @pytest.mark.parametrize("name, path", [("archive of library", "lib/libkeywrap.so"), ("wheel", "keywrap/_ffi.abi3.so")])
 def test_no_new_glibc(thing, name, path):
-    """No symbol is newer than glibc 2.17."""
-    needed = re.findall(r"GLIBC_2\.([0-9]+)", run("objdump", "-T", thing(name) / path))
-    assert needed and max(map(int, needed)) <= 17
+    check_glibc(thing(name) / path)
 
 
 def test_command_of_the_wheel_needs_no_library(thing):

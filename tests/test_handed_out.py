@@ -23,9 +23,7 @@ HEADERS = "".join((ROOT / "dist" / name).read_text() for name in ("keywrap.h", "
 
 
 def rows(section):
-    """The rows of a section. To build the source distribution is slow."""
-    return [pytest.param(*row, marks=slow) if row[0] == "sdist built" else row
-            for row in table("handed_out", section, **NAMES, LIB=LIB)]
+    return table("handed_out", section, **NAMES, LIB=LIB)
 
 
 def listed(root):

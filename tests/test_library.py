@@ -10,9 +10,8 @@ import sys
 import pytest
 
 import faces
-from builds import NAMES, ROOT, run
-from machines import (ARCHIVED, NAMES as CALLS, SANITIZED, STRICT, WITH_SSE41, WITHOUT_SSE41, check_hardened,
-                      check_needs, check_versions, shown)
+from builds import NAMES, ROOT, make_library, run
+from machines import ARCHIVED, NAMES as CALLS, SANITIZED, STRICT, WITH_SSE41, WITHOUT_SSE41, check_library, shown
 from program import evidence
 from tools import need
 from vectors import WRAPPED16, WRAPPED24
@@ -60,8 +59,7 @@ def of_toolchain(request, once, built):
     name = request.param
     if name == "llvm":
         return name, request.getfixturevalue("library")
-    return name, once(f"library-{name}", lambda directory: run(
-        "make", "-s", "-C", ROOT, "library", f"LIBRARY={directory}", f"ARCHIVE={built(f'{name}.a')}"))
+    return name, once(f"library-{name}", lambda directory: make_library(directory, built(f"{name}.a")))
 
 
 def rows_over(library, compiler="gcc", *options):
@@ -73,12 +71,7 @@ def rows_over(library, compiler="gcc", *options):
 
 class TestFiles:
     def test_names_and_needs(self, of_toolchain):
-        archive, shared = of_toolchain[1] / "libkeywrap.a", of_toolchain[1] / "libkeywrap.so.1"
-        assert shown(archive, "-g") == ARCHIVED
-        assert shown(shared, "-D", "--without-symbol-versions") == CALLS
-        check_needs(archive)
-        check_versions(shared)
-        check_hardened(shared, "libkeywrap")
+        check_library(of_toolchain[1])
 
     def test_self_test_sees_a_changed_byte(self, of_toolchain):
         name, directory = of_toolchain

@@ -24,6 +24,7 @@ def test_packages(built, pytestconfig, tmp_path):
     packages = {re.match(r"(.*?)-\d", file.name)[1]: file for file in tmp_path.glob("rpm/RPMS/*/*.rpm")}
     assert packages.keys() == {"keywrap", "libkeywrap", "libkeywrap-devel", "python3-keywrap",
                                "keywrap-openssl-provider"}
+    assert {run("rpm", "-qp", "--qf", "%{VERSION}", file) for file in packages.values()} == {NAMES["DEBIAN"]}
     listed = {name: run("rpm", "-qlp", file).splitlines() for name, file in packages.items()}
     assert sum(map(len, listed.values())) == len({*sum(listed.values(), [])})
     files = sum((listed[name] for name in ("keywrap", "libkeywrap", "libkeywrap-devel")), [])

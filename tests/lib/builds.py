@@ -73,13 +73,14 @@ def built(once):
     return functools.cache(find)
 
 
+def make_library(directory, archive, *words):
+    run("make", "-s", "-C", ROOT, "library", *words, f"LIBRARY={directory}", f"ARCHIVE={archive}")
+
+
 @pytest.fixture(scope="session")
 def library(once, built):
     """The directory of `make library`."""
-    def build(directory):
-        run("make", "-s", "-C", ROOT, "library", f"LIBRARY={directory}", f"ARCHIVE={built('llvm.a')}")
-
-    return once("library", build)
+    return once("library", lambda directory: make_library(directory, built("llvm.a")))
 
 
 STRICT = ["-O1", "-Wall", "-Wextra", "-Werror"]

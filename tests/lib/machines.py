@@ -73,21 +73,16 @@ def nodes(path):
             for node, listed in re.findall(r"(KEYWRAP_[\d.]+) \{(.*?)\}", text, re.S)}
 
 
-def check_versions(file, tools=""):
-    """Each name of the shared object is under the node of the version that it came with."""
-    came = {name: node for node, names in nodes(ROOT / "tests/library/1.1.0/keywrap.map").items() for name in names}
-    assert shown(file, "-D", tools=tools) == sorted(f"{name}@@{came.get(name, 'KEYWRAP_1.2')}" for name in NAMES)
-
-
-def check_needs(file, tools=""):
-    """The archive needs nothing but these of the C library."""
-    needed = {line.split()[1] for line in run(f"{tools}nm", "-u", file).splitlines() if len(line.split()) == 2}
-    assert {name for name in needed if not name.startswith("keywrap_")} <= {"memcpy", "memmove", "memset"}
-
-
-def check_hardened(file, name):
-    """The tables of the shared object are read-only once it is loaded, and this is its own name."""
-    elf = run("readelf", "-dlW", file)
+def check_library(directory, name="libkeywrap", archived=ARCHIVED, tools=""):
+    """What the archive and the shared object of this name show and need. Each name of the shared object is under the
+    node of the version that it came with, its tables are read-only once it is loaded, and its own name is right."""
+    archive, shared = directory / f"{name}.a", directory / f"{name}.so.1"
+    assert shown(archive, "-g", tools=tools) == archived
+    came = {call: node for node, calls in nodes(ROOT / "tests/library/1.1.0/keywrap.map").items() for call in calls}
+    assert shown(shared, "-D", tools=tools) == sorted(f"{call}@@{came.get(call, 'KEYWRAP_1.2')}" for call in NAMES)
+    needed = {line.split()[1] for line in run(f"{tools}nm", "-u", archive).splitlines() if len(line.split()) == 2}
+    assert {call for call in needed if not call.startswith("keywrap_")} <= {"memcpy", "memmove", "memset"}
+    elf = run("readelf", "-dlW", shared)
     assert "BIND_NOW" in elf and "GNU_RELRO" in elf and "TEXTREL" not in elf
     assert re.search(rf"SONAME.*\[{re.escape(name)}\.so\.1\]", elf)
 
