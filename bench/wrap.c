@@ -100,59 +100,53 @@ static CALL(one_table_unwraps) {
     return one_table_unwrap(&keys, in, out, out_len) != 0xA6A6A6A6A6A6A6A6u;
 }
 
-/* `blocks` is how a block is computed, if the processor has AES instructions. */
+/* `blocks` is how a block is computed, if the processor has AES instructions. The calls are a wrap and an
+ * unwrap, then both with a kept KEK or schedule. */
 static const struct peer {
     const char *name, *blocks;
-    wrap_call *wrap, *unwrap;
+    wrap_call *calls[4];
 } PEERS[] = {
-    {"keywrap", "software", keywrap_wrap, keywrap_unwrap},
-    {"hardware", "AES inst.", hw_wrap, hw_unwrap},
-    {"portable", "software", portable_wrap, portable_unwrap},
-    {"portable_hw", "AES inst.", portable_hw_wrap, portable_hw_unwrap},
+    {"keywrap", "software", {keywrap_wrap, keywrap_unwrap, keywrap_wrap, keywrap_unwrap}},
+    {"hardware", "AES inst.", {hw_wrap, hw_unwrap, hw_wrap, hw_unwrap}},
+    {"portable", "software", {portable_wrap, portable_unwrap, portable_wrap, portable_unwrap}},
+    {"portable_hw", "AES inst.", {portable_hw_wrap, portable_hw_unwrap, portable_hw_wrap, portable_hw_unwrap}},
     /* Neither this call of OpenSSL nor a wrap by EVP uses AES instructions. */
-    {"openssl", "software", openssl_wrap, openssl_unwrap},
-    {"nettle", "AES inst.", nettle_wrap, nettle_unwrap},
-    {"gcrypt", "AES inst.", gcrypt_wrap, gcrypt_unwrap},
-    {"C", "software", one_table_wraps, one_table_unwraps},
-}, KEEPERS[] = {
-    {"keywrap", "software", keywrap_wrap, keywrap_unwrap},
-    {"hardware", "AES inst.", hw_wrap, hw_unwrap},
-    {"portable", "software", portable_wrap, portable_unwrap},
-    {"portable_hw", "AES inst.", portable_hw_wrap, portable_hw_unwrap},
-    {"nettle", "AES inst.", nettle_kept_wrap, nettle_kept_unwrap},
+    {"openssl", "software", {openssl_wrap, openssl_unwrap}},
+    {"nettle", "AES inst.", {nettle_wrap, nettle_unwrap, nettle_kept_wrap, nettle_kept_unwrap}},
+    {"gcrypt", "AES inst.", {gcrypt_wrap, gcrypt_unwrap}},
+    {"C", "software", {one_table_wraps, one_table_unwraps}},
 };
 
-/* The lengths of the keys. The last is the longest that the library takes. */
+/* The lengths of the keys: the first only with a kept KEK. The last is the longest that the library takes. */
 static const size_t LENS[] = {16, 32, 256, 4096, KEYWRAP_MAX_KEY};
 enum { PEER_COUNT = sizeof PEERS / sizeof *PEERS, LEN_COUNT = sizeof LENS / sizeof *LENS };
-enum { WITHOUT = 2 * LEN_COUNT * PEER_COUNT, KEEPER_COUNT = sizeof KEEPERS / sizeof *KEEPERS };
-enum { WAY_COUNT = WITHOUT + 2 * KEEPER_COUNT };
 
 /* The wrapped key of each length. */
 static uint8_t texts[LEN_COUNT][KEYWRAP_MAX_TEXT];
 
-/* One of the ways: a call of a peer, for a key of a length, that must make `out` of `in`. */
+/* The ways: a call of a peer, for a key of a length, that must make `out` of `in`. */
 static struct way {
     const struct peer *peer;
-    const char *name;
-    size_t len;
     wrap_call *call;
+    int keeps, unwraps;
+    size_t len, in_len, out_len;
     const uint8_t *in, *out;
-    size_t in_len, out_len;
-} way_of(int w) {
-    const int keeps = w >= WITHOUT;
-    const struct peer *peer = keeps ? KEEPERS + (w - WITHOUT) % KEEPER_COUNT : PEERS + w % PEER_COUNT;
-    const int at = keeps ? 0 : w / PEER_COUNT % LEN_COUNT;
-    const size_t len = LENS[at];
-    if (keeps ? w < WITHOUT + KEEPER_COUNT : w < WITHOUT / 2)
-        return (struct way){peer, "wrap", len, peer->wrap, key, texts[at], len, len + 8};
-    return (struct way){peer, "unwrap", len, peer->unwrap, texts[at], key, len + 8, len};
+} ways[4 * LEN_COUNT * PEER_COUNT];
+static int way_count;
+
+static void add_way(const struct peer *peer, int call, int at) {
+    const int unwraps = call % 2;
+    const size_t len = LENS[at], lens[] = {len, len + 8};
+    const uint8_t *both[] = {key, texts[at]};
+    if (peer->calls[call])
+        ways[way_count++] = (struct way){peer, peer->calls[call], call > 1, unwraps, len, lens[unwraps], lens[!unwraps],
+                                         both[unwraps], both[!unwraps]};
 }
 
 static double wrap_turn(int w, unsigned calls) {
-    const struct way way = way_of(w);
-    const uint8_t *given = w < WITHOUT ? kek : kept;
-    const size_t given_len = w < WITHOUT ? KEK_LEN : sizeof kept;
+    const struct way way = ways[w];
+    const uint8_t *given = way.keeps ? kept : kek;
+    const size_t given_len = way.keeps ? sizeof kept : KEK_LEN;
     const double start = now();
     for (unsigned i = 0; i < calls; i++)
         if (way.call(given, given_len, way.in, way.in_len, answer, way.out_len)) return 1e18;
@@ -160,24 +154,24 @@ static double wrap_turn(int w, unsigned calls) {
 }
 
 static int time_wraps(double seconds) {
-    static double best[WAY_COUNT];
+    static double best[sizeof ways / sizeof *ways];
     for (int at = 0; at < LEN_COUNT; at++)
         if (keywrap_wrap(kek, KEK_LEN, key, LENS[at], texts[at], LENS[at] + 8)) return 1;
-    for (int w = 0; w < WAY_COUNT; w++) {
-        const struct way way = way_of(w);
-        if (wrap_turn(w, 1) >= 1e18 || memcmp(answer, way.out, way.out_len)) {
-            fprintf(stderr, "%s: other bytes, at a key of %zu bytes\n", way.peer->name, way.len);
+    for (int call = 0; call < 4; call++)
+        for (int at = 0; at < (call < 2 ? LEN_COUNT : 1); at++)
+            for (int p = 0; p < PEER_COUNT; p++) add_way(PEERS + p, call, at);
+    for (int w = 0; w < way_count; w++)
+        if (wrap_turn(w, 1) >= 1e18 || memcmp(answer, ways[w].out, ways[w].out_len)) {
+            fprintf(stderr, "%s: other bytes, at a key of %zu bytes\n", ways[w].peer->name, ways[w].len);
             return 1;
         }
-    }
-    take_turns(WAY_COUNT, wrap_turn, seconds * 1e9, best);
+    take_turns(way_count, wrap_turn, seconds * 1e9, best);
     printf("library,blocks,kek,call,key,ns_per_block\n");
-    for (int w = 0; w < WAY_COUNT; w++) {
-        const struct way way = way_of(w);
-        printf("%s,%s,%d%s,%s,%zu,%.1f\n", way.peer->name,
-               __builtin_cpu_supports("aes") ? way.peer->blocks : "software", KEK_LEN,
-               w < WITHOUT ? "" : " kept", way.name, way.len, best[w] / (double)(6 * (way.len / 8)));
-    }
+    for (int w = 0; w < way_count; w++)
+        printf("%s,%s,%d%s,%s,%zu,%.1f\n", ways[w].peer->name,
+               __builtin_cpu_supports("aes") ? ways[w].peer->blocks : "software", KEK_LEN,
+               ways[w].keeps ? " kept" : "", ways[w].unwraps ? "unwrap" : "wrap", ways[w].len,
+               best[w] / (double)(6 * (ways[w].len / 8)));
     return 0;
 }
 

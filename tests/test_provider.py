@@ -88,35 +88,34 @@ def test_no_warning(compiler):
 class TestCompared:
     """Against OpenSSL's own, in one process."""
 
-    # Called as by the core, with refused memory, cleared KEKs; then as programs call it.
+    @staticmethod
+    def command(programs, modules, args):
+        """Called as programs call it; without arguments, as the core does, with refused memory and cleared KEKs."""
+        if args:
+            return [programs / "compared", modules, *args.split()]
+        return [programs / "direct", modules / "keywrap.so"]
+
     @pytest.mark.parametrize("args", ["", "lengths", "sequences 10000", "parameters", "refusals"])
     def test_module(self, compiled_programs, modules, args):
-        if args:
-            run(compiled_programs / "compared", modules, *args.split())
-        else:
-            run(compiled_programs / "direct", modules / "keywrap.so")
+        run(*self.command(compiled_programs, modules, args))
 
     @pytest.mark.parametrize("args", all_of(
         ["", "lengths", "sequences 10000", "parameters", "refusals"], ["lengths"], [""]))
     def test_over_portable_c(self, compiled_programs, over_portable_c, args):
-        program = ["compared", over_portable_c, *args.split()] if args else ["direct", over_portable_c / "keywrap.so"]
-        run(compiled_programs / program[0], *program[1:])
+        run(*self.command(compiled_programs, over_portable_c, args))
 
     @pytest.mark.needs("sanitizers of cc")
     @slow
     @pytest.mark.parametrize("args", ["", "sequences 2000", "parameters", "refusals"])
     def test_sanitized(self, sanitized, args):
-        if args:
-            run(sanitized / "compared", sanitized, *args.split())
-        else:
-            run(sanitized / "direct", sanitized / "keywrap.so")
+        run(*self.command(sanitized, sanitized, args))
 
     @slow
     @pytest.mark.needs("valgrind")
     def test_memcheck(self, compiled_programs, modules):
-        memcheck = ["valgrind", "-q", "--error-exitcode=9", "--leak-check=full"]
-        run(*memcheck, compiled_programs / "direct", modules / "keywrap.so")
-        run(*memcheck, compiled_programs / "compared", modules, "sequences", "300")
+        for args in "", "sequences 300":
+            memcheck = ["valgrind", "-q", "--error-exitcode=9", "--leak-check=full"]
+            run(*memcheck, *self.command(compiled_programs, modules, args))
 
 
 @pytest.mark.needs("openssl")

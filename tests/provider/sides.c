@@ -1,10 +1,15 @@
-/* sides.c: the two providers, and calls that are made in both. */
+/* sides.c: the two providers, calls that are made in both, and main, which compares OpenSSL's own provider with ours,
+ * which is keywrap.so in the directory.
+ *
+ * usage: provider DIRECTORY PART [COUNT|few]        (PART: lengths, sequences, parameters, refusals;
+ * few: without the longest keys, since an emulator takes seconds for each) */
 
 #include "sides.h"
 
 #include <openssl/err.h>
 #include <stdarg.h>
 #include <stdio.h>
+#include <stdlib.h>
 #include <string.h>
 
 const char *const CIPHER_NAMES[CIPHERS] = {"AES-128-WRAP",     "AES-192-WRAP",
@@ -22,21 +27,19 @@ int kek_len(int which) {
     return 16 + which % 3 * 8;
 }
 
-static void say(const char *format, va_list arguments) {
-    if (failed > 20) return;
+/* Returns whether it has printed the check. */
+static int count(int right, const char *format, va_list arguments) {
+    *(right ? &passed : &failed) += 1;
+    if (right || failed > 20) return 0;
     vprintf(format, arguments);
     printf("\n");
+    return 1;
 }
 
 void check(int right, const char *format, ...) {
     va_list arguments;
-    if (right) {
-        passed++;
-        return;
-    }
-    failed++;
     va_start(arguments, format);
-    say(format, arguments);
+    count(right, format, arguments);
     va_end(arguments);
 }
 
@@ -53,14 +56,15 @@ static int load(struct side *side) {
     return side->ctx != NULL;
 }
 
-int load_sides(const char *directory) {
+/* Loads the default provider, and ours from the directory, into one library context. */
+static int load_sides(const char *directory) {
     if (OSSL_PROVIDER_set_default_search_path(NULL, directory) && load(sides) && load(sides + 1))
         return 1;
     ERR_print_errors_fp(stdout);
     return 0;
 }
 
-void unload_sides(void) {
+static void unload_sides(void) {
     for (struct side *side = sides; side < sides + 2; side++) {
         EVP_CIPHER_CTX_free(side->ctx);
         for (int i = 0; i < CIPHERS; i++) EVP_CIPHER_free(side->ciphers[i]);
@@ -141,22 +145,14 @@ void run_final(struct side *side) {
 }
 
 void compare(const char *format, ...) {
+    const size_t len = sides[0].recorded;
+    size_t at = 0;
     va_list arguments;
-    int same = sides[0].recorded == sides[1].recorded && sides[0].recorded < RECORD
-               && memcmp(sides[0].record, sides[1].record, sides[0].recorded) == 0;
-    if (same) {
-        passed++;
-    } else {
-        size_t at = 0;
-        while (at < RECORD && sides[0].record[at] == sides[1].record[at]) at++;
-        failed++;
-        va_start(arguments, format);
-        say(format, arguments);
-        va_end(arguments);
-        if (failed <= 20)
-            printf("    the answers differ, of %zu bytes from byte %zu on\n", sides[0].recorded,
-                   at);
-    }
+    while (at < len && sides[0].record[at] == sides[1].record[at]) at++;
+    va_start(arguments, format);
+    if (count(at == len && len == sides[1].recorded && len < RECORD, format, arguments))
+        printf("    the answers differ, of %zu bytes from byte %zu on\n", len, at);
+    va_end(arguments);
     sides[0].recorded = sides[1].recorded = 0;
 }
 
@@ -179,4 +175,17 @@ unsigned below(unsigned limit) {
 
 void fill(uint8_t *bytes, size_t len) {
     for (size_t i = 0; i < len; i++) bytes[i] = (uint8_t)number();
+}
+
+int main(int argc, char **argv) {
+    const char *part = argc >= 3 ? argv[2] : "";
+    if (argc < 3 || !load_sides(argv[1])) return 2;
+    seed(1);
+    if (strcmp(part, "lengths") == 0) try_lengths();
+    if (strcmp(part, "sequences") == 0) try_sequences((unsigned)atoi(argc > 3 ? argv[3] : "1000"));
+    if (strcmp(part, "parameters") == 0) try_parameters();
+    if (strcmp(part, "refusals") == 0) try_refusals(argc > 3);
+    unload_sides();
+    printf("%u right, %u wrong\n", passed, failed);
+    return failed != 0 || passed == 0;
 }

@@ -32,10 +32,6 @@ extern unsigned passed, failed;
 /* Counts a check, and prints the first that fail. */
 void check(int right, const char *format, ...);
 
-/* Loads the default provider, and ours from the directory, into one library context. */
-int load_sides(const char *directory);
-void unload_sides(void);
-
 /* Whether cipher number `which` has the padded form, and the length of its KEK. */
 int is_padded(int which);
 int kek_len(int which);
@@ -70,7 +66,7 @@ unsigned below(unsigned limit);
 void fill(uint8_t *bytes, size_t len);
 void seed(uint64_t with);
 
-/* The parts: what main.c calls. */
+/* The parts: what main calls. */
 void try_lengths(void);
 void try_sequences(unsigned count);
 void try_parameters(void);

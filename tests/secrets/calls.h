@@ -13,6 +13,7 @@ static const size_t KEK_LENS[] = {16, 24, 32, KEYWRAP_KEK_LEN(16), KEYWRAP_KEK_L
 /* `whole` is the length of a wrapped key, and so is text_len, if that is not the length that is wrong. */
 static size_t kek_len, new_kek_len, key_len, whole, text_len, out_len;
 static uint32_t forms, padded, already;
+enum { BOTH_PADDED = KEYWRAP_OLD_PADDED | KEYWRAP_NEW_PADDED };
 static int32_t status;
 
 /* The calls for many keys have one slot or two. Their status is that of the last slot. */
@@ -38,75 +39,40 @@ static void put_key(void) {
     for (size_t i = 0; i < slots; i++) memcpy(out + 8 + i * whole, key, key_len);
 }
 
-static void kek_init(void) {
-    status = keywrap_kek_init(kek, kek_len, out, KEYWRAP_KEK_LEN(kek_len) + text_len - whole);
-}
-static void wrap(void) {
-    status = keywrap_wrap(kek, kek_len, key, key_len, out, text_len);
-}
-static void wrap_with(void) {
-    status = keywrap_wrap_with(kek, kek_len, iv, 8, key, key_len, out, text_len);
-}
-static void wrap_in_place(void) {
-    status = keywrap_wrap_in_place(kek, kek_len, out, text_len);
-}
-static void wrap_padded(void) {
-    status = keywrap_wrap_padded(kek, kek_len, key, key_len, out, text_len);
-}
-static void wrap_padded_in_place(void) {
-    status = keywrap_wrap_padded_in_place(kek, kek_len, out, text_len, key_len);
-}
-static void unwrap(void) {
-    status = keywrap_unwrap(kek, kek_len, text, text_len, out, whole - 8);
-}
-static void unwrap_with(void) {
-    status = keywrap_unwrap_with(kek, kek_len, iv, 8, text, text_len, out, whole - 8);
-}
-static void unwrap_in_place(void) {
-    status = keywrap_unwrap_in_place(kek, kek_len, out, text_len);
-}
-static void unwrap_padded(void) {
-    status = keywrap_unwrap_padded(kek, kek_len, text, text_len, out, whole - 8, &out_len);
-}
-static void unwrap_padded_in_place(void) {
-    status = keywrap_unwrap_padded_in_place(kek, kek_len, out, text_len, &out_len);
-}
-/* The wrong length is the scratch buffer's, or the key's buffer's. */
-static void kind(void) {
-    status = keywrap_kind(kek, kek_len, text, whole, out, text_len - 8, &padded, &out_len);
-}
-static void unwrap_any(void) {
-    status = keywrap_unwrap_any(kek, kek_len, text, whole, out, text_len - 8, &padded, &out_len);
-}
-static void rewrap_in_place(void) {
-    status = keywrap_rewrap_in_place(kek, kek_len, new_kek, new_kek_len, out, text_len, forms);
-}
-static void rewrap(void) {
-    status = keywrap_rewrap(kek, kek_len, new_kek, new_kek_len, out, text_len, forms, &already);
-}
-/* A wrapped key that is already under the new KEK. */
-static void wrap_new(void) {
-    status = keywrap_wrap(new_kek, kek_len, key, key_len, out, text_len);
-}
-
+/* The status of a call for many keys that returned this one. */
 static int32_t of_slots(int32_t answer) {
     if (answer != KEYWRAP_OK) return answer;
     PUBLIC(statuses);
     return statuses[slots - 1] == KEYWRAP_ALREADY_NEW ? KEYWRAP_OK : statuses[slots - 1];
 }
-static void wrap_many(void) {
-    status = of_slots(
-        keywrap_wrap_many(kek, kek_len, out, slots * text_len, key_len, forms, statuses, slots));
-}
-static void unwrap_many(void) {
-    status = of_slots(keywrap_unwrap_many(kek, kek_len, out, slots * text_len, forms, slot_lens,
-                                          slots, statuses, slots));
-}
-static void kind_many(void) {
-    status = of_slots(keywrap_kind_many(kek, kek_len, text, slots * whole, out, text_len - 8,
-                                        slot_forms, slots, slot_lens, slots, statuses, slots));
-}
-static void rewrap_many(void) {
-    status = of_slots(keywrap_rewrap_many(kek, kek_len, new_kek, new_kek_len, out,
-                                          slots * text_len, forms, statuses, slots));
-}
+
+/* A function that makes the call, and keeps its status. */
+#define CALL(name, call) static void name(void) { status = (call); }
+
+CALL(kek_init, keywrap_kek_init(kek, kek_len, out, KEYWRAP_KEK_LEN(kek_len) + text_len - whole))
+CALL(wrap, keywrap_wrap(kek, kek_len, key, key_len, out, text_len))
+CALL(wrap_with, keywrap_wrap_with(kek, kek_len, iv, 8, key, key_len, out, text_len))
+CALL(wrap_in_place, keywrap_wrap_in_place(kek, kek_len, out, text_len))
+CALL(wrap_padded, keywrap_wrap_padded(kek, kek_len, key, key_len, out, text_len))
+CALL(wrap_padded_in_place, keywrap_wrap_padded_in_place(kek, kek_len, out, text_len, key_len))
+CALL(unwrap, keywrap_unwrap(kek, kek_len, text, text_len, out, whole - 8))
+CALL(unwrap_with, keywrap_unwrap_with(kek, kek_len, iv, 8, text, text_len, out, whole - 8))
+CALL(unwrap_in_place, keywrap_unwrap_in_place(kek, kek_len, out, text_len))
+CALL(unwrap_padded, keywrap_unwrap_padded(kek, kek_len, text, text_len, out, whole - 8, &out_len))
+CALL(unwrap_padded_in_place, keywrap_unwrap_padded_in_place(kek, kek_len, out, text_len, &out_len))
+/* The wrong length is the scratch buffer's, or the key's buffer's. */
+CALL(kind, keywrap_kind(kek, kek_len, text, whole, out, text_len - 8, &padded, &out_len))
+CALL(unwrap_any, keywrap_unwrap_any(kek, kek_len, text, whole, out, text_len - 8, &padded, &out_len))
+CALL(rewrap_in_place, keywrap_rewrap_in_place(kek, kek_len, new_kek, new_kek_len, out, text_len, forms))
+CALL(rewrap, keywrap_rewrap(kek, kek_len, new_kek, new_kek_len, out, text_len, forms, &already))
+/* A wrapped key that is already under the new KEK. */
+CALL(wrap_new, keywrap_wrap(new_kek, kek_len, key, key_len, out, text_len))
+CALL(wrap_many, of_slots(
+    keywrap_wrap_many(kek, kek_len, out, slots * text_len, key_len, forms, statuses, slots)))
+CALL(unwrap_many, of_slots(
+    keywrap_unwrap_many(kek, kek_len, out, slots * text_len, forms, slot_lens, slots, statuses, slots)))
+CALL(kind_many, of_slots(
+    keywrap_kind_many(kek, kek_len, text, slots * whole, out, text_len - 8, slot_forms, slots, slot_lens, slots,
+                      statuses, slots)))
+CALL(rewrap_many, of_slots(
+    keywrap_rewrap_many(kek, kek_len, new_kek, new_kek_len, out, slots * text_len, forms, statuses, slots)))

@@ -42,9 +42,7 @@ static void put_text(void) {
     memcpy(out, text, slots * whole);
 }
 
-static void wrap_new_padded(void) {
-    status = keywrap_wrap_padded(new_kek, kek_len, key, key_len, out, text_len);
-}
+CALL(wrap_new_padded, keywrap_wrap_padded(new_kek, kek_len, key, key_len, out, text_len))
 
 /* An AES that looks its tables up by secrets, to see that memcheck reports it. */
 static void tables(void) {
@@ -53,6 +51,10 @@ static void tables(void) {
     one_table_wrap(&keys, 0xA6A6A6A6A6A6A6A6u, key, key_len, out);
     status = KEYWRAP_OK;
 }
+
+/* The lengths of keys that each form has. */
+#define PLAIN 16, 8, LONGEST
+#define PADDED 1, 1, LONGEST
 
 /* The calls: which one makes the text that it takes, the lengths of its keys, the flags, and the
  * status if the text is not damaged. */
@@ -64,55 +66,45 @@ static const struct watched {
     int32_t ends;
 } CALLS[] = {
     {"keywrap_kek_init", kek_init, NULL, 16, 8, 16, 0, 0},
-    {"keywrap_wrap", wrap, NULL, 16, 8, LONGEST, 0, 0},
-    {"keywrap_wrap_with", wrap_with, NULL, 16, 8, LONGEST, 0, 0},
-    {"keywrap_wrap_in_place", wrap_in_place, NULL, 16, 8, LONGEST, 0, 0},
-    {"keywrap_wrap_padded", wrap_padded, NULL, 1, 1, LONGEST, 0, 0},
-    {"keywrap_wrap_padded_in_place", wrap_padded_in_place, NULL, 1, 1, LONGEST, 0, 0},
-    {"keywrap_unwrap", unwrap, wrap, 16, 8, LONGEST, 0, 0},
-    {"keywrap_unwrap_with", unwrap_with, wrap_with, 16, 8, LONGEST, 0, 0},
-    {"keywrap_unwrap_in_place", unwrap_in_place, wrap, 16, 8, LONGEST, 0, 0},
-    {"keywrap_unwrap_padded", unwrap_padded, wrap_padded, 1, 1, LONGEST, 0, 0},
-    {"keywrap_unwrap_padded_in_place", unwrap_padded_in_place, wrap_padded, 1, 1, LONGEST, 0, 0},
-    {"keywrap_kind", kind, wrap, 16, 8, LONGEST, 0, 0},
-    {"keywrap_kind, padded", kind, wrap_padded, 1, 1, LONGEST, 0, 0},
-    {"keywrap_unwrap_any", unwrap_any, wrap, 16, 8, LONGEST, 0, 0},
-    {"keywrap_unwrap_any, padded", unwrap_any, wrap_padded, 1, 1, LONGEST, 0, 0},
-    {"keywrap_rewrap_in_place", rewrap_in_place, wrap, 16, 8, LONGEST, 0, 0},
-    {"keywrap_rewrap_in_place, to padded", rewrap_in_place, wrap, 16, 8, LONGEST,
-     KEYWRAP_NEW_PADDED, 0},
-    {"keywrap_rewrap_in_place, to plain", rewrap_in_place, wrap_padded, 16, 8, LONGEST,
-     KEYWRAP_OLD_PADDED, 0},
-    {"keywrap_rewrap_in_place, padded", rewrap_in_place, wrap_padded, 1, 1, LONGEST,
-     KEYWRAP_OLD_PADDED | KEYWRAP_NEW_PADDED, 0},
-    {"keywrap_rewrap", rewrap, wrap, 16, 8, LONGEST, 0, 0},
-    {"keywrap_rewrap, to padded", rewrap, wrap, 16, 8, LONGEST, KEYWRAP_NEW_PADDED, 0},
-    {"keywrap_rewrap, to plain", rewrap, wrap_padded, 16, 8, LONGEST, KEYWRAP_OLD_PADDED, 0},
+    {"keywrap_wrap", wrap, NULL, PLAIN, 0, 0},
+    {"keywrap_wrap_with", wrap_with, NULL, PLAIN, 0, 0},
+    {"keywrap_wrap_in_place", wrap_in_place, NULL, PLAIN, 0, 0},
+    {"keywrap_wrap_padded", wrap_padded, NULL, PADDED, 0, 0},
+    {"keywrap_wrap_padded_in_place", wrap_padded_in_place, NULL, PADDED, 0, 0},
+    {"keywrap_unwrap", unwrap, wrap, PLAIN, 0, 0},
+    {"keywrap_unwrap_with", unwrap_with, wrap_with, PLAIN, 0, 0},
+    {"keywrap_unwrap_in_place", unwrap_in_place, wrap, PLAIN, 0, 0},
+    {"keywrap_unwrap_padded", unwrap_padded, wrap_padded, PADDED, 0, 0},
+    {"keywrap_unwrap_padded_in_place", unwrap_padded_in_place, wrap_padded, PADDED, 0, 0},
+    {"keywrap_kind", kind, wrap, PLAIN, 0, 0},
+    {"keywrap_kind, padded", kind, wrap_padded, PADDED, 0, 0},
+    {"keywrap_unwrap_any", unwrap_any, wrap, PLAIN, 0, 0},
+    {"keywrap_unwrap_any, padded", unwrap_any, wrap_padded, PADDED, 0, 0},
+    {"keywrap_rewrap_in_place", rewrap_in_place, wrap, PLAIN, 0, 0},
+    {"keywrap_rewrap_in_place, to padded", rewrap_in_place, wrap, PLAIN, KEYWRAP_NEW_PADDED, 0},
+    {"keywrap_rewrap_in_place, to plain", rewrap_in_place, wrap_padded, PLAIN, KEYWRAP_OLD_PADDED, 0},
+    {"keywrap_rewrap_in_place, padded", rewrap_in_place, wrap_padded, PADDED, BOTH_PADDED, 0},
+    {"keywrap_rewrap", rewrap, wrap, PLAIN, 0, 0},
+    {"keywrap_rewrap, to padded", rewrap, wrap, PLAIN, KEYWRAP_NEW_PADDED, 0},
+    {"keywrap_rewrap, to plain", rewrap, wrap_padded, PLAIN, KEYWRAP_OLD_PADDED, 0},
     {"keywrap_rewrap, to plain, not plain", rewrap, wrap_padded, 17, 8, LONGEST,
      KEYWRAP_OLD_PADDED | KEYWRAP_PASS_NEW, KEYWRAP_KEY_NOT_PLAIN},
-    {"keywrap_rewrap, padded", rewrap, wrap_padded, 1, 1, LONGEST,
-     KEYWRAP_OLD_PADDED | KEYWRAP_NEW_PADDED, 0},
-    {"keywrap_rewrap, plain and kept", rewrap, wrap, 16, 8, LONGEST, KEYWRAP_KEEP_FORM, 0},
-    {"keywrap_rewrap, padded and kept", rewrap, wrap_padded, 1, 1, LONGEST, KEYWRAP_KEEP_FORM, 0},
-    {"keywrap_rewrap, plain and new", rewrap, wrap_new, 16, 8, LONGEST, KEYWRAP_PASS_NEW, 0},
-    {"keywrap_rewrap, padded and new", rewrap, wrap_new_padded, 1, 1, LONGEST,
-     KEYWRAP_KEEP_FORM | KEYWRAP_PASS_NEW, 0},
-    {"keywrap_wrap_many", wrap_many, NULL, 16, 8, LONGEST, 0, 0},
-    {"keywrap_wrap_many, padded", wrap_many, NULL, 1, 1, LONGEST, KEYWRAP_NEW_PADDED, 0},
-    {"keywrap_unwrap_many", unwrap_many, wrap, 16, 8, LONGEST, 0, 0},
-    {"keywrap_unwrap_many, padded", unwrap_many, wrap_padded, 1, 1, LONGEST, KEYWRAP_OLD_PADDED,
-     0},
-    {"keywrap_kind_many", kind_many, wrap, 16, 8, LONGEST, 0, 0},
-    {"keywrap_kind_many, padded", kind_many, wrap_padded, 1, 1, LONGEST, 0, 0},
-    {"keywrap_rewrap_many", rewrap_many, wrap, 16, 8, LONGEST, 0, 0},
-    {"keywrap_rewrap_many, to plain", rewrap_many, wrap_padded, 16, 8, LONGEST,
-     KEYWRAP_OLD_PADDED, 0},
-    {"keywrap_rewrap_many, padded", rewrap_many, wrap_padded, 1, 1, LONGEST,
-     KEYWRAP_OLD_PADDED | KEYWRAP_NEW_PADDED, 0},
-    {"keywrap_rewrap_many, padded and kept", rewrap_many, wrap_padded, 1, 1, LONGEST,
-     KEYWRAP_KEEP_FORM, 0},
-    {"keywrap_rewrap_many, plain and new", rewrap_many, wrap_new, 16, 8, LONGEST,
-     KEYWRAP_KEEP_FORM | KEYWRAP_PASS_NEW, 0},
+    {"keywrap_rewrap, padded", rewrap, wrap_padded, PADDED, BOTH_PADDED, 0},
+    {"keywrap_rewrap, plain and kept", rewrap, wrap, PLAIN, KEYWRAP_KEEP_FORM, 0},
+    {"keywrap_rewrap, padded and kept", rewrap, wrap_padded, PADDED, KEYWRAP_KEEP_FORM, 0},
+    {"keywrap_rewrap, plain and new", rewrap, wrap_new, PLAIN, KEYWRAP_PASS_NEW, 0},
+    {"keywrap_rewrap, padded and new", rewrap, wrap_new_padded, PADDED, KEYWRAP_KEEP_FORM | KEYWRAP_PASS_NEW, 0},
+    {"keywrap_wrap_many", wrap_many, NULL, PLAIN, 0, 0},
+    {"keywrap_wrap_many, padded", wrap_many, NULL, PADDED, KEYWRAP_NEW_PADDED, 0},
+    {"keywrap_unwrap_many", unwrap_many, wrap, PLAIN, 0, 0},
+    {"keywrap_unwrap_many, padded", unwrap_many, wrap_padded, PADDED, KEYWRAP_OLD_PADDED, 0},
+    {"keywrap_kind_many", kind_many, wrap, PLAIN, 0, 0},
+    {"keywrap_kind_many, padded", kind_many, wrap_padded, PADDED, 0, 0},
+    {"keywrap_rewrap_many", rewrap_many, wrap, PLAIN, 0, 0},
+    {"keywrap_rewrap_many, to plain", rewrap_many, wrap_padded, PLAIN, KEYWRAP_OLD_PADDED, 0},
+    {"keywrap_rewrap_many, padded", rewrap_many, wrap_padded, PADDED, BOTH_PADDED, 0},
+    {"keywrap_rewrap_many, padded and kept", rewrap_many, wrap_padded, PADDED, KEYWRAP_KEEP_FORM, 0},
+    {"keywrap_rewrap_many, plain and new", rewrap_many, wrap_new, PLAIN, KEYWRAP_KEEP_FORM | KEYWRAP_PASS_NEW, 0},
     {"tables", tables, NULL, 16, 8, 48, 0, 0},
 };
 

@@ -34,13 +34,9 @@ static const struct {
     {"not_plain", KEYWRAP_KEY_NOT_PLAIN},
 };
 
-static void wrap_short(void) {
-    status = keywrap_wrap_padded(kek, kek_len, key, 8, out, 16);
-}
-
-static void wrap_short_in_place(void) {
-    status = keywrap_wrap_padded_in_place(kek, kek_len, out, 16, 8);
-}
+CALL(wrap_short, keywrap_wrap_padded(kek, kek_len, key, 8, out, 16))
+CALL(wrap_short_in_place, keywrap_wrap_padded_in_place(kek, kek_len, out, 16, 8))
+CALL(self_test, keywrap_self_test())
 
 /* With a text under the old KEK beside it: the steps of the two are made apart. */
 static void rewrap_two(void) {
@@ -60,16 +56,11 @@ static void kind_two(void) {
     if (statuses[1] != KEYWRAP_OK) status = KEYWRAP_INTEGRITY;
 }
 
-static void self_test(void) {
-    status = keywrap_self_test();
-}
-
 /* The calls, which one makes the text that is taken, the flags, and the ways. */
 enum {
     WRAPS = 1 << DONE | 1 << BAD_KEK | 1 << SHORT,
     UNWRAPS = WRAPS | 1 << DAMAGED,
-    REWRAPS = UNWRAPS | 1 << BAD_NEW_KEK | 1 << BAD_FLAGS,
-    BOTH_PADDED = KEYWRAP_OLD_PADDED | KEYWRAP_NEW_PADDED
+    REWRAPS = UNWRAPS | 1 << BAD_NEW_KEK | 1 << BAD_FLAGS
 };
 
 static const struct watched {
@@ -96,8 +87,7 @@ static const struct watched {
     {"unwrap_any,padded", unwrap_any, wrap_padded, 0, UNWRAPS},
     {"rewrap_in_place,plain", rewrap_in_place, wrap, 0, REWRAPS},
     {"rewrap_in_place,to_padded", rewrap_in_place, wrap, KEYWRAP_NEW_PADDED, REWRAPS},
-    {"rewrap_in_place,to_plain", rewrap_in_place, wrap_padded, KEYWRAP_OLD_PADDED,
-     REWRAPS | 1 << BAD_KEY},
+    {"rewrap_in_place,to_plain", rewrap_in_place, wrap_padded, KEYWRAP_OLD_PADDED, REWRAPS | 1 << BAD_KEY},
     {"rewrap_in_place,padded", rewrap_in_place, wrap_padded, BOTH_PADDED, REWRAPS},
     {"rewrap,plain", rewrap, wrap, 0, REWRAPS},
     {"rewrap,to_plain", rewrap, wrap_padded, KEYWRAP_OLD_PADDED, REWRAPS | 1 << NOT_PLAIN},
@@ -112,8 +102,7 @@ static const struct watched {
     {"kind_many,padded", kind_many, wrap_padded, 0, UNWRAPS},
     {"kind_many,two", kind_two, wrap, 0, 1 << DONE},
     {"rewrap_many,plain", rewrap_many, wrap, 0, REWRAPS},
-    {"rewrap_many,to_plain", rewrap_many, wrap_padded, KEYWRAP_OLD_PADDED,
-     REWRAPS | 1 << NOT_PLAIN},
+    {"rewrap_many,to_plain", rewrap_many, wrap_padded, KEYWRAP_OLD_PADDED, REWRAPS | 1 << NOT_PLAIN},
     {"rewrap_many,keep_padded", rewrap_many, wrap_padded, KEYWRAP_KEEP_FORM, REWRAPS},
     {"rewrap_many,pass_new", rewrap_many, wrap_new, KEYWRAP_PASS_NEW, REWRAPS},
     {"rewrap_many,apart", rewrap_two, wrap_new, KEYWRAP_PASS_NEW, 1 << DONE},
