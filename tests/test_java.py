@@ -72,7 +72,7 @@ def test_self_test(java, tmp_path):
     """There is no provider over a library that computes something else."""
     for name in "keywrap.c", "keywrap.h", "keywrap_steps.h":
         shutil.copy(ROOT / "dist" / name, tmp_path)
-    plant(ROOT / "tests/portable/bugs/rotation-to-the-other-side.edit", tmp_path)
+    plant("portable", "rotation-to-the-other-side", tmp_path)
     run("cc", "-std=c99", "-O1", "-shared", "-fPIC", "-DKEYWRAP_NO_AES_INSTRUCTIONS", tmp_path / "keywrap.c", "-o",
         tmp_path / "wrong.so")
     with pytest.raises(AssertionError, match="the self test of the library failed"):

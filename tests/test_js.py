@@ -20,6 +20,14 @@ PAGE = (ROOT / "js/README.md").read_text()
 FILES = "README.md calls.js example.html inline.js keywrap.d.ts keywrap.js keywrap.wasm module.js package.json"
 # The syntax of these hosts is the oldest that the package supports.
 HOSTS = "chrome85,firefox79,safari15,node16"
+ENTRY = "import {{ load }} from '{}'; import {{ offer }} from './bundle.mjs';"
+# Each bundle: its format, the package, and the rest of its entry.
+BUNDLES = {
+    "beside.mjs": ("esm", "keywrap", "offer('beside', load);"),
+    # The module's bytes are in it, so it need not be an ES module.
+    "inside.js": ("iife", "keywrap", "import module from 'keywrap/keywrap.wasm'; offer('inside', () => load(module));"),
+    "alone/bundle.js": ("iife", "keywrap/inline", "offer('alone', load);"),
+}
 
 
 def tables(kept="rows"):
@@ -49,19 +57,16 @@ def package(programs):
 
 @pytest.fixture(scope="session")
 def bundles(once, programs):
-    """As a packager makes them: the module beside the program, in it, and in a file alone."""
+    """As a packager makes them."""
     need("esbuild")
 
     def build(directory):
-        def bundled(entry, output, *options):
-            return subprocess.run(
-                ["esbuild", f"bundle/{entry}", "--bundle", "--minify", f"--outfile={directory}/{output}",
-                 "--log-level=warning", *options], cwd=programs, check=True, capture_output=True, text=True).stderr
-
-        bundled("beside.mjs", "beside.mjs", "--format=esm")
+        for name, (form, package, rest) in BUNDLES.items():
+            options = ["--bundle", "--minify", "--log-level=warning", f"--format={form}", "--loader:.wasm=binary"]
+            ended = subprocess.run(["esbuild", *options, f"--outfile={directory}/{name}"], cwd=programs, check=True,
+                                   input=ENTRY.format(package) + rest, capture_output=True, text=True)
+            assert ended.stderr == "" or package == "keywrap"
         shutil.copy(programs / "node_modules/keywrap/keywrap.wasm", directory)
-        bundled("inside.mjs", "inside.js", "--format=iife", "--loader:.wasm=binary")
-        assert bundled("alone.mjs", "alone/bundle.js", "--format=iife") == ""
 
     return once("js-bundles", build)
 

@@ -71,15 +71,8 @@ final class Library {
     private static final class Arguments implements AutoCloseable {
         private final Memory memory;
         private int used = Native.SIZE_T_SIZE;
-        final Size kekLength;
-        final Size length;
-        final Size room;
-        final Pointer keyLength;
-        final Pointer kek;
-        final Pointer iv;
-        final Size ivLength;
-        final Pointer input;
-        final Pointer output;
+        final Pointer kek, iv, input, output, keyLength;
+        final Size kekLength, ivLength, length, room;
 
         Arguments(byte[] kek, byte[] iv, byte[] input, int length, int room) {
             memory = new Memory((long) used + kek.length + iv.length + length + room);

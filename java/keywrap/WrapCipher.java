@@ -89,7 +89,9 @@ final class WrapCipher extends CipherSpi {
 
     @Override
     protected void engineInit(int mode, Key key, SecureRandom random) throws InvalidKeyException {
-        begin(mode, key);
+        forget();
+        wraps = mode == Cipher.ENCRYPT_MODE || mode == Cipher.WRAP_MODE;
+        kek = kekOf(key);
         iv = (padded ? OF_PADDED : OF_PLAIN).clone();
     }
 
@@ -122,12 +124,6 @@ final class WrapCipher extends CipherSpi {
             forget();
             throw new InvalidAlgorithmParameterException(e);
         }
-    }
-
-    private void begin(int mode, Key key) throws InvalidKeyException {
-        forget();
-        wraps = mode == Cipher.ENCRYPT_MODE || mode == Cipher.WRAP_MODE;
-        kek = kekOf(key);
     }
 
     private void forget() {

@@ -1,4 +1,4 @@
-// The bundles that esbuild made of the entries in bundle/ load the module, in Node and in a page: one
+// The bundles that esbuild made of the entries in test_js.py load the module, in Node and in a page: one
 // finds keywrap.wasm beside it, the others have its bytes in them. The bundle of keywrap/inline is the
 // only file that its host has.
 

@@ -21,9 +21,9 @@ export const inOtherRealm = (given) => runInNewContext('Uint8Array.from(given)',
 
 // The bundles in the directory that the command line names, each as a call that wraps and unwraps.
 export async function readBundles() {
-    const from = (name) => import(pathToFileURL(resolve(process.argv[2], name)));
-    await from('inside.js');
-    return { beside: (await from('beside.mjs')).beside, inside: globalThis.inside };
+    await import(pathToFileURL(resolve(process.argv[2], 'beside.mjs')));
+    await import(pathToFileURL(resolve(process.argv[2], 'inside.js')));
+    return { beside: globalThis.beside, inside: globalThis.inside };
 }
 
 // The result of the bundle of keywrap/inline in a process that has only this file, and no network.

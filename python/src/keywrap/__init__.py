@@ -28,27 +28,9 @@ if TYPE_CHECKING:
     from _typeshed import ReadableBuffer
 
 __all__ = [
-    "BadInitialValue",
-    "BadKekLength",
-    "BadLength",
-    "IntegrityFailed",
-    "Kek",
-    "KeyNotPlain",
-    "KeywrapError",
-    "Kind",
-    "check",
-    "check_many",
-    "check_with_length",
-    "rewrap",
-    "rewrap_many",
-    "self_test",
-    "unwrap",
-    "unwrap_any",
-    "unwrap_many",
-    "unwrap_padded",
-    "wrap",
-    "wrap_many",
-    "wrap_padded",
+    "BadInitialValue", "BadKekLength", "BadLength", "IntegrityFailed", "Kek", "KeyNotPlain", "KeywrapError",
+    "Kind", "check", "check_many", "check_with_length", "rewrap", "rewrap_many", "self_test", "unwrap",
+    "unwrap_any", "unwrap_many", "unwrap_padded", "wrap", "wrap_many", "wrap_padded",
 ]
 
 for _refusal in (KeywrapError, BadInitialValue, BadKekLength, BadLength, KeyNotPlain, IntegrityFailed):

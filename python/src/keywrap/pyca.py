@@ -20,13 +20,8 @@ if TYPE_CHECKING:
     from _typeshed import ReadableBuffer
 
 __all__ = [
-    "InvalidUnwrap",
-    "aes_key_unwrap",
-    "aes_key_unwrap_with_padding",
-    "aes_key_wrap",
-    "aes_key_wrap_with_padding",
-    "install",
-    "uninstall",
+    "InvalidUnwrap", "aes_key_unwrap", "aes_key_unwrap_with_padding", "aes_key_wrap",
+    "aes_key_wrap_with_padding", "install", "uninstall",
 ]
 
 

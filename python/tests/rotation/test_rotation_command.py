@@ -298,7 +298,7 @@ class TestRecord:
         (5, lambda lines: [re.sub('"digest": "..', '"digest": "00', lines[0]), *lines[1:]]),
         (2, lambda lines: lines[:-1]), (2, lambda lines: [*lines[:-1], lines[-1].replace('"status": 0', '"status": 00')]),
         (2, lambda lines: []), (2, lambda lines: ["[" * 100000]), (2, lambda lines: ["[1]\n", *lines]),
-        (0, lambda lines: [*lines[:1], *lines])])
+        (2, lambda lines: [*lines[:-1], '{"status": 0}']), (0, lambda lines: [*lines[:1], *lines])])
     def test_a_record_that_was_changed_is_no_success(self, store, status, change):
         rotate(str(store))
         rotate("--verify", "--record", "record", str(store))

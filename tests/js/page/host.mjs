@@ -21,8 +21,9 @@ export function inOtherRealm(given) {
 
 // The bundles, each as a call that wraps and unwraps.
 export async function readBundles() {
+    await import('/bundles/beside.mjs');
     await import('/bundles/inside.js');
-    return { beside: (await import('/bundles/beside.mjs')).beside, inside: globalThis.inside };
+    return { beside: globalThis.beside, inside: globalThis.inside };
 }
 
 // The result of the bundle of keywrap/inline in a page of a server that has only this file. Its policy

@@ -90,12 +90,12 @@ class Record:
                         self.begin("before")
                     if line.get("digest") is not None:
                         self.add(line["unit"], line["keys"], line["digest"], "before")
-            if line is None or line["status"] != 0:
+            if line is None or line["status"] != 0 or not line["passes"]:  # Version 1.1 wrote no passes.
                 raise ValueError
         except OSError as error:
             raise Failure(f"--verify-record: {name}: {error.strerror}") from None
         except (ValueError, KeyError, TypeError, AttributeError, RecursionError, sqlite3.Error):
-            raise Failure(f"--verify-record: {name}: it is not a whole report of status 0") from None
+            raise Failure(f"--verify-record: {name}: it is not a whole report of status 0, or is of 1.1") from None
 
     def begin(self, table: str = "now") -> None:
         self._database.execute(f"DELETE FROM {table}")
