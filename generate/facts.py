@@ -67,7 +67,7 @@ def calls(*headers):
 
 def export_map():
     """What libkeywrap.so shows: the nodes of 1.1.0, and the calls that came later in the node of their version."""
-    before = read("tests/library/1.1.0/keywrap.map")
+    before = re.sub(r"\s+(keywrap_\w+;)", r"\n        \1", read("tests/library/1.1.0/keywrap.map"))
     later = [call for call in calls(*HEADERS) if f" {call};" not in before]
     shown = "".join(f"        {call};\n" for call in later)
     return f"{before}\nKEYWRAP_1.2 {{\n    global:\n{shown}}} KEYWRAP_1.1;\n"
@@ -187,6 +187,7 @@ def versions():
     for name, form in ("specs/Version.antt", "0x{:x}_{:02x}{:02x}"), ("src/version_number.rt", "0x{:04x}_{:02x}{:02x}"):
         yield f"crates/keywrap_calls/{name}", r"[Tt]he version ([\d.]+),", ".".join(parts)
         yield f"crates/keywrap_calls/{name}", "(0x[0-9a-f_]+)$", form.format(*map(int, parts))
+    yield "crates/keywrap_calls/must-fail/another-version.edit", "^old: (.*)", form.format(*map(int, parts))
 
 
 def results():

@@ -20,10 +20,6 @@ from pathlib import Path
 TOP = Path(__file__).resolve().parent.parent
 CRATES = TOP / "crates"
 PAGE = TOP / "docs" / "TRUST.md"
-BEGIN, END = "<!-- generate/trust.py: begin -->", "<!-- generate/trust.py: end -->"
-HASHES_BEGIN, HASHES_END = "<!-- generate/trust.py --hashes: begin -->", "<!-- generate/trust.py --hashes: end -->"
-
-AXIOMS_BEGIN, AXIOMS_END = "<!-- generate/trust.py --axioms: begin -->", "<!-- generate/trust.py --axioms: end -->"
 
 # The headlines: a name, and the source files whose functions make it, each with the names of these functions if they
 # are not all of the file.
@@ -154,11 +150,12 @@ def main(arguments):
     if arguments[:1] in (["--hashes"], ["--check-hashes"]):
         if (TOP / "VERSION").read_text(encoding="utf-8").strip().endswith("-dev"):
             return 0
-        begin, end, text = HASHES_BEGIN, HASHES_END, hashes(arguments[1])
+        part, text = " --hashes", hashes(arguments[1])
     elif arguments[:1] == ["--axioms"]:
-        begin, end, text = AXIOMS_BEGIN, AXIOMS_END, axioms(arguments[1])
+        part, text = " --axioms", axioms(arguments[1])
     else:
-        begin, end, text = BEGIN, END, tables().strip()
+        part, text = "", tables().strip()
+    begin, end = (f"<!-- generate/trust.py{part}: {edge} -->" for edge in ("begin", "end"))
     head, rest = page.split(begin)
     if arguments[:1] == ["--check-hashes"] and are_listed(text, rest.split(end)[0]):
         return 0
