@@ -35,6 +35,7 @@ LONG = ("test_shell", "test_secrets", "test_hardware", "test_library", "test_arm
 
 def pytest_addoption(parser):
     parser.addoption("--skipped", help="a file for the reasons of what is skipped")
+    parser.addoption("--passed", help="a file for the names of the rows that pass as a whole")
 
 
 def pytest_configure(config):
@@ -54,7 +55,10 @@ def pytest_configure(config):
 
 def pytest_collection_modifyitems(config, items):
     """Shares the long tests out among the processes of pytest-xdist: each first gets a block of the items. The tests of
-    lines of rows.txt, which wait for each other, stay together."""
+    lines of rows.txt, which wait for each other, stay together. KEYWRAP_PASSED=FILE leaves out the rows that it names."""
+    if file := os.environ.get("KEYWRAP_PASSED"):
+        passed = {*pathlib.Path(file).read_text().splitlines()}
+        items[:] = [item for item in items if item.nodeid not in passed]
     processes = int(os.environ.get("PYTEST_XDIST_WORKER_COUNT", "1"))
     block = len(items) // (4 * processes)
     long = [item for item in items if item.path.name.startswith(LONG) and "line" not in item.fixturenames]
@@ -84,6 +88,9 @@ def pytest_unconfigure(config):
     if reporter and not config.getoption("collectonly"):
         passed, failed, errors, skipped = (
             reporter.stats.get(kind, []) for kind in ("passed", "failed", "error", "skipped"))
+        if file := config.getoption("passed"):
+            whole = [report for report in passed if "skipped" not in dict(report.user_properties)]
+            pathlib.Path(file).write_text("".join(f"{report.nodeid}\n" for report in whole))
         passed, failed, reasons = counting.of_reports(passed, failed + errors, skipped)
         named = [f"{reason}\n" for reason in sorted({*reasons} - {SLOW})]
         if file := config.getoption("skipped"):

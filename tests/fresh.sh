@@ -4,8 +4,8 @@
 # without_kit.txt in such a directory without the kit. Whatever this machine cannot do is a failure.
 #
 # usage: KEYWRAP_FRESH=1 tests/fresh.sh [PAGE..]        only these pages, if one is named. Without KEYWRAP_FRESH
-#        nothing is run. KEYWRAP_FRESH=DIRECTORY keeps the minimal Debian, the packages and what was proved there, and
-#        begins with what was kept
+#        nothing is run. KEYWRAP_FRESH=DIRECTORY keeps the minimal Debian, the packages, what was proved there and the
+#        names of the rows that passed, and begins with what was kept
 
 set -u
 # shellcheck source=tests/lib/workdir.sh
@@ -88,7 +88,7 @@ readme() {
     verdict 'README: what is left out is said in one line' "$(tail -n 2 said | grep -E '^.{121}|^SKIPPED')"
     verdict 'README: nothing is written beside the sources' "$(beside_the_sources)"
     [ "$fresh" = "$workdir/fresh" ] ||
-        (cd machine/home/user/keywrap/crates && cp -a --parents -- */out "$fresh/built")
+        (cd machine/home/user/keywrap && cp out/passed "$fresh" && cd crates && cp -a --parents -- */out "$fresh/built")
 }
 [ $# -gt 0 ] || readme
 

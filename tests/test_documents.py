@@ -57,7 +57,8 @@ def test_lines_without_the_kit():
 def test_width():
     """No line outside crates/ and python/ has more than 120 columns, but for data and what a script writes."""
     data = [":!crates", ":!python", ":!*.csv", ":!*.svg", ":!tests/launcher.txt", ":!tests/rows.txt",
-            ":!tests/all_inputs/bugs.txt", ":!tests/library", ":!dist/keywrap.c", ":!dist/command/program.c"]
+            ":!tests/all_inputs/bugs.txt", ":!tests/library", ":!*.edit",
+            ":!dist/keywrap.c", ":!dist/command/program.c"]
     tracked = subprocess.run(["git", "-C", ROOT, "ls-files", "--", ".", *data], capture_output=True, text=True).stdout
     contents = {name: (ROOT / name).read_bytes() for name in tracked.splitlines() if (ROOT / name).exists()}
     assert [name for name, content in contents.items() if b"\0" not in content

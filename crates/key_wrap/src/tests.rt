@@ -1,7 +1,15 @@
-//! The tests: ample and refused memory, counted blocks, and printed faults.
+//! The tests: ample and refused memory, counted blocks, worked answers of each call of
+//! `key_wrap_core` and of `key_wrap_steps` over the drill block, and printed faults.
 
+mod doubles;
 mod growths;
+mod initial_values;
 mod memory;
+mod padded;
+mod plain;
+mod rewraps;
+mod rows;
+mod steps;
 
 use crate::*;
 use std::test::Fail;
@@ -22,5 +30,19 @@ fn faults_print_their_cause(rt: HostRuntime) -> Result<(), Fail> {
     );
     let kinds = format!(in rt.alloc(); "{}", KindFault::Memory)?;
     assert_eq!(rt; kinds.as_str(), "out of memory");
+    let in_place = format!(in rt.alloc();
+        "{}; {}; {}; {}; {}; {}",
+        InPlaceFault::BadLength,
+        InPlaceFault::Integrity,
+        Refusal::BadLength,
+        Refusal::Integrity,
+        Refusal::KeyNotPlain,
+        ReservedIv
+    )?;
+    assert_eq!(rt;
+        in_place.as_str(),
+        "bad length; integrity check failed; bad length; integrity check failed; bad length; \
+         initial value is reserved for the padded form"
+    );
     Ok(())
 }

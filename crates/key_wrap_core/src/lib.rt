@@ -55,6 +55,3 @@ pub use steps::{
     step_registers, unstep_registers,
 };
 pub use unwrapping::{end_any, end_padded, end_plain};
-
-#[cfg(test)]
-mod tests;

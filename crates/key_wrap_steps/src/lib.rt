@@ -15,6 +15,3 @@ pub use unwrap_steps::{
 };
 pub use whole_runs::{whole_rewrap_law, whole_unwrap_law, whole_wrap_law};
 pub use wrap_steps::{begin_wrap, begin_wrap_padded, end_wrap, step_wrap};
-
-#[cfg(test)]
-mod tests;

@@ -13,8 +13,6 @@ mod progress;
 mod protected;
 mod reason;
 mod streams;
-#[cfg(test)]
-mod tests;
 
 pub use file_role::FileRole;
 pub use inspected::{Inspected, Inspection};

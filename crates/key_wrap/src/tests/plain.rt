@@ -1,8 +1,8 @@
 //! The calls of the plain form.
 
 use super::rows::{IV, KEY, NOT_PLAIN, PLAIN, is_cleared, spelled};
-use crate::*;
 use block_pair::{Meter, SwapHalves};
+use key_wrap_core::*;
 use std::test::Fail;
 
 const FOUND: FoundKey = FoundKey {

@@ -1,12 +1,10 @@
 //! Initial values other than the default, over the drill block.
 
+use super::memory::OTHER;
 use super::rows::{KEY, PADDED, is_cleared, spelled};
-use crate::*;
 use block_pair::{Meter, SwapHalves};
+use key_wrap_core::*;
 use std::test::Fail;
-
-/// One that both ends may agree on.
-pub const OTHER: [u8; 8] = *b"\x01\x23\x45\x67\x89\xAB\xCD\xEF";
 
 // Under each value the plain wrapping of the 16-byte key is the value and these two words, which do
 // not depend on it. Besides the default value: the smallest, the largest, only the top bit, and the

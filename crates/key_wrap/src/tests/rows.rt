@@ -1,7 +1,7 @@
 //! Worked answers over the drill block, which anyone can work by hand: At is the register word that
 //! goes in, xored with t, and A(t-1) goes into the last register.
 
-use crate::Kind;
+use key_wrap_core::Kind;
 use std::alloc::{AllocError, Global};
 
 pub const IV: u64 = 0xA6A6_A6A6_A6A6_A6A6;

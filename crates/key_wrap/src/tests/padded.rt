@@ -1,8 +1,8 @@
 //! The calls of the padded form.
 
 use super::rows::{NOT_PADDED, PADDED_KEYS, is_cleared, spelled};
-use crate::*;
 use block_pair::{Meter, SwapHalves};
+use key_wrap_core::*;
 use std::test::Fail;
 
 #[test]

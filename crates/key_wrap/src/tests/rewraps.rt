@@ -4,8 +4,8 @@
 
 use super::doubles::Unchanged;
 use super::rows::{CHANGED, EIGHT, NINE, PADDED, PADDING, PLAIN, SEVEN, spelled};
-use crate::*;
 use block_pair::{Meter, SwapHalves};
+use key_wrap_core::*;
 use std::test::Fail;
 
 // The wrappings of the same keys under the other pair.

@@ -1,40 +1,10 @@
 //! The calls that make one step, around a cipher that is reached through a session, like a token's.
 
-use crate::*;
+use super::rows::{KEY, PADDED_KEYS, PLAIN, spelled};
 use key_wrap_core::{InPlaceFault, InitialValue};
-use std::alloc::{AllocError, Global};
+use key_wrap_steps::*;
+use std::alloc::Global;
 use std::test::Fail;
-
-// A key of 16 bytes, and the words of its plain wrapping, worked by hand.
-const KEY: [u8; 16] = *b"\x00\x11\x22\x33\x44\x55\x66\x77\x88\x99\xAA\xBB\xCC\xDD\xEE\xFF";
-
-const PLAIN: [u64; 3] = [
-    0xA6A6_A6A6_A6A6_A6A6,
-    0x0011_2233_4455_667F,
-    0x8899_AABB_CCDD_EEFB,
-];
-
-// Keys, and the words of their padded wrappings.
-const PADDED_KEYS: [(&[u8], &[u64]); 2] = [
-    (b"ForPasi", &[0x466F_7250_6173_6900, 0xA659_59A6_0000_0007]),
-    (
-        b"\x11\x22\x33\x44\x55\x66\x77\x88\x99",
-        &[
-            0xA659_59A6_0000_0009,
-            0x1122_3344_5566_7780,
-            0x9900_0000_0000_0004,
-        ],
-    ),
-];
-
-// The bytes that words spell.
-fn spelled(alloc: Global, words: &[u64]) -> Result<Vec<u8>, AllocError> {
-    let mut bytes = Vec::new(alloc);
-    for word in words {
-        bytes.extend_from_slice(&word.to_be_bytes())?;
-    }
-    Ok(bytes)
-}
 
 const REFUSED: Result<(), InPlaceFault> = Err(InPlaceFault::BadLength);
 
