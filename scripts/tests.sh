@@ -23,7 +23,7 @@ mkdir -p out && : >out/skipped || exit
 for python in "${PYTHON:-python3}" /usr/bin/python3; do
     "$python" -c 'import pytest' 2>/dev/null || continue
     parallel=() && ! "$python" -c 'import xdist' 2>/dev/null || parallel=(-n "$(nproc)")
-    exec "$python" -m pytest "${parallel[@]}" --skipped out/skipped --passed out/passed "${files[@]}" </dev/null
+    exec "$python" -m pytest "${parallel[@]}" --skipped=out/skipped --passed=out/passed "${files[@]}" </dev/null
 done
 bash tests/lib/tools.sh 'import pytest' 'import xdist' >out/skipped
 printf '%s\n' "the tests need pytest: $(<out/skipped)" '0 passed, 0 failed, 1 skipped'
