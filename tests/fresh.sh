@@ -88,7 +88,7 @@ readme() {
     verdict 'README: what is left out is said in one line' "$(tail -n 2 said | grep -E '^.{121}|^SKIPPED')"
     verdict 'README: nothing is written beside the sources' "$(beside_the_sources)"
     [ "$fresh" = "$workdir/fresh" ] ||
-        (cd machine/home/user/keywrap && cp out/passed "$fresh" && cd crates && cp -a --parents -- */out "$fresh/built")
+        (cd machine/home/user/keywrap && cp out/passed "$fresh"; cd crates && cp -a --parents -- */out "$fresh/built")
 }
 [ $# -gt 0 ] || readme
 

@@ -42,7 +42,7 @@ does() {
 
 ### make test
 
-tests='pytest -n 4 --skipped out/skipped'
+tests='pytest -n 4 --skipped=out/skipped --passed=out/passed'
 of_all="$tests tests/test_command.py tests/test_shell.py"
 fresh
 does 'make test, the first use' 0 '42 passed, 0 failed, 1 skipped' make test -- "${steps[@]}" "$of_all"
@@ -50,7 +50,7 @@ does 'one file' 0 '42 passed, 0 failed, 1 skipped' scripts/tests.sh command -- "
 does 'one script' 0 '42 passed, 0 failed, 1 skipped' scripts/tests.sh tests/make.sh -- \
     "$tests tests/test_shell.py::test_rows[make]"
 lacks=xdist does 'without pytest-xdist' 0 '42 passed, 0 failed, 1 skipped' scripts/tests.sh command -- \
-    'pytest --skipped out/skipped tests/test_command.py'
+    'pytest --skipped=out/skipped --passed=out/passed tests/test_command.py'
 counts='41 passed, 1 failed, 0 skipped' test_status=1 does 'a row that fails' 2 '41 passed, 1 failed, 0 skipped' \
     make test -- "$of_all"
 fresh
