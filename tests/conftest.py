@@ -55,7 +55,7 @@ def pytest_configure(config):
 
 def pytest_collection_modifyitems(config, items):
     """Shares the long tests out among the processes of pytest-xdist: each first gets a block of the items. The tests of
-    lines of rows.txt, which wait for each other, stay together. KEYWRAP_PASSED=FILE leaves out the rows that it names."""
+    lines of rows.txt, which wait for each other, stay together. KEYWRAP_PASSED=FILE leaves out what it names."""
     if file := os.environ.get("KEYWRAP_PASSED"):
         passed = {*pathlib.Path(file).read_text().splitlines()}
         items[:] = [item for item in items if item.nodeid not in passed]
