@@ -9,4 +9,7 @@ fn main() {
     for file in ["keywrap.c", "keywrap.h", "keywrap_steps.h"] {
         println!("cargo:rerun-if-changed={}", file);
     }
+    for name in ["CC", "CFLAGS"] {
+        println!("cargo:rerun-if-env-changed={}", name);
+    }
 }

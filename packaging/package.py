@@ -59,7 +59,9 @@ def with_links(text, names=()):
 def documents(directory, machine, readme, *paths):
     directory = pathlib.Path(directory)
     directory.mkdir(parents=True, exist_ok=True)
-    text = pathlib.Path("packaging/templates", f"{readme}.in").read_text()
+    templates = pathlib.Path("packaging/templates")
+    lines = "    bin/keywrap" + (templates / "README.in").read_text().partition("    bin/keywrap")[2]
+    text = (templates / f"{readme}.in").read_text().replace("@LINES@", lines)
     shared = f"libkeywrap.so.{VERSION.replace('-', '~')}"
     for name, value in ("VERSION", VERSION), ("SHARED", shared), ("PROCESSORS", PROCESSORS[machine]), (
             "MACHINE", machine.replace("_", "-")):
@@ -107,6 +109,8 @@ def files(name, file, *sources):
         workdir = pathlib.Path(workdir, name)
         workdir.mkdir()
         subprocess.run(["cp", "-R", *sources, workdir], check=True)
+        for page in workdir.rglob("*.md"):
+            page.write_text(with_links(page.read_text()))
         pack(workdir, file)
 
 

@@ -44,5 +44,6 @@ setup(
     cffi_modules=["build_ffi.py:ffi"],
     scripts=["keywrap"],
     cmdclass={"build_py": BuildModules, "build_scripts": BuildCommand},
-    options={"bdist_wheel": {"py_limited_api": "cp39"}},
+    # What an earlier build left may have other flags.
+    options={"bdist_wheel": {"py_limited_api": "cp39"}, "build_ext": {"force": True}},
 )

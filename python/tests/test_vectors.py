@@ -116,6 +116,8 @@ class TestCommand:
 
     def test_usage(self):
         assert self.command()[:2] == (2, "")
+        assert self.command(file='{"algorithm": "KW", "testGroups": []}') == (
+            2, "", "keywrap.vectors: file: no cases\n")
         ended = subprocess.run([sys.executable, "-m", "keywrap.vectors", "missing"], capture_output=True)
         assert (ended.returncode, ended.stdout) == (6, b"")
         ended = subprocess.run([sys.executable, "-m", "keywrap.vectors", "--help"], capture_output=True)

@@ -113,7 +113,7 @@ def main(args):
     lines.append(f'look-ups in tables: {", ".join(sorted(looking)) or "none"}')
     lines += [f'branch on input bytes at {place}: {", ".join(sorted(places[place]))}' for place in sorted(places)]
     print('\n'.join(textwrap.fill(line, 118, subsequent_indent='    ', break_long_words=False) for line in lines))
-    return int(bad > 0)
+    return int(bad > 0) if todo else 2
 
 
 if __name__ == '__main__':

@@ -13,7 +13,9 @@ import pytest
 from rotation_help import KEK, wrapped_under
 
 ROOT = pathlib.Path(__file__).resolve().parents[3]
-PAGE = (ROOT / "docs/ROTATION.md").read_text(encoding="utf-8")
+# The source distribution has the page in the package.
+PAGES = [ROOT / "docs/ROTATION.md", pathlib.Path(__file__).parents[2] / "src/keywrap/rotation/ROTATION.md"]
+PAGE = next(page for page in PAGES if page.exists()).read_text(encoding="utf-8")
 SECTIONS = PAGE.split("\n## ")
 PROGRAM = os.environ.get("KEYWRAP") or str(ROOT / "crates/keywrap/out/keywrap")
 
@@ -145,11 +147,16 @@ def test_the_page_is_short_and_its_recipes_run():
     assert len(PAGE.split()) <= 1700 and {recipe.id for recipe in recipes()} == {*STORES_OF_RECIPES}
 
 
-@pytest.mark.parametrize("change, said", [("", "under no KEK of this rotation"), ("!", "")])
-def test_a_refused_member_of_a_secret(tmp_path, change, said):
-    """A wrong key, and one with a stray character: the file is as it was. No terminal obeys the name."""
-    ours, other = (base64.b64encode(key).decode() for key in (wrapped_under(KEK, bytes(16)), bytes(40)))
-    secret = {"data": {"ours": ours, "other\x1b": change + other}}
+OURS, OTHER = (base64.b64encode(key).decode() for key in (wrapped_under(KEK, bytes(16)), bytes(40)))
+
+
+@pytest.mark.parametrize("data, said", [
+    ({"ours": OURS, "other\x1b": OTHER}, "under no KEK of this rotation"),
+    ({"ours": OURS, "other\x1b": f"!{OTHER}"}, ""),
+    ({}, "it has no data")])
+def test_a_refused_secret(tmp_path, data, said):
+    """A wrong key, one with a stray character, and none: the file is as it was. No terminal obeys the name."""
+    secret = {"data": data}
     file = tmp_path / "secret.json"
     file.write_text(json.dumps(secret))
     command = [sys.executable, "-m", "keywrap.rotation.kubernetes_secret", file]

@@ -13,6 +13,8 @@ def main(path: str) -> None:
     with open(path, "rb") as file:
         old = file.read()
     secret = json.loads(old)
+    if not secret.get("data"):
+        raise ValueError("it has no data")
     keys = {name: base64.b64decode(key, validate=True) for name, key in secret["data"].items()}
     secret["data"] = {name: base64.b64encode(key).decode() for name, key in rewrap_all(keys, challenges()).items()}
     replace(path, json.dumps(secret, indent=2, ensure_ascii=False).encode() + b"\n", old_bytes=old)

@@ -16,7 +16,7 @@ from .keys import Notation
 from .listing import Names
 
 DESCRIPTION = """Rewraps the keys of a store from the KEK to the new KEK. By default a FILE has one key on each line, in
-hex; a directory means all files below it. The page docs/ROTATION.md has examples."""
+hex; a directory means all files below it. The page ROTATION.md has examples."""
 EPILOG = """Status: 0 a whole pass, which began after the last change, listed the store anew, found a key, and read
 every key under the new KEK (an empty shard is 0, too); 2 arguments; 3 a machine lacks the KEKs; 4 the report cannot be
 written; 5 keys or files were refused, or there is no key; 6 not finished: run it again; 130 interrupted. A file that is
