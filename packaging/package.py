@@ -128,7 +128,8 @@ def debian(name, directory):
         subprocess.run(["generate/completions.py", *(tree / "completions" / name for name in names)], check=True)
         shutil.copy("dist/Makefile", tree)
         shutil.copy("command/man/keywrap.1", tree)
-        (tree / "SECURITY.md").write_text(with_links(pathlib.Path("SECURITY.md").read_text()))
+        for page in "SECURITY.md", "CHANGELOG.md":
+            (tree / page).write_text(with_links(pathlib.Path(page).read_text()))
         for path in [tree, *tree.rglob("*")]:
             path.chmod(0o755 if path.is_dir() or path.name == "rules" else 0o644)
         subprocess.run(["dpkg-source", "-b", tree], cwd=directory, check=True, stdout=subprocess.DEVNULL)
