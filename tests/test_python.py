@@ -86,11 +86,15 @@ def installed(once, wheel, python):
 @pytest.mark.parametrize("address", ["./python", pytest.param("git+file://$PWD#subdirectory=python", marks=evidence)])
 def test_from_a_clone(address):
     """pip installs the package over portable C, without the kit and without a network, from the directory or by its
-    address; help() names the modules, and the rotation's page is there. What it leaves in the sources is ignored."""
+    address; help() names the modules, and the rotation's page is there. What it leaves in the sources is ignored, also
+    by an install with other flags."""
     run("git", "clone", "-q", ROOT, "clone")
     lines = [line.replace("./python", f'"{address}"') for line in LINES[:3]]
     more = ("env/bin/python3 -c 'import keywrap; help(keywrap)'",
-            "diff env/lib/python3*/site-packages/keywrap/rotation/ROTATION.md docs", "git status --short")
+            "diff env/lib/python3*/site-packages/keywrap/rotation/ROTATION.md docs",
+            f"CPPFLAGS=-DKEYWRAP_NO_AES_INSTRUCTIONS {lines[1]}",
+            '[ -z "$(objdump -d env/lib/python3*/site-packages/keywrap/_ffi*.so | grep aesenc)" ]',
+            "git status --short")
     said = run(*alone([*lines, *more], HOME=os.getcwd()), cwd="clone")
     assert "b595a1c0afbe7a89ce43807cb3b2ba5737ff5d71d0a35cd7\n" in said
     assert all(f"keywrap.{name}" in said for name in ("steps", "pyca", "rotate", "vectors"))

@@ -136,6 +136,9 @@ class TestPage:
                  "KEYWRAP": os.path.abspath("clone/dist"), "REPOSITORY": f"file://{os.path.abspath('clone')}"}
         said = run(*alone([line, "cargo build", "cargo run --offline"], **given), cwd="program")
         assert said == "done\n"
+        # Other flags compile keywrap.c again.
+        output, = pathlib.Path("out").glob("*/build/keywrap-*/output")
+        assert "cargo:rerun-if-env-changed=CFLAGS\n" in output.read_text()
 
     def test_version(self):
         """RUST.md and Cargo.toml have the same oldest Rust."""
