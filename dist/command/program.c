@@ -1,7 +1,7 @@
 /* The program keywrap, version 1.2.0-dev, translated to C from the module of the proved program.
  * `make dist-sources` of the repository writes this file; do not edit it.
  * By Rattle rattle-kit-13f logic dac8208d650f15bf, binaryen 108.
- * Of the sources 85f0fca6c249e409496bc350592f960b66412d48ec4be79e0f3afd446e64e2b1.
+ * Of the sources 8038b5fd7bc3e408829241e7f6fe2fa4bc0f722b4e80ec313be136127d0cecd6.
  * docs/TRUST.md of the repository says what is proved, what is translated and what is trusted. */
 
 #include "module.h"
