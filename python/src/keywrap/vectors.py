@@ -54,8 +54,8 @@ def _files(names: List[str]) -> Iterator[Tuple[str, Union[Cavp, Acvp, Wycheproof
             raise NotOffered(f"{name}: {refusal}") from None
         except (ValueError, KeyError, IndexError, TypeError):
             raise NotOffered(f"{name}: not a file of vectors") from None
-    for name, file in found:
-        if not file.cases:
+    for name, vectors in found:
+        if not vectors.cases:
             raise NotOffered(f"{name}: no cases")
     yield from found
 
