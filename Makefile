@@ -29,7 +29,7 @@ make sdist              packs the Python package with portable C, for pip to bui
 make dist-sources       writes dist/, from which everyone builds without the kit: C and WebAssembly (10 minutes)
 make test               runs the tests of the built command and the libraries (5 minutes); with KEYWRAP_ALL=1 all (60)
 make packages           installs the packages that the tests use: tests/packages.txt (5 minutes)
-make gate               make proofs: rt ci proves all from nothing and tries each edit; then make test-all (2 hours)
+make gate               make proofs: rt ci proves all from nothing and tries edits; then make test-all (2 hours)
 make evidence           runs what takes too long for the gate, and writes docs/evidence, before a release (hours)
 make install            installs the two below, under $$(DESTDIR)$$(prefix), with their documents (of what is built: 1
                         second each)

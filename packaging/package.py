@@ -61,7 +61,7 @@ def documents(directory, machine, readme, *paths):
     directory.mkdir(parents=True, exist_ok=True)
     templates = pathlib.Path("packaging/templates")
     lines = "    bin/keywrap" + (templates / "README.in").read_text().partition("    bin/keywrap")[2]
-    text = (templates / f"{readme}.in").read_text().replace("@LINES@", lines)
+    text = (templates / f"{readme}.in").read_text().replace("@LINES@\n", lines)
     shared = f"libkeywrap.so.{VERSION.replace('-', '~')}"
     for name, value in ("VERSION", VERSION), ("SHARED", shared), ("PROCESSORS", PROCESSORS[machine]), (
             "MACHINE", machine.replace("_", "-")):

@@ -65,6 +65,24 @@ def test_width():
             and max(map(len, content.decode().splitlines()), default=0) > 120] == ["crates.txt"]
 
 
+def test_edits_fit():
+    """Each text that a must-fail edit replaces stands once in its file. rt ci would only say that the edit is bad."""
+    crates = {edit: edit.parents[1] for edit in ROOT.glob("crates/*/must-fail/*.edit")}
+    crates |= {edit: ROOT / "crates" / edit.parent.name for edit in ROOT.glob("tests/edits/*/*.edit")}
+    for edit, crate in crates.items():
+        texts = {}
+        for kind, value in re.findall(r"^(file|old|new): ?(.*)$", edit.read_text(), re.M):
+            if kind == "file":
+                path = crate / value
+                texts.setdefault(path, path.read_text())
+            elif kind == "old":
+                old = value
+                assert texts[path].count(old) == 1, edit
+            else:
+                texts[path] = texts[path].replace(old, value)
+    assert crates
+
+
 def test_width_of_rattle():
     """Without imports and attributes, which `rt fmt` leaves on one line, and the first line of whole_rewrap_law."""
     for pattern, most in ("src/**/*.rt", 110), ("specs/**/*.antt", 190):
