@@ -172,8 +172,11 @@ def test_status_of_a_list_with_a_refusal(tmp_path, monkeypatch):
 
 
 def test_refuses_other_objects(tmp_path):
-    """A file that is not an object, and a call that is not one, are errors."""
+    """A file that is no object, a call that is none and numbers that no list or call has are wrong arguments: no
+    status of a refusal."""
     (tmp_path / "text").write_text("no object")
-    for words in [[tmp_path / "text"], [MODULE, "encrypt", "16"], []]:
-        ended = subprocess.run([sys.executable, "-B", CHECKER / "check.py", *words], capture_output=True)
-        assert ended.returncode != 0, words
+    for words in [[tmp_path / "text"], [tmp_path / "none"], [MODULE, *"encrypt 16".split()], [MODULE, "wrap", "16"],
+                  [MODULE, *"wrap 16 16 16 16 16".split()], [MODULE, "wrap", "16", "x"], [MODULE, *"short 1 1".split()],
+                  [MODULE, "short", "x"], []]:
+        ended = subprocess.run([sys.executable, "-B", CHECKER / "check.py", *words], capture_output=True, text=True)
+        assert (ended.returncode, ended.stdout) == (2, "") and "Traceback" not in ended.stderr, words

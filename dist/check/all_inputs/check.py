@@ -13,6 +13,7 @@ import multiprocessing
 import sys
 import textwrap
 import time
+from pathlib import Path
 
 import lists
 import wasm
@@ -46,8 +47,7 @@ def show_all(name, calls):
 def load(path):
     """Returns the module, and keeps it for the calls of this process."""
     global module, as_loaded, as_used
-    with open(path, 'rb') as file:
-        is_wasm = file.read(4) == b'\0asm'
+    is_wasm = Path(path).read_bytes()[:4] == b'\0asm'
     module = (wasm if is_wasm else x86).Module(path)
     as_loaded = as_used = module.variables
     if as_loaded:       # a call may find the variables as another call has left them
@@ -71,20 +71,27 @@ def tried(todo):
 
 def main(args):
     which = args[1] if len(args) > 1 else 'short'
-    if not args or which not in lists.LISTS and which not in CALLS:
+    try:
+        numbers = [int(word) for word in args[2:]]
+        fit = len(numbers) < 2 if which in lists.LISTS else inspect.signature(CALLS[which]).bind(None, *numbers)
+    except (KeyError, TypeError, ValueError):
+        fit = False
+    if not args or not fit:
         print(__doc__, file=sys.stderr)
         return 2
-    exported, numbers = load(args[0]), [int(n) for n in args[2:]]
-    with open(args[0], 'rb') as file:
-        print(f'{hashlib.sha256(file.read()).hexdigest()}  {args[0].rsplit("/", 1)[-1]}')
+    try:
+        exported = load(args[0])
+    except Exception as error:      # the file is another one than this program knows
+        print(f'{args[0]}: {error}', file=sys.stderr)
+        return 2
+    print(f'{hashlib.sha256(Path(args[0]).read_bytes()).hexdigest()}  {Path(args[0]).name}')
     listed = list(dict.fromkeys(lists.LISTS[which]())) if which in lists.LISTS else [(which, *numbers)]
     beside = listed if which in CALLS else list(lists.short_list()) if which == 'full' else []
     missing = sorted({name for name, *_ in listed if not is_exported(exported, name)})
     todo = [(call, gap) for gap, calls in ((16, listed), (0, beside)) for call in calls if call[0] not in missing]
     processes = numbers[0] if which in lists.LISTS and numbers else 1
-    if processes > 1:
-        pool = multiprocessing.Pool(processes, load, args[:1])
-    made = pool.imap(tried, todo) if processes > 1 else map(tried, todo)
+    pool = multiprocessing.Pool(processes, load, args[:1]) if processes > 1 else None
+    made = pool.imap(tried, todo) if pool else map(tried, todo)
     seconds, bad, places, passed, looking = 0, 0, {}, {}, set()
     for i, ((name, *numbers), gap) in enumerate(todo, 1):
         line = f'[{i}/{len(todo)}] {show(name, numbers)}' + ' side by side' * (gap == 0)
@@ -108,8 +115,7 @@ def main(args):
     paths = sum(paths for calls in passed.values() for _, paths in calls)
     lines = [f'{len(todo) - bad} of {len(todo)} calls pass, {paths} paths, {seconds:.0f} s of a processor']
     lines += [show_all(name, calls) for name, calls in passed.items()]
-    if missing:
-        lines.append(f'not exported: {", ".join(missing)}')
+    lines += [f'not exported: {", ".join(missing)}'] if missing else []
     lines.append(f'look-ups in tables: {", ".join(sorted(looking)) or "none"}')
     lines += [f'branch on input bytes at {place}: {", ".join(sorted(places[place]))}' for place in sorted(places)]
     print('\n'.join(textwrap.fill(line, 118, subsequent_indent='    ', break_long_words=False) for line in lines))

@@ -76,8 +76,7 @@ def lengths_list(keks, most, most_in_place):
             if n % 8 == 0:
                 yield 'unwrap_padded_in_place', kek, n
             if is_plain_key(n):
-                yield 'wrap_in_place', kek, n
-                yield 'unwrap_in_place', kek, n
+                yield from parsed(f'wrap_in_place {kek} {n},unwrap_in_place {kek} {n}')
 
 
 def kept_list():
@@ -85,8 +84,7 @@ def kept_list():
         yield 'kek_init', kek, kept
     for n in 0, 1, 16, 183, *KEPT, 1000:
         yield 'kek_clear', n
-    for kek in KEPT:
-        yield 'unmarked', kek
+    yield from parsed('unmarked 184,unmarked 216,unmarked 248')
 
 
 def rewraps_list(pairs, texts, flags=FLAGS):
@@ -124,16 +122,14 @@ def many_list(keks, slots, places):
         yield 'rewrap_many', 16, 32, 24, 12, slots, only
     for only in 0, slots - 1:
         yield 'unwrap_many', 32, 24, 1, slots, only
-        for flags in 8, 9:
-            yield 'rewrap_many', 16, 32, 24, flags, slots, only
+        yield from parsed(f'rewrap_many 16 32 24 8 {slots} {only},rewrap_many 16 32 24 9 {slots} {only}')
 
 
 def steps_list(most):
     for n in range(most + 2):
         for iv in 0, 7, 8, 9:
             yield 'begin_wrap', n, iv
-        yield 'begin_unwrap', n, 0
-        yield 'begin_unwrap', n, 1
+        yield from parsed(f'begin_unwrap {n} 0,begin_unwrap {n} 1')
         for left, name in itertools.product((0, 1), ('end_unwrap', 'end_unwrap_padded', 'end_unwrap_any')):
             yield name, n, left
         for key in range(n + 2):
@@ -142,8 +138,7 @@ def steps_list(most):
             for name in 'step_wrap', 'step_unwrap', 'end_wrap':
                 yield name, n, done
     for n, count, lanes in itertools.product((8, 16, 17, 24), (1, 2), (1, 2)):
-        yield 'begin_wrap_many', n, count, lanes
-        yield 'begin_unwrap_many', n, count, lanes
+        yield from parsed(f'begin_wrap_many {n} {count} {lanes},begin_unwrap_many {n} {count} {lanes}')
         for number in range(6 * n // 8 + 2):
             for name in 'step_wrap_many', 'step_unwrap_many', 'end_wrap_many', 'end_unwrap_many':
                 yield name, n, number, count, lanes
@@ -159,8 +154,7 @@ def refusals_list():
             yield name, kek, n
         for text, flags in itertools.product((0, 8, 15, 16, 23), (0, 1, 4, 5, 8, 16)):
             if (kek, n) in ((17, 16), (16, 17)) or n == 16 and text != 16:
-                yield 'rewrap', kek, n, text, flags
-                yield 'rewrap_in_place', kek, n, text, flags
+                yield from parsed(f'rewrap {kek} {n} {text} {flags},rewrap_in_place {kek} {n} {text} {flags}')
     for kek, n, name in itertools.product(KEKS, range(34), FOR_ONE_KEY):
         if n % 8 and not name.startswith('wrap_padded'):
             yield name, kek, n
