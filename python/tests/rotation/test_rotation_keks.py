@@ -89,7 +89,9 @@ class TestKeks:
         assert (done.status, done.printed.split()) == (0, [f"{keks}/kek.challenge", f"{keks}/new-kek.challenge"])
         for kek, name in (KEK, "kek.challenge"), (NEW_KEK, "new-kek.challenge"):
             assert len(pyca.aes_key_unwrap(kek, bytes.fromhex(read(name)[0]))) == 32
-        assert (again := rotated("--make-challenges")) == 3 and again.has("kek.challenge: File exists")
+        made = read("kek.challenge")
+        os.unlink("new-kek.challenge")
+        assert rotated("--make-challenges") == 0 and read("kek.challenge") == made and os.path.exists("new-kek.challenge")
         write_lines("store", hexes(KEK))
         assert rotated("--new-challenge", "new-kek.challenge", "store") == 0
         swapped = ["--new-challenge", "new-kek.challenge", "--kek", "new-kek.hex", "--new-kek", "kek.hex", "store"]
@@ -97,6 +99,18 @@ class TestKeks:
             assert (done := rotated(*words)) == 3 and done.has("the new KEK is not that of --new-challenge")
         assert read("store") == hexes(NEW_KEK)
         assert rotated("--verify", "--new-challenge", "new-kek.challenge", "store") == 0
+
+    @pytest.mark.parametrize("stale", [True, False])
+    def test_challenge_of_an_earlier_rotation_is_refused(self, keks, stale):
+        """And what a killed process left."""
+        assert rotated("--make-challenges") == 0
+        if stale:
+            os.rename("new-kek.hex", "kek.hex")
+            write_lines("new-kek.hex", [bytes(reversed(KEK)).hex()])
+        else:
+            write_lines("kek.challenge", [])
+        assert (done := rotated("--make-challenges")) == 3 and done.printed == ""
+        assert done.has(f"kek.challenge is no challenge of {keks}/kek.hex: remove it")
 
     @pytest.mark.parametrize("other", [(KEK, bytes(32)), (bytes(16), NEW_KEK), (NEW_KEK, KEK)])
     def test_other_keks_than_at_the_beginning(self, keks, monkeypatch, other):

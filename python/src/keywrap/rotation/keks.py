@@ -128,7 +128,8 @@ class Keks(NamedTuple):
         return self._replace(challenge=keywrap.wrap(_digest(rings), os.urandom(32)))
 
     def make_challenges(self) -> Iterator[str]:
-        """Writes a random key, wrapped under each KEK, beside its file, for `keywrap check`. Yields the names."""
+        """Writes a random key, wrapped under each KEK, beside its file, for `keywrap check`. Yields the names. A file
+        that has one stays, and one of another KEK is refused: after a rotation it would be the old KEK's."""
         rings = self.rings()
         keks = {path: kek for name, (old, new) in self.files.items()
                 for path, kek in zip((*old, new), (*(kek for _, kek in rings[name].old), rings[name].new))}  # fmt: skip
@@ -137,6 +138,10 @@ class Keks(NamedTuple):
             try:
                 with open(os.open(name, os.O_WRONLY | os.O_CREAT | os.O_EXCL, 0o600), "w", encoding="ascii") as file:
                     print(keywrap.wrap(kek, os.urandom(32)).hex(), file=file)
+            except FileExistsError:
+                wrapped = _digits(_content(name, "--make-challenges", _TABLE))
+                if wrapped is None or keywrap.check(kek, wrapped) is None:
+                    raise WrongKeks(f"{name} is no challenge of {path}: remove it") from None
             except OSError as error:
                 raise WrongKeks(f"{name}: {error.strerror}") from None
             yield name
