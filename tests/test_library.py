@@ -209,7 +209,8 @@ class TestInstalled:
                 ["cmake", "-S", INSTALLED, "-B", "made", f"-Dasked={version}", f"-Dexample={EXAMPLE}",
                  f"-Dkeywrap_DIR={lib}/cmake/keywrap"], capture_output=True).returncode == 0
 
-        assert not any(map(configured, ["1.99", "2", "1.1.0;EXACT"])) and configured(f"{NUMBER};EXACT")
+        assert not any(map(configured, ["1.99", "2", "1.1.0;EXACT", "1.0...1.1", f"1.0...<{NUMBER}"]))
+        assert configured(f"{NUMBER};EXACT") and configured(f"1.0...{NUMBER}") and configured("1.0...<2")
         assert configured(1 if elsewhere else NUMBER)
         run("cmake", "--build", "made")
         assert WRAPPED24 in run("made/static")
