@@ -79,7 +79,7 @@ class TestDocuments:
     def test_links(self, thing, name):
         """Each link that does not lead to the web leads to a file there, and to its heading."""
         found = []
-        for document in (thing(f"archive of {name}") / "share/doc/keywrap").glob("*.md"):
+        for document in (thing(f"archive of {name}") / "share/doc/keywrap").rglob("*.md"):
             for target in re.findall(r"\]\(([^)]*)\)", document.read_text().replace("\n", " ")):
                 if not target.startswith("https:"):
                     file, _, anchor = target.partition("#")
