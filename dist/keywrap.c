@@ -3,8 +3,8 @@
  *
  *     cc -O2 -c keywrap.c
  *
- * Version 1.2.0-dev. `make dist-sources` of the repository writes this file; do not edit it.
- * By Rattle rattle-kit-13b logic dac8208d650f15bf, binaryen 108, wabt 1.0.32.
+ * Version 1.2.0. `make dist-sources` of the repository writes this file; do not edit it.
+ * By Rattle rattle-kit-13f logic dac8208d650f15bf, binaryen 108, wabt 1.0.32.
  * docs/TRUST.md of the repository says what is proved, what is translated and what is trusted.
  *
  * It has four parts: the runtime; the module, which wasm2c translated from the WebAssembly that the
