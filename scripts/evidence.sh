@@ -1,7 +1,7 @@
 #!/usr/bin/env bash
 # Runs what takes too long for the gate, before a release. For each line of tests/evidence.txt it writes
-# docs/evidence/NAME: what was tried, with its SHA-256, and the end of the output, without lines that begin with [. If
-# one fails, the others run nevertheless, and the exit status is 1.
+# docs/evidence/VERSION/NAME: what was tried, with its SHA-256, and the end of the output, without lines that begin with
+# [. If one fails, the others run nevertheless, and the exit status is 1.
 #
 # usage: scripts/evidence.sh [NAME..]        only these lines, if one is named
 #        scripts/evidence.sh --stale         runs nothing, and prints the names of which something was changed since
@@ -28,17 +28,19 @@ export KEYWRAP_ALL=1 KEYWRAP_EVIDENCE=1
 
 stale='' failed=''
 [ "${1:-}" != --stale ] || { stale=yes && shift; }
-[ -n "$stale" ] || mkdir -p out docs/evidence
+# Between two versions it is of the next one.
+evidence=docs/evidence/$(sed 's/-dev$//' VERSION)
+[ -n "$stale" ] || mkdir -p out "$evidence"
 while IFS='|' read -r name paths command <&3; do
     [ $# = 0 ] || [[ " $* " = *" $name "* ]] || continue
     # shellcheck disable=SC2086
     sums=$(tried $paths)
     if [ -n "$stale" ]; then
-        [ "$sums" = "$(sed '/^$/,$d' "docs/evidence/$name" 2>/dev/null)" ] || echo "$name"
+        [ "$sums" = "$(sed '/^$/,$d' "$evidence/$name" 2>/dev/null)" ] || echo "$name"
         continue
     fi
     echo "$name: $command"
     said=$(bash -c "$command" 2>&1) || { echo "$said" && echo "evidence: $name failed" && failed=yes && continue; }
-    printf '%s\n\n%s\n\n%s\n' "$sums" "$command" "$(sed '/^\[/d' <<<"$said" | tail -n 240)" >"docs/evidence/$name"
+    printf '%s\n\n%s\n\n%s\n' "$sums" "$command" "$(sed '/^\[/d' <<<"$said" | tail -n 240)" >"$evidence/$name"
 done 3< <(sed -n 's/ *| */|/g; /^[^#]/p' tests/evidence.txt)
 [ -z "$failed" ]

@@ -35,13 +35,14 @@ def test_evidence():
         os.mkdir(name)
     shutil.copy(HERE.parent / "scripts/evidence.sh", "scripts")
     pathlib.Path("tests/evidence.txt").write_text("bad | tried | false\ngood | tried | echo fine\n")
+    pathlib.Path("VERSION").write_text("1.9.0-dev\n")
 
     def evidence(*words):
         ended = subprocess.run(["bash", "scripts/evidence.sh", *words], capture_output=True, text=True)
         return ended.returncode, ended.stdout.splitlines()
 
     pathlib.Path("tried").write_text("one\n")
-    assert evidence()[0] == 1 and pathlib.Path("docs/evidence/good").read_text().endswith("\nfine\n")
+    assert evidence()[0] == 1 and pathlib.Path("docs/evidence/1.9.0/good").read_text().endswith("\nfine\n")
     assert evidence("--stale") == (0, ["bad"])
     pathlib.Path("tried").write_text("two\n")
     assert evidence("--stale") == (0, ["bad", "good"])
