@@ -3,7 +3,7 @@
  *
  *     cc -O2 -c keywrap.c
  *
- * Version 1.2.0. `make dist-sources` of the repository writes this file; do not edit it.
+ * Version 1.3.0-dev. `make dist-sources` of the repository writes this file; do not edit it.
  * By Rattle rattle-kit-13f logic dac8208d650f15bf, binaryen 108, wabt 1.0.32.
  * docs/TRUST.md of the repository says what is proved, what is translated and what is trusted.
  *
@@ -19893,7 +19893,7 @@ static u32 w2c_keywrap_version(struct instance *instance) {
   w2c_B0:;
   w2c_f113(instance);
   w2c_f1(instance);
-  w2c_i0 = 66048u;
+  w2c_i0 = 66304u;
   return w2c_i0;
 }
 static void w2c_f113(struct instance *instance) {

@@ -38,8 +38,9 @@
 /* The version of this header. keywrap_version() returns the library's. Between two releases both
  * have the numbers of the next release. */
 #define KEYWRAP_VERSION_MAJOR 1
-#define KEYWRAP_VERSION_MINOR 2
+#define KEYWRAP_VERSION_MINOR 3
 #define KEYWRAP_VERSION_PATCH 0
+#define KEYWRAP_PRERELEASE "dev" /* not defined in a release */
 #define KEYWRAP_VERSION \
     (KEYWRAP_VERSION_MAJOR << 16 | KEYWRAP_VERSION_MINOR << 8 | KEYWRAP_VERSION_PATCH)
 

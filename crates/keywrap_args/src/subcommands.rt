@@ -90,7 +90,7 @@ pub fn matches_of<'a>(alloc: Global, args: &'a [String]) -> Result<ArgMatches<'a
 fn keywrap<'a>(alloc: Global) -> Result<Command<'a>, AllocError> {
     let subcommands = subcommands(alloc)?;
     Command::new(alloc, "keywrap")
-        .version("1.2.0")
+        .version("1.3.0-dev")
         .propagate_version(true)
         .about("Wraps and unwraps keys by AES Key Wrap (RFC 3394 and RFC 5649)")
         .after_long_help(help::NOTES)
