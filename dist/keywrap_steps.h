@@ -15,9 +15,9 @@
  * bytes, and then the registers; in one buffer, first is buffer and the registers are buffer + 8.
  * There are 6 steps for each 8 bytes of the registers, or 1 if they are 8 bytes long.
  *
- * Each call, except those of a rewrapping (below), returns KEYWRAP_OK or a refusal, and a refusal
- * other than KEYWRAP_INTEGRITY changes nothing. A step after the last one, or an end before it, is
- * refused with KEYWRAP_BAD_LENGTH.
+ * Each call returns KEYWRAP_OK or a refusal. A refusal other than KEYWRAP_INTEGRITY changes nothing. A
+ * rewrapping differs in both (below). A step after the last one, or an end before it, is refused with
+ * KEYWRAP_BAD_LENGTH.
  *
  * The caller must keep these rules, too. Nothing checks them:
  *   - Between two calls the block is encrypted (to wrap) or decrypted (to unwrap), once.

@@ -66,11 +66,12 @@ def calls(*headers):
 
 
 def export_map():
-    """What libkeywrap.so shows: the nodes of 1.2.0, and the calls that came later in the node of their version."""
-    before = re.sub(r"\s+(keywrap_\w+;)", r"\n        \1", read("tests/library/1.2.0/keywrap.map"))
+    """What libkeywrap.so shows: the nodes of the last release, and later calls in the node of the next one."""
+    before = re.sub(r"\s+(keywrap_\w+;)", r"\n        \1", read("tests/library/released/keywrap.map"))
     later = [call for call in calls(*HEADERS) if f" {call};" not in before]
     shown = "".join(f"        {call};\n" for call in later)
-    return before + (f"\nKEYWRAP_1.3 {{\n    global:\n{shown}}} KEYWRAP_1.2;\n" if later else "")
+    node, last = read("VERSION").rpartition(".")[0], re.findall(r"^(KEYWRAP_\S+) \{", before, re.M)[-1]
+    return before + (f"\nKEYWRAP_{node} {{\n    global:\n{shown}}} {last};\n" if later else "")
 
 
 def renamed():

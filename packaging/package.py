@@ -72,11 +72,6 @@ def documents(directory, machine, readme, *paths):
         (directory / path.name).write_text(with_links(path.read_text(), names))
 
 
-def page(source, file):
-    """A document in a directory of its own. Its links become plain text."""
-    pathlib.Path(file).write_text(with_links(pathlib.Path(source).read_text()))
-
-
 def pack(directory, file):
     """Packs a directory. Order, owner, time and all modes except the x bit are fixed."""
     file = pathlib.Path(file).absolute()
@@ -285,8 +280,8 @@ def lists(*paths):
 
 if __name__ == "__main__":
     os.umask(0o022)
-    goals = {goal.__name__: goal for goal in (documents, page, headers, archive, files, debian, npm, go, needs, wheel,
-                                              sdist, lists)}
+    goals = {goal.__name__: goal for goal in (documents, headers, archive, files, debian, npm, go, needs, wheel, sdist,
+                                              lists)}
     if sys.argv[1:2] == [] or sys.argv[1] not in goals:
         sys.exit(__doc__)
     goals[sys.argv[1]](*sys.argv[2:])

@@ -172,8 +172,7 @@ def test_status_of_a_list_with_a_refusal(tmp_path, monkeypatch):
 
 
 def test_refuses_other_objects(tmp_path):
-    """A file that is no object, a call that is none and numbers that no list or call has are wrong arguments: no
-    status of a refusal."""
+    """Status 2, not that of a refusal: a file that is not an object, an unknown call, and wrong numbers."""
     (tmp_path / "text").write_text("no object")
     for words in [[tmp_path / "text"], [tmp_path / "none"], [MODULE, *"encrypt 16".split()], [MODULE, "wrap", "16"],
                   [MODULE, *"wrap 16 16 16 16 16".split()], [MODULE, "wrap", "16", "x"], [MODULE, *"short 1 1".split()],

@@ -81,7 +81,7 @@ def main(args):
         return 2
     try:
         exported = load(args[0])
-    except Exception as error:      # the file is another one than this program knows
+    except Exception as error:      # not an object that this program can read
         print(f'{args[0]}: {error}', file=sys.stderr)
         return 2
     print(f'{hashlib.sha256(Path(args[0]).read_bytes()).hexdigest()}  {Path(args[0]).name}')

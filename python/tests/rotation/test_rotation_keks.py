@@ -100,17 +100,13 @@ class TestKeks:
         assert read("store") == hexes(NEW_KEK)
         assert rotated("--verify", "--new-challenge", "new-kek.challenge", "store") == 0
 
-    @pytest.mark.parametrize("stale", [True, False])
-    def test_challenge_of_an_earlier_rotation_is_refused(self, keks, stale):
-        """And what a killed process left."""
+    @pytest.mark.parametrize("changed, lines", [("kek.hex", [OTHERS[0].hex()]), ("kek.challenge", [])])
+    def test_challenge_of_another_kek_is_refused(self, keks, changed, lines):
+        """As an earlier rotation leaves one, and a killed process an empty file."""
         assert rotated("--make-challenges") == 0
-        if stale:
-            os.rename("new-kek.hex", "kek.hex")
-            write_lines("new-kek.hex", [bytes(reversed(KEK)).hex()])
-        else:
-            write_lines("kek.challenge", [])
+        write_lines(changed, lines)
         assert (done := rotated("--make-challenges")) == 3 and done.printed == ""
-        assert done.has(f"kek.challenge is no challenge of {keks}/kek.hex: remove it")
+        assert done.has(f"kek.challenge is not a challenge of {keks}/kek.hex: remove it")
 
     @pytest.mark.parametrize("other", [(KEK, bytes(32)), (bytes(16), NEW_KEK), (NEW_KEK, KEK)])
     def test_other_keks_than_at_the_beginning(self, keks, monkeypatch, other):

@@ -63,6 +63,10 @@ def _digits(content: bytes) -> Optional[bytes]:
         return None
 
 
+def _is_under(kek: bytes, challenge: Optional[bytes]) -> bool:
+    return challenge is not None and keywrap.check(kek, challenge) is not None
+
+
 def _read(path: str, what: str, is_raw: bool) -> bytes:
     """Reads a KEK. No error contains its bytes."""
     content = _content(path, what, _KEK_FILE)
@@ -121,7 +125,7 @@ class Keks(NamedTuple):
             for name, ring in rings.items():
                 path = files.get(name or "")
                 wrapped = one if path is None else _digits(_content(path, "--new-challenge", _KEK_FILE))
-                if wrapped is None or keywrap.check(ring.new, wrapped) is None:
+                if not _is_under(ring.new, wrapped):
                     of = "" if name is None else f" of {name!r}"
                     raise WrongKeks(f"the new KEK{of} is not that of --new-challenge {path or new_challenge}: "
                                     "are the KEKs swapped?")  # fmt: skip
@@ -139,9 +143,8 @@ class Keks(NamedTuple):
                 with open(os.open(name, os.O_WRONLY | os.O_CREAT | os.O_EXCL, 0o600), "w", encoding="ascii") as file:
                     print(keywrap.wrap(kek, os.urandom(32)).hex(), file=file)
             except FileExistsError:
-                wrapped = _digits(_content(name, "--make-challenges", _TABLE))
-                if wrapped is None or keywrap.check(kek, wrapped) is None:
-                    raise WrongKeks(f"{name} is no challenge of {path}: remove it") from None
+                if not _is_under(kek, _digits(_content(name, "--make-challenges", _KEK_FILE))):
+                    raise WrongKeks(f"{name} is not a challenge of {path}: remove it") from None
             except OSError as error:
                 raise WrongKeks(f"{name}: {error.strerror}") from None
             yield name

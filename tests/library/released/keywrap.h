@@ -1,10 +1,6 @@
-/* The types and numbers of version 1.2.0. Each call is a line. */
+/* The types and numbers of 1.2.0, the last release. Each call is a line. */
 #include <stddef.h>
 #include <stdint.h>
-#define KEYWRAP_VERSION_MAJOR 1
-#define KEYWRAP_VERSION_MINOR 2
-#define KEYWRAP_VERSION_PATCH 0
-#define KEYWRAP_VERSION (KEYWRAP_VERSION_MAJOR << 16 | KEYWRAP_VERSION_MINOR << 8 | KEYWRAP_VERSION_PATCH)
 #define KEYWRAP_NO_MEMORY 7
 #define KEYWRAP_CPU_SUPPORTED() 1
 #define KEYWRAP_MAX_KEY 1048576
