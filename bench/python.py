@@ -18,11 +18,19 @@ def calls(length):
     import keywrap
     from keywrap import _ffi
 
-    kek, key, answer = bytes(range(32)), bytes(length), _ffi.ffi.new("uint8_t[]", length + 8)
+    kek, key, answer = (
+        bytes(range(32)),
+        bytes(length),
+        _ffi.ffi.new("uint8_t[]", length + 8),
+    )
     wrapped = keywrap.wrap(kek, key)
     yield "wrap", lambda: keywrap.wrap(kek, key)
-    yield "C call", lambda: _ffi.lib.keywrap_wrap(kek, 32, key, length, answer, length + 8)
-    yield "refused C call", lambda: _ffi.lib.keywrap_wrap(kek, 0, key, length, answer, length + 8)
+    yield "C call", lambda: _ffi.lib.keywrap_wrap(
+        kek, 32, key, length, answer, length + 8
+    )
+    yield "refused C call", lambda: _ffi.lib.keywrap_wrap(
+        kek, 0, key, length, answer, length + 8
+    )
     yield "unwrap", lambda: keywrap.unwrap(kek, wrapped)
     kept = keywrap.Kek(kek)
     yield "wrap with a Kek", lambda: keywrap.wrap(kept, key)
@@ -46,4 +54,6 @@ if __name__ == "__main__":
             for name, call in calls(length):
                 timer = timeit.Timer(call, timer=time.thread_time)
                 count = min(CALLS, int(ROUND_US / (timer.timeit(1) * 1e6)) + 1)
-                print(f"{length},{name},{min(timer.repeat(ROUNDS, count)) / count * 1e6:.2f}")
+                print(
+                    f"{length},{name},{min(timer.repeat(ROUNDS, count)) / count * 1e6:.2f}"
+                )

@@ -26,7 +26,15 @@ FILES, ROUNDS, JOBS = 64, 3, (1, 4)
 # It runs a command beside a PostgreSQL server of its own.
 SERVER = shutil.which("pg_virtualenv")
 KEK, NEW_KEK = os.urandom(32), os.urandom(32)
-ROTATE = (sys.executable, "-m", "keywrap.rotate", "--kek", "kek.hex", "--new-kek", "new-kek.hex")
+ROTATE = (
+    sys.executable,
+    "-m",
+    "keywrap.rotate",
+    "--kek",
+    "kek.hex",
+    "--new-kek",
+    "new-kek.hex",
+)
 Run = collections.namedtuple("Run", "took cpu memory")
 TIMED = """
 import resource, subprocess, sys, time
@@ -38,9 +46,17 @@ print(time.monotonic() - began, used.ru_utime + used.ru_stime, used.ru_maxrss / 
 
 def timed(*command):
     """The seconds and the processor seconds of a command, and the largest memory of one of its processes in MB. It is
-    run by a small process: what is counted of a process includes the one that forked it."""
+    run by a small process: what is counted of a process includes the one that forked it.
+    """
     words = [sys.executable, "-c", TIMED, *map(str, command)]
-    return Run(*map(float, subprocess.run(words, check=True, stdout=subprocess.PIPE, text=True).stdout.split()))
+    return Run(
+        *map(
+            float,
+            subprocess.run(
+                words, check=True, stdout=subprocess.PIPE, text=True
+            ).stdout.split(),
+        )
+    )
 
 
 @contextlib.contextmanager
@@ -53,7 +69,10 @@ def writing(write, count):
 
     def work():
         while write and not ended.wait(0.02):
-            rows = [(keywrap.wrap(NEW_KEK, os.urandom(32)), random.randint(1, count)) for _ in range(3)]
+            rows = [
+                (keywrap.wrap(NEW_KEK, os.urandom(32)), random.randint(1, count))
+                for _ in range(3)
+            ]
             began = time.monotonic()
             write(rows)
             waits.append((time.monotonic() - began) * 1000)
@@ -77,8 +96,11 @@ def store(name, count, words, fill, write=None, jobs=JOBS, rounds=1):
             runs.append((first, timed(*ROTATE, "--jobs", number, *words)))
         first, again = map(min, zip(*runs))
         wait = f"{max(waits):.0f}" if waits else ""
-        print(f"{name},{number},{count / first.took:.0f},{first.cpu / count * 1e6:.2f},{again.cpu / count * 1e6:.2f},"
-              f"{first.memory:.0f},{wait}", flush=True)
+        print(
+            f"{name},{number},{count / first.took:.0f},{first.cpu / count * 1e6:.2f},{again.cpu / count * 1e6:.2f},"
+            f"{first.memory:.0f},{wait}",
+            flush=True,
+        )
 
 
 def fill_files(directory, texts, files):
@@ -92,7 +114,9 @@ def fill_files(directory, texts, files):
 
 def of_sqlite(texts):
     def connected():
-        return contextlib.closing(sqlite3.connect("keys.db", timeout=60, isolation_level="IMMEDIATE"))
+        return contextlib.closing(
+            sqlite3.connect("keys.db", timeout=60, isolation_level="IMMEDIATE")
+        )
 
     def fill():
         pathlib.Path("keys.db").unlink(missing_ok=True)
@@ -142,7 +166,13 @@ def main(wheel, count="1000000"):
         pathlib.Path("new-kek.hex").write_text(NEW_KEK.hex())
         texts = [keywrap.wrap(KEK, os.urandom(32)) for _ in range(int(count))]
         print("store,jobs,keys_per_s,us,again_us,memory_mb,wait_ms")
-        store("files", len(texts), ["files"], functools.partial(fill_files, "files", texts, FILES), rounds=ROUNDS)
+        store(
+            "files",
+            len(texts),
+            ["files"],
+            functools.partial(fill_files, "files", texts, FILES),
+            rounds=ROUNDS,
+        )
         ones = texts[::100]
         fill_ones = functools.partial(fill_files, "ones", ones, len(ones))
         store("files of one key", len(ones), ["--one-key", "ones"], fill_ones, jobs=[1])
@@ -150,7 +180,10 @@ def main(wheel, count="1000000"):
         if SERVER and importlib.util.find_spec("psycopg"):
             of_postgresql(texts)
         else:
-            print("left out: PostgreSQL (apt-get install postgresql python3-psycopg)", file=sys.stderr)
+            print(
+                "left out: PostgreSQL (apt-get install postgresql python3-psycopg)",
+                file=sys.stderr,
+            )
 
 
 if __name__ == "__main__":

@@ -18,28 +18,58 @@ import sys
 import portable
 
 ROOT = pathlib.Path(__file__).resolve().parent.parent
-FEATURES = ["--mvp-features", "--enable-memory64", "--enable-bulk-memory", "--enable-sign-ext",
-            "--enable-nontrapping-float-to-int", "--enable-mutable-globals"]
+FEATURES = [
+    "--mvp-features",
+    "--enable-memory64",
+    "--enable-bulk-memory",
+    "--enable-sign-ext",
+    "--enable-nontrapping-float-to-int",
+    "--enable-mutable-globals",
+]
 TYPES = {"i32": "u32", "i64": "u64", "f64": "f64"}
 TOKEN = re.compile(r'"(?:[^"\\]|\\.)*"|[()]|[^\s()"]+')
-OPERATORS = {"add": "+", "sub": "-", "mul": "*", "and": "&", "or": "|", "xor": "^", "div": "/"}
+OPERATORS = {
+    "add": "+",
+    "sub": "-",
+    "mul": "*",
+    "and": "&",
+    "or": "|",
+    "xor": "^",
+    "div": "/",
+}
 COMPARISONS = {"eq": "==", "ne": "!=", "lt": "<", "gt": ">", "le": "<=", "ge": ">="}
 # Instructions of one operand: their result, and their form in C.
 UNARY = {
-    "i64.extend_i32_u": ("i64", "(u64)({})"), "i64.extend_i32_s": ("i64", "(u64)(s64)(s32)({})"),
-    "i32.wrap_i64": ("i32", "(u32)({})"), "i32.eqz": ("i32", "(u32)!({})"), "i64.eqz": ("i32", "(u32)!({})"),
-    "i32.extend8_s": ("i32", "(u32)(s32)(s8)({})"), "i32.extend16_s": ("i32", "(u32)(s32)(s16)({})"),
-    "i64.extend8_s": ("i64", "(u64)(s64)(s8)({})"), "i64.extend16_s": ("i64", "(u64)(s64)(s16)({})"),
-    "i64.extend32_s": ("i64", "(u64)(s64)(s32)({})"), "f64.neg": ("f64", "-({})"),
-    "f64.convert_i32_u": ("f64", "(f64)({})"), "f64.convert_i64_u": ("f64", "(f64)({})"),
-    **{f"{kind}.{name}": (kind, f"{kind}_{name}({{}})") for kind in ("i32", "i64") for name in ("clz", "ctz")},
+    "i64.extend_i32_u": ("i64", "(u64)({})"),
+    "i64.extend_i32_s": ("i64", "(u64)(s64)(s32)({})"),
+    "i32.wrap_i64": ("i32", "(u32)({})"),
+    "i32.eqz": ("i32", "(u32)!({})"),
+    "i64.eqz": ("i32", "(u32)!({})"),
+    "i32.extend8_s": ("i32", "(u32)(s32)(s8)({})"),
+    "i32.extend16_s": ("i32", "(u32)(s32)(s16)({})"),
+    "i64.extend8_s": ("i64", "(u64)(s64)(s8)({})"),
+    "i64.extend16_s": ("i64", "(u64)(s64)(s16)({})"),
+    "i64.extend32_s": ("i64", "(u64)(s64)(s32)({})"),
+    "f64.neg": ("f64", "-({})"),
+    "f64.convert_i32_u": ("f64", "(f64)({})"),
+    "f64.convert_i64_u": ("f64", "(f64)({})"),
+    **{
+        f"{kind}.{name}": (kind, f"{kind}_{name}({{}})")
+        for kind in ("i32", "i64")
+        for name in ("clz", "ctz")
+    },
     "f64.reinterpret_i64": ("f64", "f64_reinterpret_i64({})"),
     "i64.reinterpret_f64": ("i64", "i64_reinterpret_f64({})"),
 }
 # Instructions of two integers that are functions of module.h, in which a divisor of zero ends the program.
-FUNCTIONS = {f"{kind}.{name}": kind for kind in ("i32", "i64")
-             for name in ("rotl", "rotr", "div_u", "rem_u")}
-ACCESS = re.compile(r"(i32|i64|f64)\.(load|store)(8_u|8_s|16_u|16_s|32_u|32_s|8|16|32|)")
+FUNCTIONS = {
+    f"{kind}.{name}": kind
+    for kind in ("i32", "i64")
+    for name in ("rotl", "rotr", "div_u", "rem_u")
+}
+ACCESS = re.compile(
+    r"(i32|i64|f64)\.(load|store)(8_u|8_s|16_u|16_s|32_u|32_s|8|16|32|)"
+)
 
 
 def stop(why):
@@ -57,15 +87,25 @@ def parsed(text):
             stack[-1].append(done)
         else:
             stack[-1].append(token)
-    (tree,), = stack
+    ((tree,),) = stack
     return tree
 
 
 def bytes_of(text):
     """The bytes of a string of the module's text."""
-    escapes = {b"t": b"\t", b"n": b"\n", b"r": b"\r", b'"': b'"', b"'": b"'", b"\\": b"\\"}
-    return re.sub(rb"\\([0-9a-f]{2}|.)", lambda it: bytes([int(it[1], 16)]) if len(it[1]) == 2 else escapes[it[1]],
-                  text[1:-1].encode())
+    escapes = {
+        b"t": b"\t",
+        b"n": b"\n",
+        b"r": b"\r",
+        b'"': b'"',
+        b"'": b"'",
+        b"\\": b"\\",
+    }
+    return re.sub(
+        rb"\\([0-9a-f]{2}|.)",
+        lambda it: bytes([int(it[1], 16)]) if len(it[1]) == 2 else escapes[it[1]],
+        text[1:-1].encode(),
+    )
 
 
 def signature_of(items):
@@ -77,7 +117,7 @@ def signature_of(items):
         elif item[0] == "param":
             parameters += [(None, kind) for kind in item[1:]]
         elif item[0] == "result":
-            result, = item[1:]
+            (result,) = item[1:]
     return parameters, result
 
 
@@ -87,15 +127,19 @@ class Function:
     def __init__(self, module, tree):
         self.module, self.name = module, tree[1]
         items = tree[2:]
-        self.parameters, self.result = signature_of(it for it in items if it[0] in ("param", "result"))
+        self.parameters, self.result = signature_of(
+            it for it in items if it[0] in ("param", "result")
+        )
         self.kinds = dict(self.parameters)
         self.kinds.update((it[1], it[2]) for it in items if it[0] == "local")
         self.body = [it for it in items if it[0] not in ("param", "result", "local")]
         self.labels, self.loops, self.temporaries, self.lines = {}, set(), [], []
 
     def head(self, names=True):
-        given = ", ".join(f"{TYPES[kind]} {self.local(name)}" if names else TYPES[kind]
-                          for name, kind in self.parameters)
+        given = ", ".join(
+            f"{TYPES[kind]} {self.local(name)}" if names else TYPES[kind]
+            for name, kind in self.parameters
+        )
         return f"{TYPES[self.result] if self.result else 'void'} {self.module.functions[self.name]}({given or 'void'})"
 
     def local(self, name):
@@ -111,14 +155,28 @@ class Function:
             else:
                 self.statement(statement)
         declared = {}
-        for name, kind in [*self.kinds.items()][len(self.parameters):]:
+        for name, kind in [*self.kinds.items()][len(self.parameters) :]:
             declared.setdefault(kind, []).append(f"{self.local(name)} = 0")
         for number, kind in enumerate(self.temporaries):
             declared.setdefault(kind, []).append(f"t{number}")
-        lines = [f"{TYPES[kind]} {', '.join(names)};" for kind, names in declared.items()]
-        lines += [f"(void){self.local(name)};" for name, _ in self.parameters
-                  if not any(re.search(rf"\b{self.local(name)}\b", line) for line in self.lines)]
-        return "\n".join([f"{self.module.storage(self.name)}{self.head()} {{", *lines, *self.lines, "}\n"])
+        lines = [
+            f"{TYPES[kind]} {', '.join(names)};" for kind, names in declared.items()
+        ]
+        lines += [
+            f"(void){self.local(name)};"
+            for name, _ in self.parameters
+            if not any(
+                re.search(rf"\b{self.local(name)}\b", line) for line in self.lines
+            )
+        ]
+        return "\n".join(
+            [
+                f"{self.module.storage(self.name)}{self.head()} {{",
+                *lines,
+                *self.lines,
+                "}\n",
+            ]
+        )
 
     def emit(self, line):
         self.lines.append(line)
@@ -181,7 +239,10 @@ class Function:
                 self.emit(f"{self.local(tree[1])} = {value};")
             return self.local(tree[1])
         if name == "call":
-            saved = self.temporary(self.kind_of(tree) or stop(f"{self.name}: the value of a call that has none"))
+            saved = self.temporary(
+                self.kind_of(tree)
+                or stop(f"{self.name}: the value of a call that has none")
+            )
             self.emit(f"{saved} = {self.called(tree)};")
             return saved
         if name == "select":
@@ -192,7 +253,7 @@ class Function:
         if name.endswith(".const"):
             return self.constant(*tree)
         if name in UNARY:
-            operand, = self.values(tree[1:])
+            (operand,) = self.values(tree[1:])
             return UNARY[name][1].format(operand)
         if name in FUNCTIONS:
             return f"{name.replace('.', '_')}({', '.join(self.values(tree[1:]))})"
@@ -204,9 +265,13 @@ class Function:
         if name in ("i32.const", "i64.const"):
             bits = int(name[1:3])
             return f"{int(text, 0) % (1 << bits)}{'u' if bits == 32 else 'ull'}"
-        if name == "f64.const" and re.fullmatch(r"-?(inf|\d+(\.\d+)?(e[+-]?\d+)?)", text):
+        if name == "f64.const" and re.fullmatch(
+            r"-?(inf|\d+(\.\d+)?(e[+-]?\d+)?)", text
+        ):
             return f"f64_reinterpret_i64({int.from_bytes(struct.pack('>d', float(text)), 'big')}ull)"
-        if name == "f64.const" and (nan := re.fullmatch(r"(-?)nan:(0x[0-9a-f]{1,13})", text)):
+        if name == "f64.const" and (
+            nan := re.fullmatch(r"(-?)nan:(0x[0-9a-f]{1,13})", text)
+        ):
             return f"f64_reinterpret_i64({(0xfff if nan[1] else 0x7ff) << 52 | int(nan[2], 16)}ull)"
         return stop(f"{self.name}: a constant: {name} {text}")
 
@@ -233,8 +298,10 @@ class Function:
         """The call of the runtime that loads or stores."""
         kind, what, width = ACCESS.fullmatch(tree[0]).groups()
         said = [word for word in tree[1:] if isinstance(word, str)]
-        operands = self.values(tree[1 + len(said):])
-        numbers = dict(re.fullmatch(r"(offset|align)=(\d+)", word).groups() for word in said)
+        operands = self.values(tree[1 + len(said) :])
+        numbers = dict(
+            re.fullmatch(r"(offset|align)=(\d+)", word).groups() for word in said
+        )
         # The address is a multiple of the width, if nothing else is said.
         name = f"{kind}_{what}{width}{'_any' if 'align' in numbers else ''}"
         return f"{name}({numbers.get('offset', 0)}u, {', '.join(operands)})"
@@ -246,24 +313,32 @@ class Function:
         elif name == "if":
             self.branches(*tree[1:])
         elif name == "local.set":
-            value = self.called(tree[2]) if tree[2][0] == "call" else self.value(tree[2])
+            value = (
+                self.called(tree[2]) if tree[2][0] == "call" else self.value(tree[2])
+            )
             self.emit(f"{self.local(tree[1])} = {value};")
         elif name == "global.set" and tree[1] == self.module.stack_pointer:
-            value, = self.values(tree[2:])
+            (value,) = self.values(tree[2:])
             self.emit(f"stack_pointer = stack_at({value});")
         elif name == "call":
             self.emit(f"{self.called(tree)};")
         elif name == "drop":
-            self.emit(f"{self.called(tree[1])};" if tree[1][0] == "call" else f"(void)({self.value(tree[1])});")
+            self.emit(
+                f"{self.called(tree[1])};"
+                if tree[1][0] == "call"
+                else f"(void)({self.value(tree[1])});"
+            )
         elif name == "br":
             self.emit(f"goto {self.label(tree[1])};")
         elif name == "br_if":
-            condition, = self.values(tree[2:])
+            (condition,) = self.values(tree[2:])
             self.emit(f"if ({condition}) goto {self.label(tree[1])};")
         elif name == "br_table":
             self.table(tree)
         elif name == "return":
-            self.emit(f"return{''.join(' ' + value for value in self.values(tree[1:]))};")
+            self.emit(
+                f"return{''.join(' ' + value for value in self.values(tree[1:]))};"
+            )
         elif name == "unreachable":
             self.emit("abort();")
         elif name in ("memory.copy", "memory.fill"):
@@ -276,18 +351,20 @@ class Function:
     def block(self, tree):
         """A branch to a block goes to its end, a branch to a loop to its beginning."""
         label = tree[1] if len(tree) > 1 and isinstance(tree[1], str) else None
-        if label in self.labels or any(part[0] == "result" for part in tree[1:3] if isinstance(part, list)):
+        if label in self.labels or any(
+            part[0] == "result" for part in tree[1:3] if isinstance(part, list)
+        ):
             stop(f"{self.name}: a block of another form")
         label_line = f"{self.label(label)}:;" if label else None
         if label and tree[0] == "loop":
             self.emit(label_line)
-        for part in tree[2 if label else 1:]:
+        for part in tree[2 if label else 1 :]:
             self.statement(part)
         if label and tree[0] == "block":
             self.emit(label_line)
 
     def branches(self, condition, then, otherwise=None):
-        value, = self.values([condition])
+        (value,) = self.values([condition])
         self.emit(f"if ({value}) {{")
         self.statement(then)
         if otherwise:
@@ -297,7 +374,7 @@ class Function:
 
     def table(self, tree):
         *labels, index = tree[1:]
-        value, = self.values([index])
+        (value,) = self.values([index])
         self.emit(f"switch ({value}) {{")
         for number, label in enumerate(labels[:-1]):
             if label != labels[-1]:
@@ -313,7 +390,15 @@ class Module:
         for part in tree[1:]:
             if isinstance(part, list):
                 parts.setdefault(part[0], []).append(part)
-        unknown = parts.keys() - {"type", "import", "global", "memory", "data", "export", "func"}
+        unknown = parts.keys() - {
+            "type",
+            "import",
+            "global",
+            "memory",
+            "data",
+            "export",
+            "func",
+        }
         if unknown or len(parts["global"]) != 1 or len(parts["memory"]) != 1:
             stop(f"the module has another part: {unknown or 'a global or a memory'}")
         _, self.stack_pointer, kind, (_, top) = parts["global"][0]
@@ -327,12 +412,25 @@ class Module:
         for _, module, name, (what, inside, *rest) in parts["import"]:
             if module != '"env"' or what != "func":
                 stop(f"an import: {module} {name}")
-            self.functions[inside], self.signatures[inside] = f"host_{name[1:-1]}", signature_of(rest)
+            (
+                self.functions[inside],
+                self.signatures[inside],
+            ) = f"host_{name[1:-1]}", signature_of(rest)
             self.imports.append(inside)
-        self.exports = {part[2][1]: part[1][1:-1] for part in parts["export"] if part[2][0] == "func"}
+        self.exports = {
+            part[2][1]: part[1][1:-1]
+            for part in parts["export"]
+            if part[2][0] == "func"
+        }
         for number, part in enumerate(parts["func"]):
-            self.functions[part[1]] = f"module_{self.exports[part[1]]}" if part[1] in self.exports else f"fn{number}"
-            self.signatures[part[1]] = signature_of(it for it in part[2:] if it[0] in ("param", "result"))
+            self.functions[part[1]] = (
+                f"module_{self.exports[part[1]]}"
+                if part[1] in self.exports
+                else f"fn{number}"
+            )
+            self.signatures[part[1]] = signature_of(
+                it for it in part[2:] if it[0] in ("param", "result")
+            )
         self.bodies = [Function(self, part) for part in parts["func"]]
 
     def storage(self, name):
@@ -341,31 +439,48 @@ class Module:
     def prototype(self, name):
         parameters, result = self.signatures[name]
         given = ", ".join(TYPES[kind] for _, kind in parameters) or "void"
-        return f"{TYPES[result] if result else 'void'} {self.functions[name]}({given});\n"
+        return (
+            f"{TYPES[result] if result else 'void'} {self.functions[name]}({given});\n"
+        )
 
     def header(self):
         """What the host includes: the numbers of the memory, the host's functions and the exports."""
         size = max(at + len(raw) for at, raw in self.data)
-        return (f"#define TOP {self.top}u\n#define SIZE {size}u\n\n"
-                + "".join(map(self.prototype, [*self.imports, *self.exports])))
+        return f"#define TOP {self.top}u\n#define SIZE {size}u\n\n" + "".join(
+            map(self.prototype, [*self.imports, *self.exports])
+        )
 
     def text(self):
         image = bytearray(max(at + len(raw) for at, raw in self.data) - self.top)
         for at, raw in self.data:
-            image[at - self.top:at - self.top + len(raw)] = raw
-        constants = ",\n".join(",".join(map(str, image[at:at + 32])) for at in range(0, len(image), 32))
+            image[at - self.top : at - self.top + len(raw)] = raw
+        constants = ",\n".join(
+            ",".join(map(str, image[at : at + 32])) for at in range(0, len(image), 32)
+        )
         functions = []
         for function in self.bodies:
-            name = re.sub(r"\\([0-9a-f]{2})", lambda it: chr(int(it[1], 16)), function.name[1:])
+            name = re.sub(
+                r"\\([0-9a-f]{2})", lambda it: chr(int(it[1], 16)), function.name[1:]
+            )
             functions.append(f"/* {name.replace('*/', '* /')} */\n{function.text()}")
-        declared = "".join(f"static {self.prototype(it.name)}" for it in self.bodies if it.name not in self.exports)
-        return (f"const u8 constants[SIZE - TOP] = {{\n{constants}\n}};\nstatic u64 stack_pointer = TOP;\n\n"
-                f"{declared}\n" + "\n".join(functions))
+        declared = "".join(
+            f"static {self.prototype(it.name)}"
+            for it in self.bodies
+            if it.name not in self.exports
+        )
+        return (
+            f"const u8 constants[SIZE - TOP] = {{\n{constants}\n}};\nstatic u64 stack_pointer = TOP;\n\n"
+            f"{declared}\n" + "\n".join(functions)
+        )
 
 
 def below(crate):
     """The crate and the crates of this repository below it."""
-    needs = dict(re.findall(r"^(\w+)(?: staticlib)?: *(.*)$", (ROOT / "crates.txt").read_text(), re.M))
+    needs = dict(
+        re.findall(
+            r"^(\w+)(?: staticlib)?: *(.*)$", (ROOT / "crates.txt").read_text(), re.M
+        )
+    )
     found, left = set(), [crate]
     while left:
         name = left.pop()
@@ -379,19 +494,28 @@ def sources():
     """The checksum of all that program.c is made from, but for the tools."""
     paths = [*(ROOT / "generate").glob("command*")]
     for crate in below("keywrap"):
-        paths += [path for path in (ROOT / "crates" / crate / "src").rglob("*.rt") if "tests" not in path.stem
-                  and "tests" not in path.parent.parts]
+        paths += [
+            path
+            for path in (ROOT / "crates" / crate / "src").rglob("*.rt")
+            if "tests" not in path.stem and "tests" not in path.parent.parts
+        ]
     digest = hashlib.sha256()
     for path in sorted(paths):
-        digest.update(f"{path.relative_to(ROOT)} {hashlib.sha256(path.read_bytes()).hexdigest()}\n".encode())
+        digest.update(
+            f"{path.relative_to(ROOT)} {hashlib.sha256(path.read_bytes()).hexdigest()}\n".encode()
+        )
     return digest.hexdigest()
 
 
 def main(wasm, directory):
     directory = pathlib.Path(directory)
     directory.mkdir(parents=True, exist_ok=True)
-    text = subprocess.run([portable.WASM_OPT, *FEATURES, wasm, "-S", "-o", "-"], capture_output=True, text=True,
-                          check=True).stdout
+    text = subprocess.run(
+        [portable.WASM_OPT, *FEATURES, wasm, "-S", "-o", "-"],
+        capture_output=True,
+        text=True,
+        check=True,
+    ).stdout
     module = Module(parsed(text))
     version = (ROOT / "VERSION").read_text().strip()
     kit = portable.tools().partition(", wabt")[0]
@@ -400,10 +524,12 @@ def main(wasm, directory):
         f" * `make dist-sources` of the repository writes this file; do not edit it.\n * By {kit}.\n"
         f" * Of the sources {sources()}.\n"
         f" * docs/TRUST.md of the repository says what is proved, what is translated and what is trusted. */\n\n"
-        f'#include "module.h"\n\n{module.text()}')
+        f'#include "module.h"\n\n{module.text()}'
+    )
     (directory / "program.h").write_text(
         "/* The numbers of the program's memory, the host's functions, and the program's that the host calls.\n"
-        f" * `make dist-sources` of the repository writes this file; do not edit it. */\n\n{module.header()}")
+        f" * `make dist-sources` of the repository writes this file; do not edit it. */\n\n{module.header()}"
+    )
     print(directory)
 
 

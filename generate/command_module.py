@@ -10,23 +10,64 @@ import pathlib
 import re
 import sys
 
-INTRINSICS = re.compile(r"llvm\.(memset\.p0\.i64|memmove\.p0\.p0\.i64|trap|(ctlz|cttz)\.i(32|64)|"
-                        r"arithmetic\.fence\.f64)")
+INTRINSICS = re.compile(
+    r"llvm\.(memset\.p0\.i64|memmove\.p0\.p0\.i64|trap|(ctlz|cttz)\.i(32|64)|"
+    r"arithmetic\.fence\.f64)"
+)
 # The functions of the system, which dist/command/host.c has.
-SYSTEM = {"open", "close", "read", "write", "lseek", "fsync", "fdatasync", "ftruncate", "fchmod", "fchown", "flock",
-          "isatty", "fcntl", "pipe2", "rename", "unlink", "statx", "clock_gettime", "__sysv_signal", "__xpg_strerror_r",
-          "rattle_errno", "rattle_set_errno", "rattle_alloc", "rattle_realloc", "rattle_dealloc", "rattle_arg",
-          "rattle_env", "rattle_env_at"}
+SYSTEM = {
+    "open",
+    "close",
+    "read",
+    "write",
+    "lseek",
+    "fsync",
+    "fdatasync",
+    "ftruncate",
+    "fchmod",
+    "fchown",
+    "flock",
+    "isatty",
+    "fcntl",
+    "pipe2",
+    "rename",
+    "unlink",
+    "statx",
+    "clock_gettime",
+    "__sysv_signal",
+    "__xpg_strerror_r",
+    "rattle_errno",
+    "rattle_set_errno",
+    "rattle_alloc",
+    "rattle_realloc",
+    "rattle_dealloc",
+    "rattle_arg",
+    "rattle_env",
+    "rattle_env_at",
+}
 SCALARS = {"i1", "i8", "i16", "i32", "i64", "i128", "double", "ptr"}
 # Bytes side by side, what is compared of them, and the places of a shuffle.
 VECTOR = re.compile(r"<(4|16|32|64) x i(8|1|32)>")
 # What LLVM assumes if a layout says nothing: bits of the alignment.
-DEFAULT = {"p": 64, "i1": 8, "i8": 8, "i16": 16, "i32": 32, "i64": 32, "i128": 128, "f64": 64, "v128": 128}
+DEFAULT = {
+    "p": 64,
+    "i1": 8,
+    "i8": 8,
+    "i16": 16,
+    "i32": 32,
+    "i64": 32,
+    "i128": 128,
+    "f64": 64,
+    "v128": 128,
+}
 OF_X86 = ' "probe-stack"="inline-asm" "stack-probe-size"="3072" "target-cpu"="x86-64"'
 # The functions of the program's block cipher in whose place the host's are called: a block is encrypted or decrypted,
 # and 16 bytes are looked up in a table of 16.
-AES = {"aes_vector::cipher::VectorAesBlockPair::enc": "aes_encrypt",
-       "aes_vector::cipher::VectorAesBlockPair::dec": "aes_decrypt", "aes_vector::lanes::look": "aes_look"}
+AES = {
+    "aes_vector::cipher::VectorAesBlockPair::enc": "aes_encrypt",
+    "aes_vector::cipher::VectorAesBlockPair::dec": "aes_decrypt",
+    "aes_vector::lanes::look": "aes_look",
+}
 
 
 def stop(why):
@@ -71,20 +112,33 @@ def check(text):
     code = without_strings(text)
     if re.search(r"\basm\b", code):
         stop("it has assembler")
-    for kind in set(re.findall(r"\b(?:i\d+|half|bfloat|float|double|fp128|x86_\w+|ppc_fp128)\b", code)) - SCALARS:
+    for kind in (
+        set(
+            re.findall(
+                r"\b(?:i\d+|half|bfloat|float|double|fp128|x86_\w+|ppc_fp128)\b", code
+            )
+        )
+        - SCALARS
+    ):
         stop(f"an unknown type: {kind}")
     for vector in set(re.findall(r"<\d+ x [^>]*>", code)):
         if not VECTOR.fullmatch(vector):
             stop(f"an unknown vector: {vector}")
-    for kind in re.findall(r"\bgetelementptr (?:inbounds |nuw |nusw )*\(?([^,]+),", code):
+    for kind in re.findall(
+        r"\bgetelementptr (?:inbounds |nuw |nusw )*\(?([^,]+),", code
+    ):
         if kind != "i8":
             stop(f"an offset that is not in bytes: {kind}")
     for kind in re.findall(r"\balloca ([^,]+),", code):
         if kind not in SCALARS and not re.fullmatch(r"\[\d+ x i8\]", kind):
             stop(f"a variable of another type: {kind}")
     # Pairs of values, and constants with pointers in them: a pointer has the same alignment on both.
-    types = re.sub(r"^(?:!|attributes ).*$| (?:c|zeroinitializer|getelementptr \([^()]*\))(?=[, ])", "", code,
-                   flags=re.M)
+    types = re.sub(
+        r"^(?:!|attributes ).*$| (?:c|zeroinitializer|getelementptr \([^()]*\))(?=[, ])",
+        "",
+        code,
+        flags=re.M,
+    )
     for members in re.findall(r"\{ ([^{}]*) \}", types):
         for member in members.split(", "):
             if member not in SCALARS and not re.fullmatch(r"\[\d+ x i8\]", member):
@@ -96,12 +150,23 @@ def with_aes_of_host(text):
     for name, ours in AES.items():
         quoted = f'@"{name}"'
         parameters = r"\((ptr [^()]*, ptr [^()]*, ptr [^()]*)\)"
-        head = the_one(name, rf"^define internal void {re.escape(quoted)}{parameters} #\d+ \{{$", text)
-        text = re.sub(rf"^define internal void {re.escape(quoted)}\(.*$",
-                      f"define hidden void @{ours}_as_proved({head}) noinline nounwind noredzone {{", text, flags=re.M)
+        head = the_one(
+            name,
+            rf"^define internal void {re.escape(quoted)}{parameters} #\d+ \{{$",
+            text,
+        )
+        text = re.sub(
+            rf"^define internal void {re.escape(quoted)}\(.*$",
+            f"define hidden void @{ours}_as_proved({head}) noinline nounwind noredzone {{",
+            text,
+            flags=re.M,
+        )
         if quoted not in text:
             stop(f"{name}: it is never called")
-        text = text.replace(quoted, f"@{ours}") + f"\ndeclare void @{ours}(ptr, ptr, ptr) nounwind\n"
+        text = (
+            text.replace(quoted, f"@{ours}")
+            + f"\ndeclare void @{ours}(ptr, ptr, ptr) nounwind\n"
+        )
     return text
 
 

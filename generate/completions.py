@@ -39,27 +39,53 @@ def text_of(name):
 
 def commands():
     """What each command is about, by its name."""
-    return dict(re.findall(r'name: "(\w+)",\s*about: "(.*)"', text_of("subcommands.rt")))
+    return dict(
+        re.findall(r'name: "(\w+)",\s*about: "(.*)"', text_of("subcommands.rt"))
+    )
 
 
 def users():
     """The commands of each variant of Users."""
-    variants = re.findall(r"(\w+),", re.search(r"enum Users \{(.*?)\}", text_of("options.rt"), re.DOTALL)[1])
-    conditions = re.findall(r"Subcommand::(\w+) => (.*)", text_of("subcommands.rt").split("fn has", 1)[1])
-    return {variant: [name.lower() for name, condition in conditions if condition != "false,"
-                      and (f"Users::{variant}" in re.findall(r"Users::\w+", condition)) != condition.startswith("!")]
-            for variant in variants}
+    variants = re.findall(
+        r"(\w+),",
+        re.search(r"enum Users \{(.*?)\}", text_of("options.rt"), re.DOTALL)[1],
+    )
+    conditions = re.findall(
+        r"Subcommand::(\w+) => (.*)", text_of("subcommands.rt").split("fn has", 1)[1]
+    )
+    return {
+        variant: [
+            name.lower()
+            for name, condition in conditions
+            if condition != "false,"
+            and (f"Users::{variant}" in re.findall(r"Users::\w+", condition))
+            != condition.startswith("!")
+        ]
+        for variant in variants
+    }
 
 
 def options():
     """The options in the order of the help, and the argument without a name."""
-    table = re.search(r"static ARGUMENTS: .*?; (\d+)\] = \[(.*?)\n\];", text_of("options.rt"), re.DOTALL)
+    table = re.search(
+        r"static ARGUMENTS: .*?; (\d+)\] = \[(.*?)\n\];",
+        text_of("options.rt"),
+        re.DOTALL,
+    )
     found, of_users = {}, users()
-    rows = re.findall(r'(\w+): "([\w-]+)",\s*"(.*?)"(.*?)(?=\n    argument!|\Z)', table[2], re.DOTALL)
+    rows = re.findall(
+        r'(\w+): "([\w-]+)",\s*"(.*?)"(.*?)(?=\n    argument!|\Z)', table[2], re.DOTALL
+    )
     for who, name, about, rest in rows:
-        value, short = (re.findall(r"Value::(\w+)(?:\('(\w)'\))?", rest) or [("", "")])[0]
-        excludes = re.findall(r'"([\w-]+)"', "".join(re.findall(r"conflicts: &\[(.*?)\]", rest)))
-        needs = re.findall(r'"([\w-]+)"', "".join(re.findall(r"needs: &\[(.*?)\]", rest)))
+        value, short = (re.findall(r"Value::(\w+)(?:\('(\w)'\))?", rest) or [("", "")])[
+            0
+        ]
+        excludes = re.findall(
+            r'"([\w-]+)"', "".join(re.findall(r"conflicts: &\[(.*?)\]", rest))
+        )
+        needs = re.findall(
+            r'"([\w-]+)"', "".join(re.findall(r"needs: &\[(.*?)\]", rest))
+        )
         found[name] = Option(name, about, value, short, excludes, of_users[who], needs)
     used = all(option.commands for option in found.values())
     assert len(found) == int(table[1]) and used, "options.rt is not as it was"
@@ -81,7 +107,15 @@ def of(command):
 
 def excluded(option):
     """The words that are not offered beside it, and itself, which is not offered twice."""
-    return [*option.words, *(word for other in OPTIONS if other.name in option.conflicts for word in other.words)]
+    return [
+        *option.words,
+        *(
+            word
+            for other in OPTIONS
+            if other.name in option.conflicts
+            for word in other.words
+        ),
+    ]
 
 
 def lines(words, first, more="", last="", width=116):
@@ -97,20 +131,33 @@ def lines(words, first, more="", last="", width=116):
 
 def bash():
     def offered(command):
-        words = [word for option in of(command) if option.value != "Key" for word in option.words]
-        text = '"\n'.join(lines(words, '        options="$common', '        options+=" ')) + '"'
+        words = [
+            word
+            for option in of(command)
+            if option.value != "Key"
+            for word in option.words
+        ]
+        text = (
+            '"\n'.join(lines(words, '        options="$common', '        options+=" '))
+            + '"'
+        )
         if any(option.value == "Key" for option in of(command)):
             text = f"""        # What is missing may be the HEX, which only the user knows.
         [ "${{word:0:1}}" != - ] || {text.strip()}"""
         return f"    {command})\n{text}\n        ;;"
 
     def when(kinds):
-        return " | ".join(word for option in OPTIONS if option.value in kinds for word in option.words)
+        return " | ".join(
+            word for option in OPTIONS if option.value in kinds for word in option.words
+        )
 
     common = " ".join(f"-{short} --{name}" for short, name, _ in COMMON)
     cases = "\n".join(map(offered, COMMANDS))
-    gone = "\n".join(f"        {' | '.join(option.words)}) gone='{' '.join(excluded(option))}' ;;"
-                     for option in OPTIONS if len(excluded(option)) > 1)
+    gone = "\n".join(
+        f"        {' | '.join(option.words)}) gone='{' '.join(excluded(option))}' ;;"
+        for option in OPTIONS
+        if len(excluded(option)) > 1
+    )
     return f"""# shellcheck shell=bash
 # Completion of keywrap for bash: the commands, the options of each, and file names after those that take one. An option
 # that was given already is not offered again, in neither of its forms, nor one that it excludes, as --padded and --iv
@@ -156,21 +203,44 @@ complete -F _keywrap keywrap
 
 def zsh():
     def spec(option):
-        after = {"": "", "Kek": ":KEK file:_files", "File": f":{option.name} file:_files", "Iv": ":16 hex digits: ",
-                 "Key": ""}[option.value]
+        after = {
+            "": "",
+            "Kek": ":KEK file:_files",
+            "File": f":{option.name} file:_files",
+            "Iv": ":16 hex digits: ",
+            "Key": "",
+        }[option.value]
         if option.value == "Key":
             return f"'1:{option.about}: '"
         if option.short:
             return f"'({' '.join(option.words)})'{{-{option.short}+,--{option.name}=}}'[{option.about}]{after}'"
         beside = " ".join(excluded(option)[1:])
-        return f"'{f'({beside})' if beside else ''}--{option.name}[{option.about}]{after}'"
+        return (
+            f"'{f'({beside})' if beside else ''}--{option.name}[{option.about}]{after}'"
+        )
 
-    described = "\n".join(f"        '{name}:{about}'" for name, about in [*COMMANDS.items(), ("help", HELP)])
-    common = " ".join(f"'(- *)'{{-{short},--{name}}}'[{about}]'" for short, name, about in COMMON)
-    specs = "\n".join(f"    local -a {option.name.replace('-', '_')}=({spec(option)})" for option in ARGUMENTS)
-    cases = "\n".join(" \\\n".join(lines([f"${option.name.replace('-', '_')}" for option in of(command)],
-                                        f"    {command}) _arguments $common", "        ")) + " ;;"
-                      for command in COMMANDS)
+    described = "\n".join(
+        f"        '{name}:{about}'"
+        for name, about in [*COMMANDS.items(), ("help", HELP)]
+    )
+    common = " ".join(
+        f"'(- *)'{{-{short},--{name}}}'[{about}]'" for short, name, about in COMMON
+    )
+    specs = "\n".join(
+        f"    local -a {option.name.replace('-', '_')}=({spec(option)})"
+        for option in ARGUMENTS
+    )
+    cases = "\n".join(
+        " \\\n".join(
+            lines(
+                [f"${option.name.replace('-', '_')}" for option in of(command)],
+                f"    {command}) _arguments $common",
+                "        ",
+            )
+        )
+        + " ;;"
+        for command in COMMANDS
+    )
     return f"""#compdef keywrap
 # Completion of keywrap for zsh: the commands, the options of each, and file names after those that take one.
 {BY}
@@ -202,16 +272,20 @@ _keywrap "$@"
 def fish():
     def entry(option):
         condition = f"__keywrap_is {' '.join(option.commands)}"
-        beside = " ".join(excluded(option)[len(option.words):])
+        beside = " ".join(excluded(option)[len(option.words) :])
         condition += f"; and __keywrap_lacks {beside}" if beside else ""
         takes = " -rF" if option.value in IS_FILE else " -x" if option.value else ""
         short = f" -s {option.short}" if option.short else ""
         return f"complete -c keywrap -n '{condition}'{short} -l {option.name}{takes} \\\n    -d '{option.about}'"
 
-    described = "\n".join(f"complete -c keywrap -n __fish_use_subcommand -a {name} \\\n    -d '{about}'"
-                          for name, about in [*COMMANDS.items(), ("help", HELP)])
-    common = "\n".join(f"complete -c keywrap -s {short} -l {name} -d '{about}' -n 'not __keywrap_is help'"
-                       for short, name, about in COMMON)
+    described = "\n".join(
+        f"complete -c keywrap -n __fish_use_subcommand -a {name} \\\n    -d '{about}'"
+        for name, about in [*COMMANDS.items(), ("help", HELP)]
+    )
+    common = "\n".join(
+        f"complete -c keywrap -s {short} -l {name} -d '{about}' -n 'not __keywrap_is help'"
+        for short, name, about in COMMON
+    )
     return f"""# Completion of keywrap for fish: the commands, their options, and file names after those that take one.
 {BY}
 

@@ -21,22 +21,46 @@ ROOT = pathlib.Path(__file__).resolve().parent.parent
 PARTS = ROOT / "c/portable"
 WASM2C = os.environ.get("WASM2C", "wasm2c")
 WASM_OPT = os.environ.get("WASM_OPT", "wasm-opt")
-FUNCTION = re.compile(r"^static \w+ (w2c_\w+)\((struct instance \*[^;{]*)\) \{\n(.*?)^}\n", re.M | re.S)
+FUNCTION = re.compile(
+    r"^static \w+ (w2c_\w+)\((struct instance \*[^;{]*)\) \{\n(.*?)^}\n", re.M | re.S
+)
 PROTOTYPE = re.compile(r"^static \w+ (w2c_\w+)\(struct instance .*\);\n", re.M)
-FRAME = re.compile(r"w2c_j0 = instance->w2c_g0;\s+w2c_j1 = (\d+)ull;\s+w2c_j0 -= w2c_j1;")
+FRAME = re.compile(
+    r"w2c_j0 = instance->w2c_g0;\s+w2c_j1 = (\d+)ull;\s+w2c_j0 -= w2c_j1;"
+)
 # A function without a frame, which only checks that this many bytes of stack are left.
-LOOK = re.compile(r"w2c_j0 = instance->w2c_g0;\s+(w2c_l\d+) = w2c_j0;\s+w2c_j1 = (\d+)ull;\s+"
-                  r"w2c_i0 = \(u64\)\(\(s64\)w2c_j0 ([<>]) \(s64\)w2c_j1\);")
-STEPS, CHECKS = ({f"w2c_{call}" for call in re.findall(
-    r"^(?:KEYWRAP_CHECK )?u?int\d+_t (keywrap_\w+)\(", (ROOT / header).read_text(), re.M)}
-    for header in ("dist/keywrap_steps.h", "c/include/keywrap_checks.h"))
+LOOK = re.compile(
+    r"w2c_j0 = instance->w2c_g0;\s+(w2c_l\d+) = w2c_j0;\s+w2c_j1 = (\d+)ull;\s+"
+    r"w2c_i0 = \(u64\)\(\(s64\)w2c_j0 ([<>]) \(s64\)w2c_j1\);"
+)
+STEPS, CHECKS = (
+    {
+        f"w2c_{call}"
+        for call in re.findall(
+            r"^(?:KEYWRAP_CHECK )?u?int\d+_t (keywrap_\w+)\(",
+            (ROOT / header).read_text(),
+            re.M,
+        )
+    }
+    for header in ("dist/keywrap_steps.h", "c/include/keywrap_checks.h")
+)
 # The steps of many keys side by side are only in the C library.
 STEPS = {call for call in STEPS if not call.endswith("_many")}
 # A call between two runs of a rewrap takes more of the stack than a step. There are many steps.
 TURNS = {call for call in STEPS if "_next_" in call}
 WHOLE_ONLY, WITH_AES = "#ifndef KEYWRAP_STEPS_ONLY\n", "#ifdef WITH_AES\n"
 # The processor's AES, in the order in which one file can have them. A template is a `.c.in`.
-HARDWARE = ["aes.h", "run.h", "x86_64.c", "aarch64.c", "aes.c", "checks.c.in", "keywrap.c", "lanes.c.in", "many.c"]
+HARDWARE = [
+    "aes.h",
+    "run.h",
+    "x86_64.c",
+    "aarch64.c",
+    "aes.c",
+    "checks.c.in",
+    "keywrap.c",
+    "lanes.c.in",
+    "many.c",
+]
 
 
 def the_one(what, pattern, text):
@@ -54,8 +78,12 @@ def translated(wasm):
         subprocess.run([WASM2C, "-n", "keywrap", wasm, "-o", out], check=True)
         text = out.read_text()
     # The two globals that the module exports for keywrap.js have no names here.
-    names = {"Z_keywrap_instance_t* ": "struct instance *", "Z_keywrap_instance_t*": "struct instance *",
-             "w2c___stack_pointer": "w2c_g0", "w2c___in_call": "w2c_g1"}
+    names = {
+        "Z_keywrap_instance_t* ": "struct instance *",
+        "Z_keywrap_instance_t*": "struct instance *",
+        "w2c___stack_pointer": "w2c_g0",
+        "w2c___in_call": "w2c_g1",
+    }
     for name, ours in names.items():
         text = text.replace(name, ours)
     return text
@@ -67,8 +95,12 @@ def frame_of(name, body):
         return int(frame[1]), 0
     look = LOOK.search(body)
     stores = body.count("instance->w2c_g0 = ")
-    kept = stores and look and body.count(f"{look[1]} = ") == 2  # its declaration, and what was read
-    restored = kept and len(re.findall(rf"w2c_j0 = {look[1]};\s+instance->w2c_g0 = w2c_j0;", body))
+    kept = (
+        stores and look and body.count(f"{look[1]} = ") == 2
+    )  # its declaration, and what was read
+    restored = kept and len(
+        re.findall(rf"w2c_j0 = {look[1]};\s+instance->w2c_g0 = w2c_j0;", body)
+    )
     if stores != (restored or 0):
         sys.exit(f"portable.py: the stack of {name}: it is moved in another way")
     return 0, int(look[2]) + (look[3] == ">") if look else 0
@@ -86,7 +118,10 @@ def stack_needs(bodies):
         for name, body in bodies.items():
             if name not in need and calls_in(body) <= need.keys():
                 frame, left = frame_of(name, body)
-                need[name] = max(left, frame + max((need[call] for call in calls_in(body)), default=0))
+                need[name] = max(
+                    left,
+                    frame + max((need[call] for call in calls_in(body)), default=0),
+                )
         if len(need) == known:
             sys.exit("portable.py: the calls of the module: it recurses")
     return need
@@ -109,37 +144,69 @@ def in_sixteens(size):
 
 def with_constants(body, top, end):
     """The function, whose loads of constants name them if the code adds an index to the address of a constant."""
+
     def offset(load):
-        return f"constant_{load[1]}({load[2]})" if top <= int(load[3]) < end else load[0]
+        return (
+            f"constant_{load[1]}({load[2]})" if top <= int(load[3]) < end else load[0]
+        )
 
     def added(load):
-        return f"{load[1]}constant_{load[6]}({load[7]})" if top <= int(load[3]) < end else load[0]
+        return (
+            f"{load[1]}constant_{load[6]}({load[7]})"
+            if top <= int(load[3]) < end
+            else load[0]
+        )
 
-    body = re.sub(r"\b(i(?:32|64)_load\w*)\(memory, (\(u64\)\(\w+\) \+ (\d+)u)\)", offset, body)
-    return re.sub(r"(w2c_(j\d) = (\d+)ull;\s+w2c_(j\d) \+= w2c_\2;\s+w2c_(i\d) = \(u32\)\(w2c_\4\);\s+w2c_\5 = )"
-                  r"(i(?:32|64)_load\w*)\(memory, (\(u64\)\(w2c_\5\))\)", added, body)
+    body = re.sub(
+        r"\b(i(?:32|64)_load\w*)\(memory, (\(u64\)\(\w+\) \+ (\d+)u)\)", offset, body
+    )
+    return re.sub(
+        r"(w2c_(j\d) = (\d+)ull;\s+w2c_(j\d) \+= w2c_\2;\s+w2c_(i\d) = \(u32\)\(w2c_\4\);\s+w2c_\5 = )"
+        r"(i(?:32|64)_load\w*)\(memory, (\(u64\)\(w2c_\5\))\)",
+        added,
+        body,
+    )
 
 
 def function_of(found, top, end):
     """A function in C, whose memory is a value: it never grows, so no store can change it."""
     name, parameters, body = found[1], found[2], found[3]
-    unused = "".join(f"\n  (void){one};" for one in re.findall(r"\bw2c_p\d+\b", parameters)
-                     if not re.search(rf"\b{one}\b", body))
+    unused = "".join(
+        f"\n  (void){one};"
+        for one in re.findall(r"\bw2c_p\d+\b", parameters)
+        if not re.search(rf"\b{one}\b", body)
+    )
     if body.count("FUNC_PROLOGUE;") != 1 or body.count("FUNC_EPILOGUE;") != 1:
         sys.exit(f"portable.py: {name}: no beginning or no end of wasm2c's template")
-    body = body.replace("  FUNC_EPILOGUE;\n", "").replace("&instance->w2c_memory", "memory")
+    body = body.replace("  FUNC_EPILOGUE;\n", "").replace(
+        "&instance->w2c_memory", "memory"
+    )
     local = "const struct memory memory = instance->w2c_memory;\n  (void)memory;"
     body = body.replace("FUNC_PROLOGUE;", local + unused)
-    return found[0][:found.start(3) - found.start(0)] + with_constants(body, top, end) + "}\n"
+    return (
+        found[0][: found.start(3) - found.start(0)]
+        + with_constants(body, top, end)
+        + "}\n"
+    )
 
 
 def module_of(text):
     """The numbers of the module, and its constants and functions in C."""
-    top = int(the_one("the stack pointer", r"w2c_g0 = (\d+)ull;\n  instance->w2c_g1", text))
-    at = the_one("the place of the constants", r"LOAD_DATA\(.*?, (\d+)u, data_segment_data_w2c_d0", text)
+    top = int(
+        the_one("the stack pointer", r"w2c_g0 = (\d+)ull;\n  instance->w2c_g1", text)
+    )
+    at = the_one(
+        "the place of the constants",
+        r"LOAD_DATA\(.*?, (\d+)u, data_segment_data_w2c_d0",
+        text,
+    )
     if int(at) != top:
         sys.exit("portable.py: the place of the constants: not above the stack")
-    constants = the_one("the constants", r"static const u8 data_segment_data_w2c_d0\[\] = \{\n((?:.*\n)*?)\};", text)
+    constants = the_one(
+        "the constants",
+        r"static const u8 data_segment_data_w2c_d0\[\] = \{\n((?:.*\n)*?)\};",
+        text,
+    )
     between = r"^(static u32 w2c_f0\(struct instance \*instance\) \{(?:.*\n)*?)/\* export: 'memory' \*/"
     functions = [*FUNCTION.finditer(the_one("the functions", between, text))]
     prototypes = {found[1]: found[0] for found in PROTOTYPE.finditer(text)}
@@ -147,47 +214,80 @@ def module_of(text):
     if not bodies or prototypes.keys() != bodies.keys() or not STEPS <= bodies.keys():
         sys.exit("portable.py: the functions: not those that are declared")
     needs, steps = stack_needs(bodies), reached_from(STEPS, bodies)
-    whole = reached_from({name for name in bodies if name.startswith("w2c_keywrap_")} - CHECKS, bodies)
+    whole = reached_from(
+        {name for name in bodies if name.startswith("w2c_keywrap_")} - CHECKS, bodies
+    )
     size = constants.count("0x")
-    numbers = {"STACK": in_sixteens(max(needs.values())),
-               "STEPS_STACK": in_sixteens(max(map(needs.get, STEPS | CHECKS))),
-               "STEP_STACK": in_sixteens(max(map(needs.get, (STEPS | CHECKS) - TURNS))),
-               "DATA": size, "TOP": top}
+    numbers = {
+        "STACK": in_sixteens(max(needs.values())),
+        "STEPS_STACK": in_sixteens(max(map(needs.get, STEPS | CHECKS))),
+        "STEP_STACK": in_sixteens(max(map(needs.get, (STEPS | CHECKS) - TURNS))),
+        "DATA": size,
+        "TOP": top,
+    }
     # Each step fills and clears its stack. Beyond this gcc does so by slow instructions: a step takes twice as long.
     if numbers["STEP_STACK"] > 32:
         sys.exit("portable.py: a step takes more of the stack")
     written = {found[1]: function_of(found, top, top + size) for found in functions}
     # The statuses and phases of a rewrap, within 1 KiB: the steps have no table of AES, which would take more.
-    loads = [load for name in steps for load in re.findall(r"constant_(\w+)\((.*)\);", written[name])]
+    loads = [
+        load
+        for name in steps
+        for load in re.findall(r"constant_(\w+)\((.*)\);", written[name])
+    ]
     places = sorted({int(place.rpartition("+ ")[2].rstrip("u)")) for _, place in loads})
     if {load for load, _ in loads} != {"i32_load"} or places[-1] - places[0] >= 1024:
         sys.exit("portable.py: the steps: they read other constants")
     numbers |= {"STEPS_AT": places[0], "STEPS_DATA": places[-1] + 12 - places[0]}
-    those = re.findall("0x..", constants)[places[0] - top:][:numbers["STEPS_DATA"]]
-    parts = [("" if name in steps else WHOLE_ONLY if name in whole else WITH_AES, piece)
-             for pieces in (prototypes, written) for name, piece in pieces.items()]
+    those = re.findall("0x..", constants)[places[0] - top :][: numbers["STEPS_DATA"]]
+    parts = [
+        ("" if name in steps else WHOLE_ONLY if name in whole else WITH_AES, piece)
+        for pieces in (prototypes, written)
+        for name, piece in pieces.items()
+    ]
     module = ""
     for only, group in itertools.groupby(parts, lambda part: part[0]):
         pieces = "".join(piece for _, piece in group)
         module += f"{only}{pieces}#endif\n" if only else pieces
-    return numbers, [f"static const u8 constants[CONSTANTS] = {{\n{bytes_of}}};"
-                     for bytes_of in (constants, "    " + ", ".join(those) + "\n")], module
+    return (
+        numbers,
+        [
+            f"static const u8 constants[CONSTANTS] = {{\n{bytes_of}}};"
+            for bytes_of in (constants, "    " + ", ".join(those) + "\n")
+        ],
+        module,
+    )
 
 
 # What a parameter that is no buffer becomes: a field of the runtime's call, and an argument of the module.
-BESIDE = {"size_t ": ("number", "call->number"), "uint64_t ": ("number", "call->number"),
-          "uint32_t ": ("flags", "call->flags"), "size_t *": ("key_len", "NUMBER"), "uint32_t *": ("flag", "FLAG"),
-          "uint64_t *": ("steps", "NUMBER"), "uint8_t *": ("block", "BLOCK_AT")}
+BESIDE = {
+    "size_t ": ("number", "call->number"),
+    "uint64_t ": ("number", "call->number"),
+    "uint32_t ": ("flags", "call->flags"),
+    "size_t *": ("key_len", "NUMBER"),
+    "uint32_t *": ("flag", "FLAG"),
+    "uint64_t *": ("steps", "NUMBER"),
+    "uint8_t *": ("block", "BLOCK_AT"),
+}
 # The longest that a buffer may be. Those of a fixed length have no parameter for it.
-LONGEST = dict.fromkeys(["key", "scratch", "registers"], "KEYWRAP_MAX_KEY") | dict.fromkeys(
-    ["wrapped", "buffer", "text", "copy"], "KEYWRAP_MAX_TEXT") | {"iv": "8"}
+LONGEST = (
+    dict.fromkeys(["key", "scratch", "registers"], "KEYWRAP_MAX_KEY")
+    | dict.fromkeys(["wrapped", "buffer", "text", "copy"], "KEYWRAP_MAX_TEXT")
+    | {"iv": "8"}
+)
 FIXED = {"first": "8", "block": "16"}
 
 
 def translator(name, parameters, declared):
     """The CALL of the runtime for a prototype: its buffers and numbers, as the module takes them."""
     parameters = " ".join(parameters.replace("KEYWRAP_RESTRICT ", "").split())
-    buffers, numbers, fields, given, rest = [], [], ["BUFFERS"], ["module"], iter(parameters.split(", "))
+    buffers, numbers, fields, given, rest = (
+        [],
+        [],
+        ["BUFFERS"],
+        ["module"],
+        iter(parameters.split(", ")),
+    )
     for parameter in rest:
         kind, what = re.fullmatch(r"(.*[ *])(\w+)", parameter).groups()
         if "_check_" in name and kind in ("size_t ", "uint32_t "):
@@ -199,8 +299,11 @@ def translator(name, parameters, declared):
         else:
             size = FIXED[what] if what in FIXED else next(rest).rpartition(" ")[2]
             argument = f"{'ADDRESS' if what in FIXED else 'BUFFER'}({len(buffers)})"
-            buffers.append(f"KEK({what}, {size})" if what.endswith("kek") else
-                           f"{'READS' if kind[0] == 'c' else 'WRITES'}({what}, {size}, {LONGEST.get(what, size)})")
+            buffers.append(
+                f"KEK({what}, {size})"
+                if what.endswith("kek")
+                else f"{'READS' if kind[0] == 'c' else 'WRITES'}({what}, {size}, {LONGEST.get(what, size)})"
+            )
         given.append(argument)
     short = name.removeprefix("keywrap_")
     fields += [f".numbers = (const u64[]){{{', '.join(numbers)}}}"] * bool(numbers)
@@ -212,51 +315,81 @@ def translator(name, parameters, declared):
     # A line ends behind a parameter, or behind a whole argument of the macro.
     items = f"CALL({declared}, {short}, ({parameters})".split(", ")
     items += [f"({', '.join(given)})", f"({', '.join(fields)})", *buffers]
-    lines = textwrap.wrap(", ".join(item.replace(" ", "\0") for item in items) + ")", 100,
-                          subsequent_indent=" " * 5, break_on_hyphens=False)
+    lines = textwrap.wrap(
+        ", ".join(item.replace(" ", "\0") for item in items) + ")",
+        100,
+        subsequent_indent=" " * 5,
+        break_on_hyphens=False,
+    )
     return "\n".join(lines).replace("\0", " ") + "\n"
 
 
 def translators(header, declared):
     """The CALLs of a header, for its calls for one key. A check is for any."""
-    found = re.findall(r"^(?:KEYWRAP_CHECK )?int32_t (keywrap_\w+)\(([^)]*uint8_t \*[^)]*)\);",
-                       (ROOT / header).read_text(), re.M)
-    return "\n".join(translator(*call, declared) for call in found
-                     if "_check_" in call[0] or not call[0].endswith("_many"))
+    found = re.findall(
+        r"^(?:KEYWRAP_CHECK )?int32_t (keywrap_\w+)\(([^)]*uint8_t \*[^)]*)\);",
+        (ROOT / header).read_text(),
+        re.M,
+    )
+    return "\n".join(
+        translator(*call, declared)
+        for call in found
+        if "_check_" in call[0] or not call[0].endswith("_many")
+    )
 
 
 def hardware():
     """The calls by the processor's AES as one part of the file, in which nothing but the calls has a name outside."""
     parts = []
     for name in HARDWARE:
-        text = ((PARTS if name.endswith(".in") else ROOT / "c/hardware") / name).read_text()
-        text = text.replace("@CHECKS@\n", translators("c/include/keywrap_checks.h", "HIDDEN, perform_steps"))
-        text = re.sub(r"^#include (?:\"(?:aes|run)\.h\"|<keywrap(?:_steps|_checks)?\.h>|<std\w+\.h>|<string\.h>)\n",
-                      "", text, flags=re.M)
+        text = (
+            (PARTS if name.endswith(".in") else ROOT / "c/hardware") / name
+        ).read_text()
+        text = text.replace(
+            "@CHECKS@\n",
+            translators("c/include/keywrap_checks.h", "HIDDEN, perform_steps"),
+        )
+        text = re.sub(
+            r"^#include (?:\"(?:aes|run)\.h\"|<keywrap(?:_steps|_checks)?\.h>|<std\w+\.h>|<string\.h>)\n",
+            "",
+            text,
+            flags=re.M,
+        )
         if name.endswith(".h"):
             # A compiler that sees the round keys of an inlined function would keep copies of them on the stack.
-            text = re.sub(r"^(?=(?:int|void|int32_t) \w+\()", "static APART ", text, flags=re.M)
+            text = re.sub(
+                r"^(?=(?:int|void|int32_t) \w+\()", "static APART ", text, flags=re.M
+            )
         parts.append(text)
     return "\n".join(parts)
 
 
 def version_of(*command):
     """The version that a tool prints."""
-    return the_one(f"the version of {command[0]}", r"\d+(?:\.\d+)*", subprocess.run(
-        command, capture_output=True, text=True, check=True).stdout.splitlines()[0])
+    return the_one(
+        f"the version of {command[0]}",
+        r"\d+(?:\.\d+)*",
+        subprocess.run(
+            command, capture_output=True, text=True, check=True
+        ).stdout.splitlines()[0],
+    )
 
 
 def tools():
     """The tools that the file depends on, as it names them."""
-    kit = subprocess.run(["rt", "version"], capture_output=True, text=True, check=True).stdout.splitlines()[0]
+    kit = subprocess.run(
+        ["rt", "version"], capture_output=True, text=True, check=True
+    ).stdout.splitlines()[0]
     return f"Rattle {kit}, binaryen {version_of(WASM_OPT, '--version')}, wabt {version_of(WASM2C, '--version')}"
 
 
 def head():
     version = (ROOT / "VERSION").read_text().strip()
-    return (f" * Version {version}. `make dist-sources` of the repository writes this file; do not edit it.\n"
-            f" * By {tools()}.\n"
-            f" * docs/TRUST.md of the repository says what is proved, what is translated and what is trusted.")
+    return (
+        f" * Version {version}. `make dist-sources` of the repository writes this file; do not edit it.\n"
+        f" * By {tools()}.\n"
+        f" * docs/TRUST.md of the repository says what is proved, what is translated and what is trusted."
+    )
 
 
 def readme(lines):
@@ -271,18 +404,33 @@ def main(wasm, directory):
     directory.mkdir(parents=True, exist_ok=True)
     numbers, constants, module = module_of(translated(wasm))
     macros = "\n".join(f"#define {name} {value}" for name, value in numbers.items())
-    runtime, calls, steps = [(PARTS / name).read_text() for name in ("runtime.c.in", "calls.c.in", "steps.c.in")]
-    for name, value in {"HEAD": head(), "NUMBERS": macros, "CONSTANTS": constants[0],
-                        "STEPS_CONSTANTS": constants[1]}.items():
+    runtime, calls, steps = [
+        (PARTS / name).read_text()
+        for name in ("runtime.c.in", "calls.c.in", "steps.c.in")
+    ]
+    for name, value in {
+        "HEAD": head(),
+        "NUMBERS": macros,
+        "CONSTANTS": constants[0],
+        "STEPS_CONSTANTS": constants[1],
+    }.items():
         the_one(f"the place of {name}", rf"^@{name}@$", runtime)
         runtime = runtime.replace(f"@{name}@", value)
-    calls = calls.replace("@CALLS@\n", translators("dist/keywrap.h", "PROVED, perform") + "\n")
-    steps = steps.replace("@CALLS@\n", translators("dist/keywrap_steps.h", "SHOWN, perform_steps"))
+    calls = calls.replace(
+        "@CALLS@\n", translators("dist/keywrap.h", "PROVED, perform") + "\n"
+    )
+    steps = steps.replace(
+        "@CALLS@\n", translators("dist/keywrap_steps.h", "SHOWN, perform_steps")
+    )
     by_aes = hardware()
     (directory / "keywrap.c").write_text(
         f"{runtime}\n/*** The module, by wasm2c ***/\n\n{module}\n{WHOLE_ONLY}{calls}#endif\n\n{steps}\n"
-        f"#ifdef WITH_AES\n/*** The calls by the processor's AES ***/\n\n{by_aes}#endif\n")
-    lines = sum(part.count("\n") for part in [(PARTS / "runtime.c.in").read_text(), calls, steps, by_aes])
+        f"#ifdef WITH_AES\n/*** The calls by the processor's AES ***/\n\n{by_aes}#endif\n"
+    )
+    lines = sum(
+        part.count("\n")
+        for part in [(PARTS / "runtime.c.in").read_text(), calls, steps, by_aes]
+    )
     (directory / "README").write_text(readme(lines))
     if pathlib.Path(wasm).resolve() != (directory / "keywrap.wasm").resolve():
         shutil.copyfile(wasm, directory / "keywrap.wasm")

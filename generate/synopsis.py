@@ -24,9 +24,16 @@ def excludes(one, other):
 def written(options, needing):
     """Options that exclude each other are alternatives. Others follow each other, each in brackets."""
     if len(options) == 1:
-        option, = options
-        words = f"Fl {option.short} | " * bool(option.short) + f"Fl -{option.name}{VALUES[option.value]}"
-        return words + "".join(f" Oo {written([other], [])} Oc" for other in needing if option.name in other.needs)
+        (option,) = options
+        words = (
+            f"Fl {option.short} | " * bool(option.short)
+            + f"Fl -{option.name}{VALUES[option.value]}"
+        )
+        return words + "".join(
+            f" Oo {written([other], [])} Oc"
+            for other in needing
+            if option.name in other.needs
+        )
     apart = groups(options, excludes)
     if len(apart) > 1:
         return " ".join(f"Oo {written(group, needing)} Oc" for group in apart)
@@ -37,13 +44,20 @@ def written(options, needing):
 def command_lines(command):
     yield ".Nm\n.Cm " + command
     options = [option for option in of(command) if option.value not in ("Kek", "Key")]
-    yield from (f".{written([option], [])}" for option in of(command) if option.value == "Kek")
+    yield from (
+        f".{written([option], [])}" for option in of(command) if option.value == "Kek"
+    )
     needing = [option for option in options if option.needs]
     found = groups([option for option in options if not option.needs], excludes)
-    yield from (f".Op {written(group, needing)}" for group in sorted(found, key=lambda group: group[0].value == "File"))
+    yield from (
+        f".Op {written(group, needing)}"
+        for group in sorted(found, key=lambda group: group[0].value == "File")
+    )
     yield from (f".Ar {option.name}" for option in of(command) if option.value == "Key")
 
 
 def synopsis():
     lines = [line for command in COMMANDS for line in command_lines(command)]
-    return "\n".join([*lines, ".Nm\n.Cm help\n.Op Ar command", ".Nm\n.Fl -help | Fl -version"])
+    return "\n".join(
+        [*lines, ".Nm\n.Cm help\n.Op Ar command", ".Nm\n.Fl -help | Fl -version"]
+    )

@@ -28,7 +28,10 @@ import tempfile
 import zipfile
 
 VERSION = pathlib.Path("VERSION").read_text().strip()
-PROCESSORS = {"x86_64": "x86-64 with SSE4.1", "aarch64": "aarch64 (any 64-bit Arm processor)"}
+PROCESSORS = {
+    "x86_64": "x86-64 with SSE4.1",
+    "aarch64": "aarch64 (any 64-bit Arm processor)",
+}
 PYTHON_PACKAGES = ("build", "cffi", "setuptools", "wheel")
 LACKING = f"""import importlib.util, os, sys, sysconfig
 has_headers = os.path.exists(os.path.join(sysconfig.get_path("include"), "Python.h"))
@@ -42,8 +45,12 @@ BUILT = ("keywrap", "keywrap_c", "keywrap_wasm")
 def with_links(text, names=()):
     """A document for the directory share/doc/keywrap. Links to the documents beside it, headers, examples and the
     provider for Java lead there. Other links become plain text, and pictures go."""
-    places = [(r"((?:https?:|#).*)", r"\1"), (rf"(?:\.\./|docs/)?((?:{'|'.join(names)})\.md.*)", r"\1"),
-              (r"\.\./dist/(keywrap\w*\.h.*)", r"../../../include/\1"), (r"\.\./(?:c/)?((?:examples|java)/.*)", r"\1")]
+    places = [
+        (r"((?:https?:|#).*)", r"\1"),
+        (rf"(?:\.\./|docs/)?((?:{'|'.join(names)})\.md.*)", r"\1"),
+        (r"\.\./dist/(keywrap\w*\.h.*)", r"../../../include/\1"),
+        (r"\.\./(?:c/)?((?:examples|java)/.*)", r"\1"),
+    ]
 
     def link(found):
         words, target = found.groups()
@@ -60,11 +67,18 @@ def documents(directory, machine, readme, *paths):
     directory = pathlib.Path(directory)
     directory.mkdir(parents=True, exist_ok=True)
     templates = pathlib.Path("packaging/templates")
-    lines = "    bin/keywrap" + (templates / "README.in").read_text().partition("    bin/keywrap")[2]
+    lines = (
+        "    bin/keywrap"
+        + (templates / "README.in").read_text().partition("    bin/keywrap")[2]
+    )
     text = (templates / f"{readme}.in").read_text().replace("@LINES@\n", lines)
     shared = f"libkeywrap.so.{VERSION.replace('-', '~')}"
-    for name, value in ("VERSION", VERSION), ("SHARED", shared), ("PROCESSORS", PROCESSORS[machine]), (
-            "MACHINE", machine.replace("_", "-")):
+    for name, value in (
+        ("VERSION", VERSION),
+        ("SHARED", shared),
+        ("PROCESSORS", PROCESSORS[machine]),
+        ("MACHINE", machine.replace("_", "-")),
+    ):
         text = text.replace(f"@{name}@", value)
     (directory / readme).write_text(text)
     names = [pathlib.Path(path).stem for path in paths]
@@ -77,9 +91,29 @@ def pack(directory, file):
     file = pathlib.Path(file).absolute()
     file.parent.mkdir(parents=True, exist_ok=True)
     new = file.with_name(f"{file.name}.new")
-    fixed = ["--sort=name", "--format=ustar", "--owner=0", "--group=0", "--numeric-owner", "--mode=u=rwX,go=rX",
-             f"--mtime=@{os.environ['SOURCE_DATE_EPOCH']}"]
-    subprocess.run(["tar", "-C", directory.parent, *fixed, "-I", "gzip -9n", "-cf", new, directory.name], check=True)
+    fixed = [
+        "--sort=name",
+        "--format=ustar",
+        "--owner=0",
+        "--group=0",
+        "--numeric-owner",
+        "--mode=u=rwX,go=rX",
+        f"--mtime=@{os.environ['SOURCE_DATE_EPOCH']}",
+    ]
+    subprocess.run(
+        [
+            "tar",
+            "-C",
+            directory.parent,
+            *fixed,
+            "-I",
+            "gzip -9n",
+            "-cf",
+            new,
+            directory.name,
+        ],
+        check=True,
+    )
     new.rename(file)
     print(file)
 
@@ -97,10 +131,14 @@ def headers(directory):
 def archive(directory, file):
     """The README is at the top, too, and the library is found relative to keywrap.pc."""
     directory = pathlib.Path(directory)
-    readme, = directory.glob("share/doc/keywrap/README*")
+    (readme,) = directory.glob("share/doc/keywrap/README*")
     shutil.copy(readme, directory / "README")
     for pc in directory.glob("lib/pkgconfig/keywrap.pc"):
-        pc.write_text(re.sub("^prefix=.*", "prefix=${pcfiledir}/../..", pc.read_text(), flags=re.M))
+        pc.write_text(
+            re.sub(
+                "^prefix=.*", "prefix=${pcfiledir}/../..", pc.read_text(), flags=re.M
+            )
+        )
     pack(directory, file)
 
 
@@ -122,17 +160,30 @@ def debian(name, directory):
         tree = pathlib.Path(workdir, name)
         shutil.copytree("packaging/debian-portable", tree / "debian")
         changes = pathlib.Path("packaging/debian/changelog").read_text()
-        (tree / "debian/changelog").write_text(re.sub(r"^keywrap \(", "keywrap-portable (", changes, flags=re.M))
+        (tree / "debian/changelog").write_text(
+            re.sub(r"^keywrap \(", "keywrap-portable (", changes, flags=re.M)
+        )
         shutil.copytree("dist/command", tree / "command")
         names = ("keywrap.bash", "_keywrap", "keywrap.fish")
-        subprocess.run(["generate/completions.py", *(tree / "completions" / name for name in names)], check=True)
+        subprocess.run(
+            [
+                "generate/completions.py",
+                *(tree / "completions" / name for name in names),
+            ],
+            check=True,
+        )
         shutil.copy("dist/Makefile", tree)
         shutil.copy("command/man/keywrap.1", tree)
         for page in "SECURITY.md", "CHANGELOG.md":
             (tree / page).write_text(with_links(pathlib.Path(page).read_text()))
         for path in [tree, *tree.rglob("*")]:
             path.chmod(0o755 if path.is_dir() or path.name == "rules" else 0o644)
-        subprocess.run(["dpkg-source", "-b", tree], cwd=directory, check=True, stdout=subprocess.DEVNULL)
+        subprocess.run(
+            ["dpkg-source", "-b", tree],
+            cwd=directory,
+            check=True,
+            stdout=subprocess.DEVNULL,
+        )
     print(*directory.glob(f"{name}.dsc"))
 
 
@@ -143,35 +194,57 @@ def npm(directory):
         if path.suffix in (".wasm", ".js", ".mjs", ".cjs", ".ts", ".html"):
             shutil.copyfile(path, directory / path.name)
     module = base64.b64encode(pathlib.Path("dist/keywrap.wasm").read_bytes()).decode()
-    (directory / "module.js").write_text(f"// The bytes of keywrap.wasm in base64.\nexport default '{module}';\n")
-    (directory / "README.md").write_text(with_links(pathlib.Path("js/README.md").read_text()))
-    package = pathlib.Path("js/package.json.in").read_text().replace("@VERSION@", VERSION)
+    (directory / "module.js").write_text(
+        f"// The bytes of keywrap.wasm in base64.\nexport default '{module}';\n"
+    )
+    (directory / "README.md").write_text(
+        with_links(pathlib.Path("js/README.md").read_text())
+    )
+    package = (
+        pathlib.Path("js/package.json.in").read_text().replace("@VERSION@", VERSION)
+    )
     (directory / "package.json").write_text(package)
     print(directory)
 
 
 def go(directory, *paths):
     root = pathlib.Path("dist")
-    module, version = re.match("module (.*)\n", (root / "go.mod").read_text())[1], f"v{VERSION}"
+    module, version = (
+        re.match("module (.*)\n", (root / "go.mod").read_text())[1],
+        f"v{VERSION}",
+    )
     place = pathlib.Path(directory, module, "@v")
     place.mkdir(parents=True, exist_ok=True)
-    found = [file for path in map(pathlib.Path, paths) for file in ([path] if path.is_file() else path.rglob("*"))]
+    found = [
+        file
+        for path in map(pathlib.Path, paths)
+        for file in ([path] if path.is_file() else path.rglob("*"))
+    ]
     with zipfile.ZipFile(place / f"{version}.zip", "w", zipfile.ZIP_DEFLATED) as packed:
         for file in sorted(filter(pathlib.Path.is_file, found)):
             member = zipfile.ZipInfo(f"{module}@{version}/{file.relative_to(root)}")
-            member.compress_type, member.external_attr = zipfile.ZIP_DEFLATED, 0o100644 << 16
+            member.compress_type, member.external_attr = (
+                zipfile.ZIP_DEFLATED,
+                0o100644 << 16,
+            )
             packed.writestr(member, file.read_bytes())
     shutil.copyfile(root / "go.mod", place / f"{version}.mod")
-    (place / f"{version}.info").write_text(json.dumps({"Version": version, "Time": "2026-01-01T00:00:00Z"}) + "\n")
+    (place / f"{version}.info").write_text(
+        json.dumps({"Version": version, "Time": "2026-01-01T00:00:00Z"}) + "\n"
+    )
     (place / "list").write_text(f"{version}\n")
     print(directory)
 
 
 def needs(python, *headers):
-    found = shutil.which(python) and subprocess.run([python, "-c", LACKING, *headers], capture_output=True, text=True)
+    found = shutil.which(python) and subprocess.run(
+        [python, "-c", LACKING, *headers], capture_output=True, text=True
+    )
     if lacks := found.stdout.strip() if found and found.returncode == 0 else "python3":
-        sys.exit(f"PYTHON='{python}' lacks what builds the wheel: apt-get install {lacks}, or name another Python, as "
-                 "PYTHON=/usr/bin/python3")
+        sys.exit(
+            f"PYTHON='{python}' lacks what builds the wheel: apt-get install {lacks}, or name another Python, as "
+            "PYTHON=/usr/bin/python3"
+        )
 
 
 def python_package(python, kind, package, directory, sources, env=None):
@@ -183,12 +256,20 @@ def python_package(python, kind, package, directory, sources, env=None):
     for name, source in {"VERSION": "VERSION", **sources}.items():
         shutil.copyfile(source, package / name)
     shutil.copytree("dist/command", package / "command")
-    for page, place in ("python/README.md", "README.md"), ("docs/ROTATION.md", "src/keywrap/rotation/ROTATION.md"):
+    for page, place in ("python/README.md", "README.md"), (
+        "docs/ROTATION.md",
+        "src/keywrap/rotation/ROTATION.md",
+    ):
         (package / place).write_text(with_links(pathlib.Path(page).read_text()))
     directory.mkdir(parents=True, exist_ok=True)
     options = [f"--{kind}", "--no-isolation", "--outdir", directory, package]
-    built = subprocess.run([python, "-m", "build", *options], env=env, stdout=subprocess.PIPE,
-                           stderr=subprocess.STDOUT, text=True)
+    built = subprocess.run(
+        [python, "-m", "build", *options],
+        env=env,
+        stdout=subprocess.PIPE,
+        stderr=subprocess.STDOUT,
+        text=True,
+    )
     if built.returncode:
         sys.exit(built.stdout.strip())
 
@@ -202,16 +283,29 @@ def wheel(python, library, file, sysroot=None):
     env = {**os.environ, "COMMAND_LDFLAGS": "-static"}
     if sysroot:
         include = pathlib.Path(sysroot, "usr/include")
-        env["CFLAGS"] = f"-I{next(include.glob('python3.*'))} -idirafter {include} {env.get('CFLAGS', '')}"
+        env[
+            "CFLAGS"
+        ] = f"-I{next(include.glob('python3.*'))} -idirafter {include} {env.get('CFLAGS', '')}"
         env["LDSHARED"] = f"{env['CC']} -shared"
-        env["_PYTHON_HOST_PLATFORM"] = f"linux-{platform.removeprefix('manylinux_2_17_')}"
+        env[
+            "_PYTHON_HOST_PLATFORM"
+        ] = f"linux-{platform.removeprefix('manylinux_2_17_')}"
     with tempfile.TemporaryDirectory() as workdir:
         headers(workdir)
         options = pathlib.Path(workdir, "options")
         options.write_text(f"[bdist_wheel]\nplat_name = {platform}\n")
-        python_package(python, "wheel", pathlib.Path(library, "python"), file.parent, {
-            **{name: f"{workdir}/{name}" for name in HEADERS}, "setup.cfg": options,
-            "libkeywrap_hw.a": f"{library}/libkeywrap_hw.a"}, env)
+        python_package(
+            python,
+            "wheel",
+            pathlib.Path(library, "python"),
+            file.parent,
+            {
+                **{name: f"{workdir}/{name}" for name in HEADERS},
+                "setup.cfg": options,
+                "libkeywrap_hw.a": f"{library}/libkeywrap_hw.a",
+            },
+            env,
+        )
     print(file)
 
 
@@ -219,15 +313,26 @@ def sdist(python, file):
     """The package beside the C of dist/, which pip builds on any machine."""
     with tempfile.TemporaryDirectory() as workdir:
         workdir, name = pathlib.Path(workdir), pathlib.Path(file).name
-        python_package(python, "sdist", workdir / "package", workdir, {
-            name: f"dist/{name}" for name in ("keywrap.c", *HEADERS)})
+        python_package(
+            python,
+            "sdist",
+            workdir / "package",
+            workdir,
+            {name: f"dist/{name}" for name in ("keywrap.c", *HEADERS)},
+        )
         shutil.unpack_archive(workdir / name, workdir)
         pack(workdir / name.removesuffix(".tar.gz"), file)
 
 
 def linked_crates():
     """The crates that the program and the libraries need, directly or not, and that are not in this repository."""
-    needs = dict(re.findall(r"^(\w+)(?: staticlib)?: *(.*)$", pathlib.Path("crates.txt").read_text(), re.M))
+    needs = dict(
+        re.findall(
+            r"^(\w+)(?: staticlib)?: *(.*)$",
+            pathlib.Path("crates.txt").read_text(),
+            re.M,
+        )
+    )
     found, left = set(), list(BUILT)
     while left:
         name = left.pop()
@@ -244,7 +349,11 @@ def hash_of(path):
 def bill(paths):
     """A bill of materials (SBOM) as CycloneDX 1.4: this version, the kit that built it, the kit's crates that are
     linked in, and the hash of each file."""
-    kit = pathlib.Path(shutil.which("rt") or sys.exit("package.py: no rt on the PATH")).resolve().parent.parent
+    kit = (
+        pathlib.Path(shutil.which("rt") or sys.exit("package.py: no rt on the PATH"))
+        .resolve()
+        .parent.parent
+    )
     name, _, logic = (kit / "KIT-ID").read_text().strip().partition(" ")
     archive = re.search(r"^archive (\w+)$", (kit / "WHAT").read_text(), re.M).group(1)
     version, crates = name.removeprefix("rattle-kit-"), linked_crates()
@@ -253,15 +362,50 @@ def bill(paths):
         return {"hashes": [{"alg": "SHA-256", "content": content}]}
 
     return {
-        "bomFormat": "CycloneDX", "specVersion": "1.4", "version": 1,
-        "metadata": {"component": {"type": "application", "bom-ref": "keywrap", "name": "keywrap", "version": VERSION}},
+        "bomFormat": "CycloneDX",
+        "specVersion": "1.4",
+        "version": 1,
+        "metadata": {
+            "component": {
+                "type": "application",
+                "bom-ref": "keywrap",
+                "name": "keywrap",
+                "version": VERSION,
+            }
+        },
         "components": [
-            {"type": "framework", "bom-ref": "kit", "name": "rattle-kit", "version": version,
-             "description": f"prover, compilers and library of Rattle, {logic}", **hashes(archive)},
-            *({"type": "library", "bom-ref": crate, "group": "rattle-kit", "name": crate, "version": version}
-              for crate in crates),
-            *({"type": "file", "bom-ref": path.name, "name": path.name, **hashes(hash_of(path))} for path in paths)],
-        "dependencies": [{"ref": "keywrap", "dependsOn": crates}, {"ref": "kit", "dependsOn": crates}],
+            {
+                "type": "framework",
+                "bom-ref": "kit",
+                "name": "rattle-kit",
+                "version": version,
+                "description": f"prover, compilers and library of Rattle, {logic}",
+                **hashes(archive),
+            },
+            *(
+                {
+                    "type": "library",
+                    "bom-ref": crate,
+                    "group": "rattle-kit",
+                    "name": crate,
+                    "version": version,
+                }
+                for crate in crates
+            ),
+            *(
+                {
+                    "type": "file",
+                    "bom-ref": path.name,
+                    "name": path.name,
+                    **hashes(hash_of(path)),
+                }
+                for path in paths
+            ),
+        ],
+        "dependencies": [
+            {"ref": "keywrap", "dependsOn": crates},
+            {"ref": "kit", "dependsOn": crates},
+        ],
     }
 
 
@@ -273,15 +417,31 @@ def lists(*paths):
     materials = directory / f"keywrap-{VERSION}.cdx.json"
     new.write_text(json.dumps(bill(paths), indent=2) + "\n")
     new.rename(materials)
-    new.write_text("".join(f"{hash_of(path)}  {path.name}\n" for path in [*paths, materials]))
+    new.write_text(
+        "".join(f"{hash_of(path)}  {path.name}\n" for path in [*paths, materials])
+    )
     new.rename(directory / "SHA256SUMS")
     print(directory / "SHA256SUMS")
 
 
 if __name__ == "__main__":
     os.umask(0o022)
-    goals = {goal.__name__: goal for goal in (documents, headers, archive, files, debian, npm, go, needs, wheel, sdist,
-                                              lists)}
+    goals = {
+        goal.__name__: goal
+        for goal in (
+            documents,
+            headers,
+            archive,
+            files,
+            debian,
+            npm,
+            go,
+            needs,
+            wheel,
+            sdist,
+            lists,
+        )
+    }
     if sys.argv[1:2] == [] or sys.argv[1] not in goals:
         sys.exit(__doc__)
     goals[sys.argv[1]](*sys.argv[2:])

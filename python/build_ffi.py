@@ -108,13 +108,24 @@ static const char *const VERSION = PACKAGE_VERSION;
 NUMBERS = [
     f"KEYWRAP_{name}"
     for name in (
-        "MAX_KEY", "MAX_TEXT", "OLD_PADDED", "NEW_PADDED", "KEEP_FORM", "PASS_NEW", "ALREADY_NEW", "DECRYPT", "NEW")
+        "MAX_KEY",
+        "MAX_TEXT",
+        "OLD_PADDED",
+        "NEW_PADDED",
+        "KEEP_FORM",
+        "PASS_NEW",
+        "ALREADY_NEW",
+        "DECRYPT",
+        "NEW",
+    )
 ]
 
 
 def declarations(header: str, steps: str) -> str:
     """The calls, the statuses and the numbers of the headers, as cffi reads them. The steps are those for one key."""
-    calls = re.findall(r"^(?:u?int32_t|size_t|void) keywrap_\w+\([^;]*\);", header, re.M)
+    calls = re.findall(
+        r"^(?:u?int32_t|size_t|void) keywrap_\w+\([^;]*\);", header, re.M
+    )
     calls += re.findall(r"^u?int\d+_t keywrap_\w+(?<!_many)\([^;]*\);", steps, re.M)
     statuses = re.findall(r"^enum keywrap_status \{.*?\};", header, re.M | re.S)
     numbers = [f"#define {name} ..." for name in NUMBERS]
@@ -132,7 +143,10 @@ VERSION = version.strip().replace("-dev", ".dev0")
 
 header = Path(C, "keywrap.h").read_text(encoding="utf-8")
 ffi = FFI()
-ffi.cdef(declarations(header, Path(C, "keywrap_steps.h").read_text(encoding="utf-8")) + HELPERS)
+ffi.cdef(
+    declarations(header, Path(C, "keywrap_steps.h").read_text(encoding="utf-8"))
+    + HELPERS
+)
 # Of the library: without debugging information, which names the directory, and stripped. The package calls the library
 # that is in it, whatever another one in the process shows.
 NATIVE = {
@@ -142,7 +156,9 @@ NATIVE = {
 }
 PORTABLE = {
     "sources": [f"{C}/keywrap.c"],
-    "extra_compile_args": ["-std=c99", "-O2", "-fvisibility=hidden"] if os.name == "posix" else [],
+    "extra_compile_args": ["-std=c99", "-O2", "-fvisibility=hidden"]
+    if os.name == "posix"
+    else [],
 }
 portable = Path(C, "keywrap.c").exists()
 ffi.set_source(

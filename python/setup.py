@@ -7,12 +7,16 @@ import shlex
 import subprocess
 from pathlib import Path
 
-from setuptools import setup  # noqa: I001 (it comes first: it has the distutils of the next line)
+from setuptools import (
+    setup,
+)  # noqa: I001 (it comes first: it has the distutils of the next line)
 from distutils.command.build_scripts import build_scripts
 from setuptools.command.build_py import build_py
 
 version = next(path for path in (Path("VERSION"), Path("../VERSION")) if path.exists())
-command = next(path for path in (Path("command"), Path("../dist/command")) if path.exists())
+command = next(
+    path for path in (Path("command"), Path("../dist/command")) if path.exists()
+)
 
 
 class BuildModules(build_py):
@@ -29,10 +33,20 @@ class BuildCommand(build_scripts):
 
     def run(self):
         Path(self.build_dir).mkdir(parents=True, exist_ok=True)
-        flags = [shlex.split(os.environ.get(name, default)) for name, default in (
-            ("CC", "cc"), ("CPPFLAGS", ""), ("CFLAGS", "-O1"), ("COMMAND_LDFLAGS", ""))]
+        flags = [
+            shlex.split(os.environ.get(name, default))
+            for name, default in (
+                ("CC", "cc"),
+                ("CPPFLAGS", ""),
+                ("CFLAGS", "-O1"),
+                ("COMMAND_LDFLAGS", ""),
+            )
+        ]
         target = str(Path(self.build_dir, "keywrap"))
-        subprocess.run([*sum(flags, []), "-o", target, *map(str, sorted(command.glob("*.c")))], check=True)
+        subprocess.run(
+            [*sum(flags, []), "-o", target, *map(str, sorted(command.glob("*.c")))],
+            check=True,
+        )
 
     def get_source_files(self):
         return []  # MANIFEST.in has them

@@ -19,7 +19,20 @@ import pytest
 pytest.register_assert_rewrite("checks")
 
 import counting
-from builds import built, debs, dist, in_c, library, once, portable, prefix, python, thing, wheel, words  # noqa: F401
+from builds import (
+    built,
+    debs,
+    dist,
+    in_c,
+    library,
+    once,
+    portable,
+    prefix,
+    python,
+    thing,
+    wheel,
+    words,
+)  # noqa: F401
 from commands import FILES, LARGE
 from program import SLOW, Ended, Program, shared, wait_for
 from tools import need
@@ -28,14 +41,31 @@ ROOT = pathlib.Path(__file__).resolve().parent.parent
 # When a test began, in seconds of processor of this process and of those that have ended.
 BEFORE = pytest.StashKey()
 # The files of long tests.
-LONG = ("test_shell", "test_secrets", "test_hardware", "test_library", "test_arm64", "test_portable", "test_python",
-        "test_dist", "test_debian", "test_handed_out", "test_provider", "test_facts", "test_go", "test_java", "test_js",
-        "test_all_inputs")
+LONG = (
+    "test_shell",
+    "test_secrets",
+    "test_hardware",
+    "test_library",
+    "test_arm64",
+    "test_portable",
+    "test_python",
+    "test_dist",
+    "test_debian",
+    "test_handed_out",
+    "test_provider",
+    "test_facts",
+    "test_go",
+    "test_java",
+    "test_js",
+    "test_all_inputs",
+)
 
 
 def pytest_addoption(parser):
     parser.addoption("--skipped", help="a file for the reasons of what is skipped")
-    parser.addoption("--passed", help="a file for the names of the rows that pass as a whole")
+    parser.addoption(
+        "--passed", help="a file for the names of the rows that pass as a whole"
+    )
 
 
 def pytest_configure(config):
@@ -45,24 +75,37 @@ def pytest_configure(config):
         if signal.getsignal(number) == signal.SIG_IGN:
             signal.signal(number, signal.SIG_DFL)
     given = os.environ.get("KEYWRAP")
-    config.program = pathlib.Path(given or ROOT / "crates/keywrap/out/keywrap").absolute()
+    config.program = pathlib.Path(
+        given or ROOT / "crates/keywrap/out/keywrap"
+    ).absolute()
     recorded = ["b2sum", "--check", "--status", "crates/keywrap/out/built_from"]
     if not (given or hasattr(config, "workerinput")) and (
-            not config.program.exists() or subprocess.run(recorded, cwd=ROOT, stderr=subprocess.DEVNULL).returncode):
-        pytest.exit("the program is not built of these sources: run ./keywrap --version, or name one by KEYWRAP=PATH",
-                    returncode=1)
+        not config.program.exists()
+        or subprocess.run(recorded, cwd=ROOT, stderr=subprocess.DEVNULL).returncode
+    ):
+        pytest.exit(
+            "the program is not built of these sources: run ./keywrap --version, or name one by KEYWRAP=PATH",
+            returncode=1,
+        )
 
 
 def pytest_collection_modifyitems(config, items):
     """Shares the long tests out among the processes of pytest-xdist: each first gets a block of the items. The tests of
-    lines of rows.txt, which wait for each other, stay together. KEYWRAP_PASSED=FILE leaves out what it names."""
+    lines of rows.txt, which wait for each other, stay together. KEYWRAP_PASSED=FILE leaves out what it names.
+    """
     if file := os.environ.get("KEYWRAP_PASSED"):
         passed = {*pathlib.Path(file).read_text().splitlines()}
         items[:] = [item for item in items if item.nodeid not in passed]
     processes = int(os.environ.get("PYTEST_XDIST_WORKER_COUNT", "1"))
     block = len(items) // (4 * processes)
-    long = [item for item in items if item.path.name.startswith(LONG) and "line" not in item.fixturenames]
-    long.sort(key=lambda item: "long_list" in item.name)  # What is inserted last runs first.
+    long = [
+        item
+        for item in items
+        if item.path.name.startswith(LONG) and "line" not in item.fixturenames
+    ]
+    long.sort(
+        key=lambda item: "long_list" in item.name
+    )  # What is inserted last runs first.
     items[:] = [item for item in items if item not in long]
     for number, item in enumerate(long):
         items.insert(number % processes * block, item)
@@ -87,10 +130,18 @@ def pytest_unconfigure(config):
     reporter = config.pluginmanager.get_plugin("terminalreporter")
     if reporter and not config.getoption("collectonly"):
         passed, failed, errors, skipped = (
-            reporter.stats.get(kind, []) for kind in ("passed", "failed", "error", "skipped"))
+            reporter.stats.get(kind, [])
+            for kind in ("passed", "failed", "error", "skipped")
+        )
         if file := config.getoption("passed"):
-            whole = [report for report in passed if "skipped" not in dict(report.user_properties)]
-            pathlib.Path(file).write_text("".join(f"{report.nodeid}\n" for report in whole))
+            whole = [
+                report
+                for report in passed
+                if "skipped" not in dict(report.user_properties)
+            ]
+            pathlib.Path(file).write_text(
+                "".join(f"{report.nodeid}\n" for report in whole)
+            )
         passed, failed, reasons = counting.of_reports(passed, failed + errors, skipped)
         named = [f"{reason}\n" for reason in sorted({*reasons} - {SLOW})]
         if file := config.getoption("skipped"):
@@ -99,7 +150,9 @@ def pytest_unconfigure(config):
             print(end="".join(f"SKIPPED: {reason}" for reason in named))
         seconds = collections.Counter()
         for report in reporter.stats.get("", []):
-            seconds[report.nodeid.partition("::")[0]] += dict(report.user_properties).get("processor", 0)
+            seconds[report.nodeid.partition("::")[0]] += dict(
+                report.user_properties
+            ).get("processor", 0)
         for file, spent in seconds.most_common():
             if spent > 60:
                 print(f"{file}: {spent:.0f} s of processor")
@@ -108,7 +161,9 @@ def pytest_unconfigure(config):
 
 def pytest_make_parametrize_id(val):
     """A row with a command has its name. A long text is cut."""
-    return getattr(val, "name", None) or (val[:60] if isinstance(val, str) and len(val) > 60 else None)
+    return getattr(val, "name", None) or (
+        val[:60] if isinstance(val, str) and len(val) > 60 else None
+    )
 
 
 @pytest.fixture(autouse=True)
@@ -138,14 +193,31 @@ def keywrap(pytestconfig):
 @pytest.fixture(scope="session")
 def compiled(tmp_path_factory):
     """compiled("fail_read") builds tests/fail_read.c as a library for LD_PRELOAD, by cc or the kit's clang."""
-    kit = pathlib.Path(shutil.which("rt") or "rt").resolve().parent.parent / "toolchain/bin"
+    kit = (
+        pathlib.Path(shutil.which("rt") or "rt").resolve().parent.parent
+        / "toolchain/bin"
+    )
 
     @functools.cache
     def build(name):
         library = tmp_path_factory.mktemp(name) / f"{name}.so"
-        words = ["-O1", "-shared", "-fPIC", "-nostdlib", "-ffreestanding", "-o", library, f"{ROOT}/tests/{name}.c"]
+        words = [
+            "-O1",
+            "-shared",
+            "-fPIC",
+            "-nostdlib",
+            "-ffreestanding",
+            "-o",
+            library,
+            f"{ROOT}/tests/{name}.c",
+        ]
         for compiler in ["cc"], [f"{kit}/clang", f"-fuse-ld={kit}/ld.lld"]:
-            if shutil.which(compiler[0]) and not subprocess.run([*compiler, *words], capture_output=True).returncode:
+            if (
+                shutil.which(compiler[0])
+                and not subprocess.run(
+                    [*compiler, *words], capture_output=True
+                ).returncode
+            ):
                 return library
         need("cc")
         pytest.fail(f"cc does not build {name}.c")
@@ -157,13 +229,17 @@ def compiled(tmp_path_factory):
 def preloaded(keywrap, compiled):
     """preloaded("fail_alloc") is the program over that library: a function with its variables, as FAIL_ALLOC="3+".
 
-    `met` of the function is what the library wrote during the last run. `count(args)` is how many calls can fail."""
+    `met` of the function is what the library wrote during the last run. `count(args)` is how many calls can fail.
+    """
+
     def over(name, program=keywrap):
         library = compiled(name)
 
         def run(args, **options):
             env = {"FAIL_ALLOC": "0", "FAIL_READ": "0", "LD_PRELOAD": library}
-            env.update({name: options.pop(name) for name in list(options) if name.isupper()})
+            env.update(
+                {name: options.pop(name) for name in list(options) if name.isupper()}
+            )
             with open("met", "w+b") as met, shared(met.fileno()):
                 ended = program(args, env={**env, "MET": str(met.fileno())}, **options)
                 met.seek(0)
@@ -188,7 +264,11 @@ def preloaded(keywrap, compiled):
 @pytest.fixture
 def as_nobody(keywrap, files, monkeypatch):
     """Runs the program as the user nobody, in a directory that everybody may enter. Other users than root stay."""
-    nobody = {"user": "nobody", "group": pwd.getpwnam("nobody").pw_gid, "extra_groups": []}
+    nobody = {
+        "user": "nobody",
+        "group": pwd.getpwnam("nobody").pw_gid,
+        "extra_groups": [],
+    }
     with tempfile.TemporaryDirectory() as directory:
         os.chmod(directory, 0o755)
         monkeypatch.chdir(shutil.copytree(files, f"{directory}/files", symlinks=True))
@@ -205,7 +285,11 @@ class Terminal(NamedTuple):
     def waits_for(self, name, text, count):
         """Waits until the file has the text this often, or the program has ended."""
         path = pathlib.Path(name)
-        wait_for(lambda: not self.child.isalive() or path.exists() and path.read_text().count(text) >= count)
+        wait_for(
+            lambda: not self.child.isalive()
+            or path.exists()
+            and path.read_text().count(text) >= count
+        )
 
     def types(self, text):
         self.child.delaybeforesend = None
@@ -226,12 +310,27 @@ def terminal(keywrap, files):
     """terminal("keywrap wrap --kek kek16.hex >out") runs a line of sh on a terminal, and returns a `Terminal`."""
     need("import pexpect", "pseudo-terminals")
     import pexpect
+
     os.mkdir("bin")
     os.symlink(keywrap.path, "bin/keywrap")
 
     def start(line, TERM="xterm", **env):
-        env = {**os.environ, **env, "PATH": f"{files}/bin:{os.environ['PATH']}", "TERM": TERM}
+        env = {
+            **os.environ,
+            **env,
+            "PATH": f"{files}/bin:{os.environ['PATH']}",
+            "TERM": TERM,
+        }
         env = {name: value for name, value in env.items() if value is not None}
-        return Terminal(pexpect.spawn("/bin/sh", ["-c", line], env=env, timeout=600, echo=False, encoding="utf-8"))
+        return Terminal(
+            pexpect.spawn(
+                "/bin/sh",
+                ["-c", line],
+                env=env,
+                timeout=600,
+                echo=False,
+                encoding="utf-8",
+            )
+        )
 
     return start

@@ -6,8 +6,13 @@ import sys
 import keywrap.steps
 from keywrap import Kind
 
-STATUSES = {keywrap.BadInitialValue: 2, keywrap.BadKekLength: 3, keywrap.BadLength: 4, keywrap.IntegrityFailed: 5,
-            keywrap.KeyNotPlain: 8}
+STATUSES = {
+    keywrap.BadInitialValue: 2,
+    keywrap.BadKekLength: 3,
+    keywrap.BadLength: 4,
+    keywrap.IntegrityFailed: 5,
+    keywrap.KeyNotPlain: 8,
+}
 
 
 def bytes_of(text):
@@ -40,27 +45,42 @@ def by_steps(call, name, kek, new_kek, given, **more):
         new_encrypt, new_decrypt = ciphers(new_kek)
         more["pass_new"] = new_decrypt if more["pass_new"] else None
         return keywrap.steps.rewrap(decrypt, new_encrypt, given, **more)
-    return getattr(keywrap.steps, name)(encrypt if call[0] == "w" else decrypt, given, **more)
+    return getattr(keywrap.steps, name)(
+        encrypt if call[0] == "w" else decrypt, given, **more
+    )
 
 
 def called(kind, call, kek, new, iv, flags, given):
     """What the call returns or raises. Its arguments are of this type, and stay."""
     is_many = call.endswith("_many")
     of_key = fresh if kind is keywrap.Kek else kind
-    items = [bytes_of(item) for item in given.split(",") * (given != "-")] if is_many else bytes_of(given)
+    items = (
+        [bytes_of(item) for item in given.split(",") * (given != "-")]
+        if is_many
+        else bytes_of(given)
+    )
     made = [of_key(item) for item in items] if is_many else of_key(items)
-    texts = [bytes_of(text) for text in (kek, new)[:1 + call.startswith("rewrap")]]
-    keks = [(kind if kind is not keywrap.Kek or len(text) in (16, 24, 32) else fresh)(text) for text in texts]
+    texts = [bytes_of(text) for text in (kek, new)[: 1 + call.startswith("rewrap")]]
+    keks = [
+        (kind if kind is not keywrap.Kek or len(text) in (16, 24, 32) else fresh)(text)
+        for text in texts
+    ]
     try:
         name = call.replace("kind", "check").removesuffix("_with")
-        more = flags_of(call, flags) | ({"iv": of_key(bytes_of(iv))} if call.endswith("_with") else {})
+        more = flags_of(call, flags) | (
+            {"iv": of_key(bytes_of(iv))} if call.endswith("_with") else {}
+        )
         if sys.argv[1:] == ["steps"]:
             return by_steps(call, name, bytes_of(kek), bytes_of(new), made, **more)
-        return getattr(keywrap, "check_with_length" if name == "check" else name)(*keks, made, **more)
+        return getattr(keywrap, "check_with_length" if name == "check" else name)(
+            *keks, made, **more
+        )
     except keywrap.KeywrapError as error:
         return error
     finally:
-        assert made == items and (kind is keywrap.Kek or keks == texts), "an argument is changed"
+        assert made == items and (
+            kind is keywrap.Kek or keks == texts
+        ), "an argument is changed"
 
 
 def status_of(found):
@@ -70,25 +90,47 @@ def status_of(found):
 def answer(call, found):
     """What was returned of bytes, kinds and refusals, and what the first of these says."""
     words = [("status", status_of(found))]
-    refusals = [one for one in (found if isinstance(found, list) else [found]) if isinstance(one, Exception)]
+    refusals = [
+        one
+        for one in (found if isinstance(found, list) else [found])
+        if isinstance(one, Exception)
+    ]
     text = [("text", str(refusals[0]))] if refusals else []
     if isinstance(found, list):
         statuses = ("statuses", ",".join(str(status_of(one)) for one in found))
         if call == "check_many":
-            return [*words, statuses, ("forms", ",".join(str(int(one is Kind.PADDED)) for one in found))]
+            return [
+                *words,
+                statuses,
+                ("forms", ",".join(str(int(one is Kind.PADDED)) for one in found)),
+            ]
         texts = [one.hex() if isinstance(one, bytes) else "" for one in found]
         return [*words, ("out", ",".join(texts)), statuses, *text]
     parts = found if isinstance(found, tuple) else (found,)
-    shown = {bytes: lambda part: ("out", part.hex()), Kind: lambda part: ("form", int(part is Kind.PADDED)),
-             int: lambda part: ("len", part)}
-    return words + [shown[type(part)](part) for part in parts if type(part) in shown] + text
+    shown = {
+        bytes: lambda part: ("out", part.hex()),
+        Kind: lambda part: ("form", int(part is Kind.PADDED)),
+        int: lambda part: ("len", part),
+    }
+    return (
+        words
+        + [shown[type(part)](part) for part in parts if type(part) in shown]
+        + text
+    )
 
 
 for line in sys.stdin:
     call, kek, new, iv, flags, given, *_ = line.rstrip("\n").split(" ")
     answers = set()
     # Steps of a long key take seconds.
-    for kind in (fresh,) if len(given) > 10000 else (fresh, bytearray, memoryview, keywrap.Kek):
+    for kind in (
+        (fresh,) if len(given) > 10000 else (fresh, bytearray, memoryview, keywrap.Kek)
+    ):
         found = called(kind, call, kek, new, iv, flags, given)
-        answers.add(" ".join(f"{name}={value}" for name, value in answer(call.replace("kind", "check"), found)))
+        answers.add(
+            " ".join(
+                f"{name}={value}"
+                for name, value in answer(call.replace("kind", "check"), found)
+            )
+        )
     print(*answers)

@@ -24,34 +24,65 @@ def stubs(directory, header, calls):
     """A shared object with these calls, of the types that the header or what it includes declares. They return 0."""
     text = run("cc", "-E", "-P", "-U__GNUC__", header)
     source = re.sub(r"__attribute__ *\(\(.*?\)\)\)?(?= |\n)", "", text)
-    source = re.sub(r"\w+ (keywrap_\w+)\([^;{}]*\);",
-                    lambda call: call[0].replace(";", " { return 0; }") if call[1] in calls else "", source)
+    source = re.sub(
+        r"\w+ (keywrap_\w+)\([^;{}]*\);",
+        lambda call: call[0].replace(";", " { return 0; }") if call[1] in calls else "",
+        source,
+    )
     directory.mkdir()
     (directory / "stubs.c").write_text(source)
-    run("cc", "-std=c99", "-g", "-w", "-shared", "-fPIC", f"-Wl,--version-script={MAP}", "-o",
-        directory / "stubs.so", directory / "stubs.c")
+    run(
+        "cc",
+        "-std=c99",
+        "-g",
+        "-w",
+        "-shared",
+        "-fPIC",
+        f"-Wl,--version-script={MAP}",
+        "-o",
+        directory / "stubs.so",
+        directory / "stubs.c",
+    )
     return directory / "stubs.so"
 
 
 def test_numbers_and_lengths_stay():
     """Each constant and macro, except the version."""
+
     def constants(*headers):
         text = "".join(path.read_text() for path in headers)
         text = re.sub(r"/\*.*?\*/", "", text, flags=re.S).replace("\\\n", " ")
         found = dict(re.findall(r"\b(KEYWRAP_\w+) = (\d+)", text))
-        found |= dict(re.findall(r"^#define (KEYWRAP_\w+(?:\(\w+\))?) +(.*?) *$", text, re.M))
-        return {name: value for name, value in found.items() if not name.startswith("KEYWRAP_VERSION")}
+        found |= dict(
+            re.findall(r"^#define (KEYWRAP_\w+(?:\(\w+\))?) +(.*?) *$", text, re.M)
+        )
+        return {
+            name: value
+            for name, value in found.items()
+            if not name.startswith("KEYWRAP_VERSION")
+        }
 
-    before, today = constants(BEFORE / "keywrap.h"), constants(*sorted(ROOT.glob("dist/keywrap*.h")))
-    assert {"KEYWRAP_OK", "KEYWRAP_INTEGRITY", "KEYWRAP_MAX_KEY", "KEYWRAP_ROOM(wrapped_len)"} <= before.keys()
+    before, today = constants(BEFORE / "keywrap.h"), constants(
+        *sorted(ROOT.glob("dist/keywrap*.h"))
+    )
+    assert {
+        "KEYWRAP_OK",
+        "KEYWRAP_INTEGRITY",
+        "KEYWRAP_MAX_KEY",
+        "KEYWRAP_ROOM(wrapped_len)",
+    } <= before.keys()
     assert before == {name: today.get(name) for name in before}
 
 
 def test_each_name_is_in_the_node_of_its_version():
     today = nodes(TODAY / "keywrap.map")
-    assert nodes(MAP).items() <= today.items() and {*today} - {*nodes(MAP)} <= {f"KEYWRAP_{VERSION.rpartition('.')[0]}"}
+    assert nodes(MAP).items() <= today.items() and {*today} - {*nodes(MAP)} <= {
+        f"KEYWRAP_{VERSION.rpartition('.')[0]}"
+    }
     assert sorted(calls_of(BEFORE / "keywrap.h")) == sorted([*CALLS.values()][-1])
-    declared = {call for header in ROOT.glob("dist/keywrap*.h") for call in calls_of(header)}
+    declared = {
+        call for header in ROOT.glob("dist/keywrap*.h") for call in calls_of(header)
+    }
     assert declared == {name for names in today.values() for name in names}
 
 
@@ -68,4 +99,10 @@ def test_types_stay(calls, tmp_path):
 def test_names_stay(calls, library, tmp_path):
     """The library has no types for abidiff, only names and their versions."""
     before = stubs(tmp_path / "before", BEFORE / "keywrap.h", calls)
-    run("abidiff", "--no-added-syms", "--ignore-soname", before, library / "libkeywrap.so.1")
+    run(
+        "abidiff",
+        "--no-added-syms",
+        "--ignore-soname",
+        before,
+        library / "libkeywrap.so.1",
+    )

@@ -11,7 +11,16 @@ import pytest
 
 import faces
 from builds import NAMES, ROOT, run, unpacked
-from machines import ARM, MACHINES, STRICT, SYSROOT, check_glibc, check_library, need_sysroot, shown
+from machines import (
+    ARM,
+    MACHINES,
+    STRICT,
+    SYSROOT,
+    check_glibc,
+    check_library,
+    need_sysroot,
+    shown,
+)
 from program import evidence, slow
 from vectors import WRAPPED24
 
@@ -30,10 +39,26 @@ def library(built):
 @pytest.fixture(scope="session")
 def making(once, built):
     """making("dist") is the directory with what this goal of make packs."""
+
     def made(goal):
-        words = [*ARM, f"ARCHIVE={built('arm64')}/libkeywrap.a", f"PYTHON={sys.executable}"]
-        return once(f"arm64-{goal}", lambda directory: run(
-            "make", "-s", "-C", ROOT, goal, *words, f"LIBRARY={directory}.library", f"DIST={directory}"))
+        words = [
+            *ARM,
+            f"ARCHIVE={built('arm64')}/libkeywrap.a",
+            f"PYTHON={sys.executable}",
+        ]
+        return once(
+            f"arm64-{goal}",
+            lambda directory: run(
+                "make",
+                "-s",
+                "-C",
+                ROOT,
+                goal,
+                *words,
+                f"LIBRARY={directory}.library",
+                f"DIST={directory}",
+            ),
+        )
 
     return made
 
@@ -53,6 +78,7 @@ def dist(making, python):
 @pytest.fixture(scope="session")
 def site(once, dist):
     """The directory of the unpacked wheel."""
+
     def build(directory):
         with zipfile.ZipFile(dist / WHEEL) as files:
             files.extractall(directory)
@@ -73,15 +99,29 @@ class TestLibrary:
 
     def test_instructions(self, library):
         """It has the processor's byte shuffles, and no instruction that a processor may lack."""
-        code = run(f"{TOOLS}objdump", "-d", "--no-show-raw-insn", library / "libkeywrap.a")
+        code = run(
+            f"{TOOLS}objdump", "-d", "--no-show-raw-insn", library / "libkeywrap.a"
+        )
         used = [line.split()[1] for line in code.splitlines() if len(line.split()) > 1]
         assert used.count("tbl") > 100
-        assert [name for name in used if re.fullmatch("aes.*|sha.*|pmull2?|tbx|sdot|udot", name)] == []
+        assert [
+            name
+            for name in used
+            if re.fullmatch("aes.*|sha.*|pmull2?|tbx|sdot|udot", name)
+        ] == []
 
     @evidence
     def test_rows(self, library):
         """Over the shared object, on an early processor."""
-        run(CC, *STRICT, "-O2", ROOT / "tests/rows.c", library / "libkeywrap.so.1", "-o", "program")
+        run(
+            CC,
+            *STRICT,
+            "-O2",
+            ROOT / "tests/rows.c",
+            library / "libkeywrap.so.1",
+            "-o",
+            "program",
+        )
         early = [*RUNS, "-cpu", "cortex-a53", "-E", f"LD_LIBRARY_PATH={library}"]
         faces.check("c", [*early, "./program"], "rows")
 
@@ -89,30 +129,53 @@ class TestLibrary:
 class TestPacked:
     @pytest.mark.needs("pkg-config")
     def test_c_example(self, packed):
-        flags = run("pkg-config", "--cflags", "--libs", "keywrap",
-                    env={**os.environ, "PKG_CONFIG_PATH": f"{packed}/lib/pkgconfig"}).split()
+        flags = run(
+            "pkg-config",
+            "--cflags",
+            "--libs",
+            "keywrap",
+            env={**os.environ, "PKG_CONFIG_PATH": f"{packed}/lib/pkgconfig"},
+        ).split()
         run(CC, "-std=c99", ROOT / "c/examples/c/wrap.c", *flags, "-o", "example")
-        assert WRAPPED24 in run(*RUNS, "-E", f"LD_LIBRARY_PATH={packed}/lib", "./example")
+        assert WRAPPED24 in run(
+            *RUNS, "-E", f"LD_LIBRARY_PATH={packed}/lib", "./example"
+        )
 
 
 class TestDist:
     def test_files(self, dist):
         version = NAMES["VERSION"]
         assert {path.name for path in dist.iterdir()} == {
-            "SHA256SUMS", WHEEL, f"keywrap-{version}.cdx.json", f"{PACKED}.tar.gz",
-            f"keywrap-{version}-aarch64-linux-static.tar.gz"}
+            "SHA256SUMS",
+            WHEEL,
+            f"keywrap-{version}.cdx.json",
+            f"{PACKED}.tar.gz",
+            f"keywrap-{version}-aarch64-linux-static.tar.gz",
+        }
         run("sha256sum", "-c", "--strict", "SHA256SUMS", cwd=dist)
-        run(sys.executable, ROOT / "generate/trust.py", "--check-hashes", dist / "SHA256SUMS")
+        run(
+            sys.executable,
+            ROOT / "generate/trust.py",
+            "--check-hashes",
+            dist / "SHA256SUMS",
+        )
 
     def test_extension(self, site):
         extension = site / "keywrap/_ffi.abi3.so"
-        assert are_arm(extension) and shown(extension, "-D", tools=TOOLS) == ["PyInit__ffi"]
+        assert are_arm(extension) and shown(extension, "-D", tools=TOOLS) == [
+            "PyInit__ffi"
+        ]
         check_glibc(extension, TOOLS)
 
     def test_python_takes_the_wheel(self, dist):
         """It accepts the tags in the wheel's name."""
-        run(*PYTHON, "-c", "import sys; from packaging import tags, utils\n"
-            "assert utils.parse_wheel_filename(sys.argv[1])[3] & set(tags.sys_tags())", WHEEL)
+        run(
+            *PYTHON,
+            "-c",
+            "import sys; from packaging import tags, utils\n"
+            "assert utils.parse_wheel_filename(sys.argv[1])[3] & set(tags.sys_tags())",
+            WHEEL,
+        )
 
     @evidence
     def test_of_the_package(self, site):
@@ -121,8 +184,22 @@ class TestDist:
         emulator is not that of the calls."""
         left_out = "not thread and not one_exception and not pyca_installed and not take_no_memory"
         ended = subprocess.run(
-            [*PYTHON, "-m", "pytest", "-q", "-p", "no:cacheprovider", "-k", left_out,
-             *sorted((ROOT / "python/tests").glob("test_[!rv]*.py"))],
-            capture_output=True, text=True, env={**os.environ, "PYTHONPATH": str(site), "KEYWRAP_CALLS": "10000"})
+            [
+                *PYTHON,
+                "-m",
+                "pytest",
+                "-q",
+                "-p",
+                "no:cacheprovider",
+                "-k",
+                left_out,
+                *sorted((ROOT / "python/tests").glob("test_[!rv]*.py")),
+            ],
+            capture_output=True,
+            text=True,
+            env={**os.environ, "PYTHONPATH": str(site), "KEYWRAP_CALLS": "10000"},
+        )
         counts = re.findall(r"^[0-9]+ passed.*", ended.stdout, re.M)
-        assert counts and not re.search("skipped|failed|error", counts[-1]), ended.stdout
+        assert counts and not re.search(
+            "skipped|failed|error", counts[-1]
+        ), ended.stdout

@@ -22,8 +22,23 @@ ROOT = pathlib.Path(__file__).resolve().parent.parent
 DIST = ROOT / "dist"
 SOURCES = ["program.c", "host.c", "aes.c"]
 # The files that test the program.
-FILES = ["allocations", "answers", "arguments", "base64", "filesystem", "lines", "lines_files",
-         "output", "output_file", "page", "published", "random_arguments", "reading", "reasons", "terminal"]
+FILES = [
+    "allocations",
+    "answers",
+    "arguments",
+    "base64",
+    "filesystem",
+    "lines",
+    "lines_files",
+    "output",
+    "output_file",
+    "page",
+    "published",
+    "random_arguments",
+    "reading",
+    "reasons",
+    "terminal",
+]
 # The row that changes the bytes of the native program's AES, and the one that counts the bytes of --version.
 APART = "not test_damaged_decryption and not (test_output_that_takes_some_bytes and version)"
 DRILL = "drill 00112233445566778899aabbccddeeff"
@@ -34,8 +49,21 @@ def built(directory, compiler="cc", *options, source=DIST / "command", names=SOU
     """Compiles the program of this directory, each file once. The objects of other names are there."""
     shutil.copytree(source, directory, dirs_exist_ok=True)
     for name in names:
-        run(*compiler.split(), *options, "-c", directory / name, "-o", directory / f"{name}.o")
-    run(*compiler.split(), *options, *[directory / f"{name}.o" for name in SOURCES], "-o", directory / "keywrap")
+        run(
+            *compiler.split(),
+            *options,
+            "-c",
+            directory / name,
+            "-o",
+            directory / f"{name}.o",
+        )
+    run(
+        *compiler.split(),
+        *options,
+        *[directory / f"{name}.o" for name in SOURCES],
+        "-o",
+        directory / "keywrap",
+    )
     return directory / "keywrap"
 
 
@@ -51,12 +79,33 @@ def edited(directory, *edits):
 def rows(path, files, *options):
     """Runs rows of the program over the program at this path. Returns how pytest ended, and what it printed."""
     tests = [ROOT / f"tests/test_{file}.py" for file in files]
-    command = [sys.executable, "-m", "pytest", "-q", "-rs", "-p", "no:cacheprovider", *options, *tests]
+    command = [
+        sys.executable,
+        "-m",
+        "pytest",
+        "-q",
+        "-rs",
+        "-p",
+        "no:cacheprovider",
+        *options,
+        *tests,
+    ]
     # TESTS names test programs of the crates, which do not run the program at this path.
-    env = {name: value for name, value in os.environ.items() if not name.startswith(("PYTEST_", "KEYWRAP", "TESTS"))}
-    env.update({name: value for name in ["KEYWRAP_ALL"] if (value := os.environ.get(name))})
-    ended = subprocess.run([*map(str, command)], capture_output=True, text=True, cwd=ROOT / "tests",
-                           env={**env, "KEYWRAP": str(path)})
+    env = {
+        name: value
+        for name, value in os.environ.items()
+        if not name.startswith(("PYTEST_", "KEYWRAP", "TESTS"))
+    }
+    env.update(
+        {name: value for name in ["KEYWRAP_ALL"] if (value := os.environ.get(name))}
+    )
+    ended = subprocess.run(
+        [*map(str, command)],
+        capture_output=True,
+        text=True,
+        cwd=ROOT / "tests",
+        env={**env, "KEYWRAP": str(path)},
+    )
     return ended.returncode, ended.stdout
 
 
@@ -64,8 +113,12 @@ def rows(path, files, *options):
 def test_is_of_these_sources():
     """dist/command/program.c names the checksum of the sources that it is made of. It is written again for a release,
     and not with each commit."""
-    named = re.search(r"^ \* Of the sources (\w+)\.$", (DIST / "command/program.c").read_text(), re.M)[1]
-    assert run(sys.executable, ROOT / "generate/command.py", "--sources").strip() == named
+    named = re.search(
+        r"^ \* Of the sources (\w+)\.$", (DIST / "command/program.c").read_text(), re.M
+    )[1]
+    assert (
+        run(sys.executable, ROOT / "generate/command.py", "--sources").strip() == named
+    )
 
 
 def test_drill(in_c):
@@ -75,7 +128,9 @@ def test_drill(in_c):
 def test_version(in_c, keywrap):
     """A second line says that this is the program in C."""
     one, other = keywrap("--version"), Program(in_c)("--version")
-    assert other == one._replace(stdout=one.stdout.splitlines(True)[0] + "built from C (dist/command)\n")
+    assert other == one._replace(
+        stdout=one.stdout.splitlines(True)[0] + "built from C (dist/command)\n"
+    )
     assert Program(in_c)("wrap --version").stdout == one.stdout.splitlines(True)[0]
 
 
@@ -93,16 +148,26 @@ def test_rows(in_c, record_property, file):
 @pytest.mark.parametrize("compiler", ["gcc -O2", "clang -O1"])
 def test_other_compilers(compiler):
     need(compiler.split()[0])
-    assert run(built(pathlib.Path("here"), compiler, *STRICT[1:]), *DRILL.split()) == f"{DRILLED}\n"
+    assert (
+        run(built(pathlib.Path("here"), compiler, *STRICT[1:]), *DRILL.split())
+        == f"{DRILLED}\n"
+    )
 
 
 @slow
-@pytest.mark.parametrize("left_out", [[], [("module.h", "if (top > TOP) abort();", "")]], ids=["", "left out"])
+@pytest.mark.parametrize(
+    "left_out",
+    [[], [("module.h", "if (top > TOP) abort();", "")]],
+    ids=["", "left out"],
+)
 def test_end_of_the_stack(left_out):
     """A stack that is full ends the program, before it writes below it, unless the check is left out."""
     need("cc")
-    source = edited(shutil.copytree(DIST / "command", "source"),
-                    ("program.c", "stack_pointer = TOP;", "stack_pointer = 2048;"), *left_out)
+    source = edited(
+        shutil.copytree(DIST / "command", "source"),
+        ("program.c", "stack_pointer = TOP;", "stack_pointer = 2048;"),
+        *left_out,
+    )
     ended = Program(built(pathlib.Path("here"), source=source))(DRILL)
     assert (ended == Ended(-signal.SIGABRT)) == (left_out == [])
 
@@ -110,30 +175,53 @@ def test_end_of_the_stack(left_out):
 # Planted in a copy of the script and of the runtime.
 SCRIPT, RUNTIME = "generate/command.py", "dist/command/module.h"
 TRANSLATION = [
-    (SCRIPT, '"sub": "-"', '"sub": "+"'), (SCRIPT, 'if operation == "shr_s":', 'if operation == "shr":'),
+    (SCRIPT, '"sub": "-"', '"sub": "+"'),
+    (SCRIPT, 'if operation == "shr_s":', 'if operation == "shr":'),
     (SCRIPT, "(u32)(({signed})({one}) {", "(u32)(({one}) {"),
-    (SCRIPT, '"i64.extend_i32_s": ("i64", "(u64)(s64)(s32)', '"i64.extend_i32_s": ("i64", "(u64)'),
-    (SCRIPT, "(u32)(s32)(s8)({})", "(u32)(u8)({})"), (SCRIPT, "int(kind[1:]) - 1}", "int(kind[1:]) - 2}"),
+    (
+        SCRIPT,
+        '"i64.extend_i32_s": ("i64", "(u64)(s64)(s32)',
+        '"i64.extend_i32_s": ("i64", "(u64)',
+    ),
+    (SCRIPT, "(u32)(s32)(s8)({})", "(u32)(u8)({})"),
+    (SCRIPT, "int(kind[1:]) - 1}", "int(kind[1:]) - 2}"),
     (SCRIPT, "numbers.get('offset', 0)", "0"),
     (RUNTIME, "LOAD(i32_load16_u, u16, u32)", "LOAD(i32_load16_u, u8, u32)"),
     (RUNTIME, "LOAD(i64_load32_u, u32, u64)", "LOAD(i64_load32_u, s32, u64)"),
     (RUNTIME, "STORE(i64_store32, u32, u64)", "STORE(i64_store32, u64, u64)"),
-    (RUNTIME, "#define MODULE_ORDER(value, len) (value)", "#define MODULE_ORDER(value, len) reversed(value, len)"),
+    (
+        RUNTIME,
+        "#define MODULE_ORDER(value, len) (value)",
+        "#define MODULE_ORDER(value, len) reversed(value, len)",
+    ),
     (RUNTIME, "(int)(byte & 255), (size_t)len", "(int)(byte & 255), (size_t)len + 1"),
-    (RUNTIME, "word << (by & 31) | word >> (-by & 31)", "word << (by & 31) | word >> (by & 31)")]
+    (
+        RUNTIME,
+        "word << (by & 31) | word >> (-by & 31)",
+        "word << (by & 31) | word >> (by & 31)",
+    ),
+]
 
 
 @slow
 @pytest.mark.needs("cc", "node", "wasm-opt", "sanitizers of gcc")
-@pytest.mark.parametrize("edits", [[], *(pytest.param([edit], marks=evidence) for edit in TRANSLATION)])
+@pytest.mark.parametrize(
+    "edits", [[], *(pytest.param([edit], marks=evidence) for edit in TRANSLATION)]
+)
 def test_instructions(edits):
     """Each instruction gives what Node's WebAssembly gives, and a wrong translation does not."""
     for name in "generate", "c", "dist":
         shutil.copytree(ROOT / name, f"tree/{name}")
-    ended = subprocess.run([sys.executable, ROOT / "tests/command/instructions.py", "."], capture_output=True,
-                           text=True, env={**os.environ, "TREE": edited("tree", *edits)})
+    ended = subprocess.run(
+        [sys.executable, ROOT / "tests/command/instructions.py", "."],
+        capture_output=True,
+        text=True,
+        env={**os.environ, "TREE": edited("tree", *edits)},
+    )
     differing = re.match(r"\d+ results, (\d+) differ", ended.stdout)
-    assert differing and (differing[1] == "0") == (edits == []), ended.stdout + ended.stderr
+    assert differing and (differing[1] == "0") == (edits == []), (
+        ended.stdout + ended.stderr
+    )
 
 
 # A module that the script translates, one that differs, and what the script then says.
@@ -146,18 +234,55 @@ WAT = """(module
   (drop (call $close (i32.const 1)))
   (i32.const 0)))"""
 UNKNOWN_WASM = [
-    ("", "", ""), ("(call $close (i32.const 1))", "(f64.sqrt (f64.const 1))", "an instruction: f64.sqrt"),
-    ("(call $close (i32.const 1))", "(i32.rem_s (i32.const 1) (i32.const 1))", "an instruction: i32.rem_s"),
-    ("(call $close (i32.const 1))", "(memory.grow (i64.const 1))", "an instruction: memory.grow"),
-    ("(drop (call $close (i32.const 1)))", "(memory.init $.rodata (i64.const 0) (i32.const 0) (i32.const 1))",
-     "a statement: memory.init"),
+    ("", "", ""),
+    (
+        "(call $close (i32.const 1))",
+        "(f64.sqrt (f64.const 1))",
+        "an instruction: f64.sqrt",
+    ),
+    (
+        "(call $close (i32.const 1))",
+        "(i32.rem_s (i32.const 1) (i32.const 1))",
+        "an instruction: i32.rem_s",
+    ),
+    (
+        "(call $close (i32.const 1))",
+        "(memory.grow (i64.const 1))",
+        "an instruction: memory.grow",
+    ),
+    (
+        "(drop (call $close (i32.const 1)))",
+        "(memory.init $.rodata (i64.const 0) (i32.const 0) (i32.const 1))",
+        "a statement: memory.init",
+    ),
     ("(call $close (i32.const 1))", "(f32.const 1)", "a constant: f32.const 1"),
-    ("  (i32.const 0)", "  (block $0 (result i32) (br $0 (i32.const 0)))", "a block of another form"),
-    ("(mut i64) (i64.const 16)", "(mut i32) (i32.const 16)", "the stack pointer is of another type"),
-    (" (memory", " (global $other (mut i64) (i64.const 0))\n (memory", "the module has another part"),
-    (" (memory", " (table 1 funcref)\n (memory", "the module has another part: {'table'}"),
-    ("(data $.rodata (i64.const 16)", "(data $.rodata (i64.const 8)", "a constant lies below the stack's top"),
-    ('"env" "close"', '"other" "close"', 'an import: "other" "close"')]
+    (
+        "  (i32.const 0)",
+        "  (block $0 (result i32) (br $0 (i32.const 0)))",
+        "a block of another form",
+    ),
+    (
+        "(mut i64) (i64.const 16)",
+        "(mut i32) (i32.const 16)",
+        "the stack pointer is of another type",
+    ),
+    (
+        " (memory",
+        " (global $other (mut i64) (i64.const 0))\n (memory",
+        "the module has another part",
+    ),
+    (
+        " (memory",
+        " (table 1 funcref)\n (memory",
+        "the module has another part: {'table'}",
+    ),
+    (
+        "(data $.rodata (i64.const 16)",
+        "(data $.rodata (i64.const 8)",
+        "a constant lies below the stack's top",
+    ),
+    ('"env" "close"', '"other" "close"', 'an import: "other" "close"'),
+]
 
 
 @pytest.mark.needs("rt", "wasm-opt")
@@ -166,16 +291,29 @@ def test_unknown_part_of_a_module(old, new, said):
     """command.py stops at it."""
     assert old in WAT
     pathlib.Path("module.wat").write_text(WAT.replace(old, new) if old else WAT)
-    ended = subprocess.run([sys.executable, ROOT / "generate/command.py", "module.wat", "out"], capture_output=True,
-                           text=True)
-    assert (ended.returncode, said in ended.stderr) == (1 if said else 0, True), ended.stderr
+    ended = subprocess.run(
+        [sys.executable, ROOT / "generate/command.py", "module.wat", "out"],
+        capture_output=True,
+        text=True,
+    )
+    assert (ended.returncode, said in ended.stderr) == (
+        1 if said else 0,
+        True,
+    ), ended.stderr
 
 
 # As above, a module of LLVM.
-OF_AES = "".join(f"""define internal void @"aes_vector::{name}"(ptr %0, ptr %1, ptr %2) #0 {{
+OF_AES = "".join(
+    f"""define internal void @"aes_vector::{name}"(ptr %0, ptr %1, ptr %2) #0 {{
   ret void
 }}
-""" for name in ("cipher::VectorAesBlockPair::enc", "cipher::VectorAesBlockPair::dec", "lanes::look"))
+"""
+    for name in (
+        "cipher::VectorAesBlockPair::enc",
+        "cipher::VectorAesBlockPair::dec",
+        "lanes::look",
+    )
+)
 LAYOUT = "e-m:e-p:64:64-i64:64-n32:64-S128"
 LL = f"""target datalayout = "{LAYOUT}"
 target triple = "x86_64"
@@ -190,19 +328,37 @@ define i32 @main(ptr %0) {{
 declare i32 @close(i32)
 """
 UNKNOWN_LLVM = [
-    ("", "", ""), ("@close(", "@system(", "an unknown function: system"),
+    ("", "", ""),
+    ("@close(", "@system(", "an unknown function: system"),
     ("@close(", "@llvm.x86.rdtsc(", "an unknown function: llvm.x86.rdtsc"),
     ("call i32 @close(i32 1)", 'call i32 asm "nop", "=r"()', "it has assembler"),
     ("alloca i64", "alloca float", "an unknown type: float"),
     ("alloca i64", "alloca <2 x i64>", "an unknown vector: <2 x i64>"),
     ("alloca i64", "alloca { i64, i64 }", "a variable of another type"),
     ("getelementptr i8", "getelementptr i32", "an offset that is not in bytes: i32"),
-    ("define i32 @main", "define { i64, [2 x ptr] } @main", "a structure of other types: [2 x ptr]"),
+    (
+        "define i32 @main",
+        "define { i64, [2 x ptr] } @main",
+        "a structure of other types: [2 x ptr]",
+    ),
     ("i64:64", "i64:32", "the two lay memory out in other ways"),
     ("S128", "S64", "the two lay memory out in other ways"),
-    ("@main(ptr %0)", '@main(ptr %0) "target-cpu"="x86-64-v2"', "something of x86-64 is left"),
-    ('call void @"aes_vector::lanes::look"', "call void @other", "lanes::look: it is never called"),
-    ("aes_vector::lanes::look", "aes_vector::lanes::see", "aes_vector::lanes::look: found 0 times")]
+    (
+        "@main(ptr %0)",
+        '@main(ptr %0) "target-cpu"="x86-64-v2"',
+        "something of x86-64 is left",
+    ),
+    (
+        'call void @"aes_vector::lanes::look"',
+        "call void @other",
+        "lanes::look: it is never called",
+    ),
+    (
+        "aes_vector::lanes::look",
+        "aes_vector::lanes::see",
+        "aes_vector::lanes::look: found 0 times",
+    ),
+]
 
 
 @pytest.mark.parametrize("old, new, said", UNKNOWN_LLVM)
@@ -210,10 +366,24 @@ def test_unknown_part_of_a_module_of_llvm(old, new, said):
     """command_module.py stops at it."""
     assert old in LL
     pathlib.Path("native.ll").write_text(LL.replace(old, new) if old else LL)
-    pathlib.Path("target.ll").write_text(f'target datalayout = "{LAYOUT}"\ntarget triple = "wasm64"\n')
-    ended = subprocess.run([sys.executable, ROOT / "generate/command_module.py", "native.ll", "target.ll", "module.ll"],
-                           capture_output=True, text=True)
-    assert (ended.returncode, said in ended.stderr) == (1 if said else 0, True), ended.stderr
+    pathlib.Path("target.ll").write_text(
+        f'target datalayout = "{LAYOUT}"\ntarget triple = "wasm64"\n'
+    )
+    ended = subprocess.run(
+        [
+            sys.executable,
+            ROOT / "generate/command_module.py",
+            "native.ll",
+            "target.ll",
+            "module.ll",
+        ],
+        capture_output=True,
+        text=True,
+    )
+    assert (ended.returncode, said in ended.stderr) == (
+        1 if said else 0,
+        True,
+    ), ended.stderr
 
 
 def works(program, keywrap):
@@ -223,32 +393,53 @@ def works(program, keywrap):
     for command in [*ANSWERS, *REFUSALS]:
         if command.stdout is not None:
             ended = program(command.args, stdin=command.given, text=False)
-            assert ended == Ended(command.status, command.stdout, command.stderr), command.name
+            assert ended == Ended(
+                command.status, command.stdout, command.stderr
+            ), command.name
     # A hint takes floating point.
     assert program("warp") == keywrap("warp") and "similar" in program("warp").stderr
     lines = "".join(f"{number:064x}\n" for number in range(500))
     wrapped = keywrap("wrap --lines --kek kek32.hex", stdin=lines)
     assert program("wrap --lines --kek kek32.hex -o to", stdin=lines) == Ended(0)
     assert pathlib.Path("to").read_text() == wrapped.stdout
-    assert program("unwrap --lines --kek kek32.hex", stdin=wrapped.stdout) == Ended(0, lines)
+    assert program("unwrap --lines --kek kek32.hex", stdin=wrapped.stdout) == Ended(
+        0, lines
+    )
 
 
 @slow
-@pytest.mark.parametrize("old, new", [("in_basis(&CIPHER, aes + PAIR * i)", "LOAD_BYTES(aes + PAIR * i)"),
-                                      ("in_basis(&INVERSE, aes + PAIR * i + BLOCK)", "LOAD_BYTES(aes + PAIR * i)"),
-                                      ("LOOK(LOAD_BYTES(table), LOAD_BYTES(at))", "LOAD_BYTES(table)"),
-                                      ("i < rounds; i++) state = _mm", "i < rounds - rounds / 14; i++) state = _mm")])
+@pytest.mark.parametrize(
+    "old, new",
+    [
+        ("in_basis(&CIPHER, aes + PAIR * i)", "LOAD_BYTES(aes + PAIR * i)"),
+        ("in_basis(&INVERSE, aes + PAIR * i + BLOCK)", "LOAD_BYTES(aes + PAIR * i)"),
+        ("LOOK(LOAD_BYTES(table), LOAD_BYTES(at))", "LOAD_BYTES(table)"),
+        ("i < rounds; i++) state = _mm", "i < rounds - rounds / 14; i++) state = _mm"),
+    ],
+)
 def test_wrong_instructions_are_not_used(once, keywrap, old, new):
     """The proved functions are, so each answer is right."""
     need("cc")
     objects = once("objects", lambda directory: built(directory, "cc", "-O1", "-w"))
     source = edited(shutil.copytree(objects, "source"), ("aes.c", old, new))
-    works(Program(built(pathlib.Path("here").absolute(), "cc", "-O1", source=source, names=["aes.c"])), keywrap)
+    works(
+        Program(
+            built(
+                pathlib.Path("here").absolute(),
+                "cc",
+                "-O1",
+                source=source,
+                names=["aes.c"],
+            )
+        ),
+        keywrap,
+    )
 
 
 # Each machine: its compiler, and what runs its programs here.
 MACHINES = {
-    "musl": ("musl-gcc -static", []), "s390x": ("s390x-linux-gnu-gcc -static", ["qemu-s390x"]),
+    "musl": ("musl-gcc -static", []),
+    "s390x": ("s390x-linux-gnu-gcc -static", ["qemu-s390x"]),
     "aarch64": ("aarch64-linux-gnu-gcc -static", ["qemu-aarch64"]),
     "riscv64": ("riscv64-linux-gnu-gcc -static", ["qemu-riscv64"]),
     "arm": ("arm-linux-gnueabihf-gcc -static", ["qemu-arm"]),
@@ -272,13 +463,18 @@ def test_machines(keywrap, name):
 @slow
 def test_random_command_lines_as_native(in_c, keywrap):
     """The same bytes, statuses and files. KEYWRAP_RANDOM='N SEED' tries N command lines of this seed."""
-    count, seed = (int(word) for word in os.environ.get("KEYWRAP_RANDOM", "1000 5649").split())
+    count, seed = (
+        int(word) for word in os.environ.get("KEYWRAP_RANDOM", "1000 5649").split()
+    )
     lines, other = Lines(seed), Program(in_c)
 
     def ended(program, words, given):
         make_files()
         done = program(words, cwd="here", stdin=pathlib.Path("here", given), text=False)
-        left = {path: (found[0], path.read_bytes() if path.is_file() else None) for path, found in state().items()}
+        left = {
+            path: (found[0], path.read_bytes() if path.is_file() else None)
+            for path, found in state().items()
+        }
         return done, left
 
     for _ in range(count):
@@ -300,8 +496,16 @@ def test_sanitizers(once, file):
     """Neither the address sanitizer nor that of undefined behaviour reports anything."""
     need("sanitizers of gcc")
     options = "-O1", "-g", "-fsanitize=address,undefined", "-fno-sanitize-recover=all"
-    status, said = rows(once("sanitized program in C", lambda directory: built(directory, "gcc", *options)) / "keywrap",
-                        [file], "-k", f"{APART} and not ({' '.join(UNSANITIZED.split())})")
+    status, said = rows(
+        once(
+            "sanitized program in C",
+            lambda directory: built(directory, "gcc", *options),
+        )
+        / "keywrap",
+        [file],
+        "-k",
+        f"{APART} and not ({' '.join(UNSANITIZED.split())})",
+    )
     assert status == 0, said[-3000:]
 
 
@@ -312,31 +516,99 @@ BUGS = [
     ("host.c", "{13, EACCES}", "{1, EACCES}", "filesystem"),
     ("host.c", "O_CREAT | O_EXCL", "O_CREAT", "output_file"),
     ("host.c", "(mode_t)get(rest, 4)", "(mode_t)0666", "output_file"),
-    ("host.c", "return (u64)(s64)write((int)file, AT(from), len < SSIZE_MAX ? (size_t)len : SSIZE_MAX);",
-     "return write((int)file, AT(from), (size_t)len / 2) < 0 ? (u64)-1 : len;", "answers"),
+    (
+        "host.c",
+        "return (u64)(s64)write((int)file, AT(from), len < SSIZE_MAX ? (size_t)len : SSIZE_MAX);",
+        "return write((int)file, AT(from), (size_t)len / 2) < 0 ? (u64)-1 : len;",
+        "answers",
+    ),
     ("host.c", "SEEK_CUR", "SEEK_SET", "reading"),
     ("host.c", "found->st_mode & 0777", "found->st_mode & 0700", "output_file"),
-    ("host.c", "put(to + 20, 4, (u64)found->st_uid);", "put(to + 20, 4, (u64)found->st_gid);", "output_file"),
-    ("host.c", "put(to + 32, 8, (u64)found->st_ino);", "put(to + 32, 4, 1);", "output_file"),
-    ("host.c", "(device >> 12 & 0xffffff00) | (device & 0xff)", "(device >> 12 & 0xffffff00)", "filesystem"),
+    (
+        "host.c",
+        "put(to + 20, 4, (u64)found->st_uid);",
+        "put(to + 20, 4, (u64)found->st_gid);",
+        "output_file",
+    ),
+    (
+        "host.c",
+        "put(to + 32, 8, (u64)found->st_ino);",
+        "put(to + 32, 4, 1);",
+        "output_file",
+    ),
+    (
+        "host.c",
+        "(device >> 12 & 0xffffff00) | (device & 0xff)",
+        "(device >> 12 & 0xffffff00)",
+        "filesystem",
+    ),
     ("host.c", "S_ISFIFO(mode) ? 0010000", "S_ISFIFO(mode) ? 0100000", "output_file"),
     ("host.c", "put(to + 40, 8, (u64)found->st_size);", "", "terminal"),
-    ("host.c", "failed = lstat(name, &found)", "failed = stat(name, &found)", "output_file"),
-    ("host.c", "return (u32)isatty((int)file);", "return (u32)(isatty((int)file) && file != 2);", "terminal"),
-    ("host.c", "return (u32)rename(AT(from), AT(to));", "return (u32)(rename(AT(from), AT(to)) & 0);", "filesystem"),
-    ("host.c", "return (u32)fsync((int)file);", "return (u32)(file & 0);", "filesystem"),
+    (
+        "host.c",
+        "failed = lstat(name, &found)",
+        "failed = stat(name, &found)",
+        "output_file",
+    ),
+    (
+        "host.c",
+        "return (u32)isatty((int)file);",
+        "return (u32)(isatty((int)file) && file != 2);",
+        "terminal",
+    ),
+    (
+        "host.c",
+        "return (u32)rename(AT(from), AT(to));",
+        "return (u32)(rename(AT(from), AT(to)) & 0);",
+        "filesystem",
+    ),
+    (
+        "host.c",
+        "return (u32)fsync((int)file);",
+        "return (u32)(file & 0);",
+        "filesystem",
+    ),
     ("host.c", "(mode_t)mode", "(mode_t)(mode & 0600)", "output_file"),
-    ("host.c", "(uid_t)owner, (gid_t)group", "(uid_t)group, (gid_t)owner", "output_file"),
+    (
+        "host.c",
+        "(uid_t)owner, (gid_t)group",
+        "(uid_t)group, (gid_t)owner",
+        "output_file",
+    ),
     ("host.c", "put(result, 1, block != NULL);", "put(result, 1, 1);", "allocations"),
-    ("host.c", "size_t needed = strlen(text) + 1;", "size_t needed = strlen(text);", "reasons"),
-    ("host.c", "return (u32)unlink(AT(path));", "return (u32)(path & 0);", "output_file"),
-    ("host.c", "return size <= len ? size : (u64)-2;", "return size <= len ? size : len;", "arguments"),
+    (
+        "host.c",
+        "size_t needed = strlen(text) + 1;",
+        "size_t needed = strlen(text);",
+        "reasons",
+    ),
+    (
+        "host.c",
+        "return (u32)unlink(AT(path));",
+        "return (u32)(path & 0);",
+        "output_file",
+    ),
+    (
+        "host.c",
+        "return size <= len ? size : (u64)-2;",
+        "return size <= len ? size : len;",
+        "arguments",
+    ),
     ("host.c", "getenv(AT(name))", "NULL", "terminal"),
-    ("host.c", "if (pipe2(ends, O_CLOEXEC)) return (u32)-1;", "ends[0] = ends[1] = 9;", "output"),
+    (
+        "host.c",
+        "if (pipe2(ends, O_CLOEXEC)) return (u32)-1;",
+        "ends[0] = ends[1] = 9;",
+        "output",
+    ),
     ("host.c", "signal(SIGPIPE, SIG_IGN)", "signal(SIGPIPE, SIG_DFL)", "output"),
     ("host.c", "put(to + 8, 8, (u64)time.tv_nsec);", "put(to + 8, 8, 0);", "terminal"),
-    ("aes.c", "return in_basis(&INVERSE, aes + PAIR * i + BLOCK);", "return in_basis(&INVERSE, aes + PAIR * i);",
-     "answers"),
+    (
+        "aes.c",
+        "return in_basis(&INVERSE, aes + PAIR * i + BLOCK);",
+        "return in_basis(&INVERSE, aes + PAIR * i);",
+        "answers",
+    ),
 ]
 
 
@@ -347,7 +619,11 @@ def test_bug_is_caught(once, part, old, new, file):
     need("cc")
     options = "-O1", "-w", "-DKEYWRAP_AES_INSTRUCTIONS_MUST_WORK"
     objects = once("objects in C", lambda directory: built(directory, "cc", *options))
-    source = edited(shutil.copytree(objects, "source"), *[(part, old, new)] if old else [])
-    path = built(pathlib.Path("here").absolute(), "cc", *options, source=source, names=[part])
+    source = edited(
+        shutil.copytree(objects, "source"), *[(part, old, new)] if old else []
+    )
+    path = built(
+        pathlib.Path("here").absolute(), "cc", *options, source=source, names=[part]
+    )
     status, said = rows(path, [file], "-x", "-k", APART)
     assert (status == 0) == (old == ""), said[-1000:]

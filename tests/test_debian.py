@@ -16,13 +16,22 @@ from vectors import WRAPPED16, WRAPPED24
 
 pytestmark = slow
 
-PACKAGES = ["keywrap", "keywrap-openssl-provider", "libkeywrap-dev", "libkeywrap1", "python3-keywrap"]
+PACKAGES = [
+    "keywrap",
+    "keywrap-openssl-provider",
+    "libkeywrap-dev",
+    "libkeywrap1",
+    "python3-keywrap",
+]
 
 
 def test_portable_package_takes_the_place_of_the_other():
     """Both have /usr/bin/keywrap."""
     control = (ROOT / "packaging/debian-portable/control").read_text()
-    assert len(re.findall("^(?:Provides|Conflicts|Replaces): keywrap$", control, re.M)) == 3
+    assert (
+        len(re.findall("^(?:Provides|Conflicts|Replaces): keywrap$", control, re.M))
+        == 3
+    )
 
 
 def test_packages(debs):
@@ -31,8 +40,13 @@ def test_packages(debs):
 
 def test_hardened_build(debs):
     """The provider is compiled with Debian's flags, of which -z now is only there with hardening=+all."""
-    line, = re.findall(r"^cc .* c/provider/\*\.c", (debs / "log").read_text(), re.M)
-    assert {"-fstack-protector-strong", "-D_FORTIFY_SOURCE=2", "-Wl,-z,relro", "-Wl,-z,now"} <= {*line.split()}
+    (line,) = re.findall(r"^cc .* c/provider/\*\.c", (debs / "log").read_text(), re.M)
+    assert {
+        "-fstack-protector-strong",
+        "-D_FORTIFY_SOURCE=2",
+        "-Wl,-z,relro",
+        "-Wl,-z,now",
+    } <= {*line.split()}
 
 
 def test_python_of_debian(debs):
@@ -46,12 +60,15 @@ def test_lintian(debs):
     """Its only error is that no licence has been given."""
     said = run("lintian", "--fail-on", "none", *debs.glob("*.changes"))
     assert {line for line in said.splitlines() if line.startswith("E: ")} == {
-        f"E: {name}: no-copyright-file" for name in PACKAGES}
+        f"E: {name}: no-copyright-file" for name in PACKAGES
+    }
 
 
 # A root directory that shows this machine's, and keeps what is written in over/upper.
-IN_ROOT = ("mount -t tmpfs none over && mkdir over/upper over/work && mount -t overlay overlay "
-           "-o lowerdir=/,upperdir=over/upper,workdir=over/work merged && ")
+IN_ROOT = (
+    "mount -t tmpfs none over && mkdir over/upper over/work && mount -t overlay overlay "
+    "-o lowerdir=/,upperdir=over/upper,workdir=over/work merged && "
+)
 
 
 def in_root(debs, script, **files):
@@ -59,7 +76,10 @@ def in_root(debs, script, **files):
     the lines of /tmp/found, and the files that are left."""
     for name in "over", "merged", "files":
         os.mkdir(name)
-    for name, text in {**files, "inside": f"cd /tmp\nexport PATH=/usr/sbin:/usr/bin:/sbin:/bin\n{script}"}.items():
+    for name, text in {
+        **files,
+        "inside": f"cd /tmp\nexport PATH=/usr/sbin:/usr/bin:/sbin:/bin\n{script}",
+    }.items():
         pathlib.Path("files", name).write_text(text)
     script = f"""
         dpkg --root="$PWD/merged" -i {debs}/*_amd64.deb
@@ -68,19 +88,37 @@ def in_root(debs, script, **files):
         chroot merged bash -eu /tmp/inside && cp merged/tmp/found found
         dpkg --root="$PWD/merged" -P {" ".join(PACKAGES)}
         find over/upper ! -type c -path '*keywrap*' >left"""
-    ended = subprocess.run(["unshare", "-m", "bash", "-euc", IN_ROOT + script], stdin=subprocess.DEVNULL,
-                           capture_output=True, text=True, timeout=1200)
+    ended = subprocess.run(
+        ["unshare", "-m", "bash", "-euc", IN_ROOT + script],
+        stdin=subprocess.DEVNULL,
+        capture_output=True,
+        text=True,
+        timeout=1200,
+    )
     assert ended.returncode == 0, ended.stdout[-1500:] + ended.stderr[-1500:]
-    return pathlib.Path("found").read_text().splitlines(), pathlib.Path("left").read_text()
+    return (
+        pathlib.Path("found").read_text().splitlines(),
+        pathlib.Path("left").read_text(),
+    )
 
 
-@pytest.mark.needs("root", "overlay of the root directory", "cc", "openssl", "pkg-config", "zsh")
+@pytest.mark.needs(
+    "root", "overlay of the root directory", "cc", "openssl", "pkg-config", "zsh"
+)
 def test_installed_in_use_and_removed(debs):
     """What README shows, the provider, the Python package, the C library. zsh finds its completion."""
-    example = re.search(r"^    \$ \(umask.*?^$", (ROOT / "README.md").read_text(), re.M | re.S)[0]
+    example = re.search(
+        r"^    \$ \(umask.*?^$", (ROOT / "README.md").read_text(), re.M | re.S
+    )[0]
     lines = [line.removeprefix("    ") for line in example.splitlines()]
-    typed = [line[2:].replace("dist/keywrap", "keywrap") for line in lines if line.startswith("$ ")]
-    found, left = in_root(debs, r"""
+    typed = [
+        line[2:].replace("dist/keywrap", "keywrap")
+        for line in lines
+        if line.startswith("$ ")
+    ]
+    found, left = in_root(
+        debs,
+        r"""
 sh -e example >found
 openssl list -providers -provider keywrap | grep -F 'keywrap: AES Key Wrap, proved' >>log
 python3 -c 'import keywrap; print(keywrap.wrap(bytes(range(16)), bytes(range(0, 256, 17))).hex())' >>found
@@ -88,7 +126,9 @@ cc /usr/share/doc/libkeywrap-dev/examples/c/wrap.c $(pkg-config --cflags --libs 
 ./wrap | grep '^wrap: done: ' >>found
 keywrap-rotate --version | grep '^keywrap.rotate 1' >>log
 zsh -fc 'autoload -U compinit && compinit -D -u && print -r -- $_comps[keywrap]' >>found
-""", example="\n".join(typed) + "\n")
+""",
+        example="\n".join(typed) + "\n",
+    )
     answers = [line for line in lines if line and not line.startswith("$ ")]
     assert len(answers) == 2
     # By Python and by C.
@@ -96,32 +136,60 @@ zsh -fc 'autoload -U compinit && compinit -D -u && print -r -- $_comps[keywrap]'
     assert left == ""
 
 
-@pytest.mark.parametrize("package, name", [
-    ("keywrap", "Before you trust a file"), ("libkeywrap-dev", "A KEK that never leaves a token")])
-@pytest.mark.needs("root", "overlay of the root directory", "cc", "openssl", "pkg-config", "softhsm2-util",
-                   "pkcs11.h of p11-kit")
+@pytest.mark.parametrize(
+    "package, name",
+    [
+        ("keywrap", "Before you trust a file"),
+        ("libkeywrap-dev", "A KEK that never leaves a token"),
+    ],
+)
+@pytest.mark.needs(
+    "root",
+    "overlay of the root directory",
+    "cc",
+    "openssl",
+    "pkg-config",
+    "softhsm2-util",
+    "pkcs11.h of p11-kit",
+)
 def test_recipe_of_a_package(debs, thing, package, name):
     """The lines of an installed RECIPES.md run with what is installed."""
-    page, = (thing(f"deb {package}") / "usr/share/doc" / package).glob("RECIPES.md*")
-    text = gzip.decompress(page.read_bytes()).decode() if page.suffix == ".gz" else page.read_text()
-    typed, shown = typed_and_shown(re.search(rf"^## {name}$(.*?)^## ", text, re.M | re.S)[1])
+    (page,) = (thing(f"deb {package}") / "usr/share/doc" / package).glob("RECIPES.md*")
+    text = (
+        gzip.decompress(page.read_bytes()).decode()
+        if page.suffix == ".gz"
+        else page.read_text()
+    )
+    typed, shown = typed_and_shown(
+        re.search(rf"^## {name}$(.*?)^## ", text, re.M | re.S)[1]
+    )
     assert typed and shown
     examples = "/usr/share/doc/libkeywrap-dev/examples"
-    script = f"mkdir here && cd here && EXAMPLES={examples} bash -u ../recipe >../found 2>&1"
+    script = (
+        f"mkdir here && cd here && EXAMPLES={examples} bash -u ../recipe >../found 2>&1"
+    )
     assert in_root(debs, script, recipe=typed)[0] == shown.splitlines()
 
 
 def test_maintainers():
     """No address claims to be of Debian."""
     for control in ROOT.glob("packaging/debian*/control"):
-        assert re.search("^Maintainer: keywrap developers <.*[.]invalid>$", control.read_text(), re.M), control
+        assert re.search(
+            "^Maintainer: keywrap developers <.*[.]invalid>$", control.read_text(), re.M
+        ), control
 
 
 def test_symbols(debs):
     """A package that uses libkeywrap1 depends on the version that has its calls."""
-    symbols = run("dpkg-deb", "-I", package_of(debs, "libkeywrap1"), "symbols").splitlines()
+    symbols = run(
+        "dpkg-deb", "-I", package_of(debs, "libkeywrap1"), "symbols"
+    ).splitlines()
     since = dict(re.findall(r"^ (keywrap_\w+)@\w+\S* (.*)$", "\n".join(symbols), re.M))
     assert symbols[0].startswith("libkeywrap.so.1 libkeywrap1 ")
-    assert since["keywrap_wrap"] == "1.0.0" and since["keywrap_rewrap_many"].startswith("1.1.0~")
+    assert since["keywrap_wrap"] == "1.0.0" and since["keywrap_rewrap_many"].startswith(
+        "1.1.0~"
+    )
     assert since["keywrap_kek_init"].startswith("1.2.0~")
-    assert since.keys() == {*re.findall(r"(keywrap_\w+);", (ROOT / "c/include/keywrap.map").read_text())}
+    assert since.keys() == {
+        *re.findall(r"(keywrap_\w+);", (ROOT / "c/include/keywrap.map").read_text())
+    }

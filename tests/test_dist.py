@@ -29,8 +29,9 @@ def archive_name(name):
 class TestWhole:
     def test_checksums(self, dist):
         run("sha256sum", "-c", "--strict", "SHA256SUMS", cwd=dist)
-        assert {line.split()[1] for line in (dist / "SHA256SUMS").read_text().splitlines()} == {
-            path.name for path in dist.iterdir()} - {"SHA256SUMS"}
+        assert {
+            line.split()[1] for line in (dist / "SHA256SUMS").read_text().splitlines()
+        } == {path.name for path in dist.iterdir()} - {"SHA256SUMS"}
 
     def test_bill_of_materials(self, dist):
         """This version, the kit's, its crates that are linked in, and the hash of each file."""
@@ -38,22 +39,49 @@ class TestWhole:
         assert (bill["bomFormat"], bill["specVersion"]) == ("CycloneDX", "1.4")
         assert bill["metadata"]["component"]["version"] == VERSION
         kit, *parts = bill["components"]
-        kit_id = (pathlib.Path(shutil.which("rt")).resolve().parent.parent / "KIT-ID").read_text()
-        assert kit_id.startswith(f"rattle-kit-{kit['version']} ") and len(kit["hashes"][0]["content"]) == 64
+        kit_id = (
+            pathlib.Path(shutil.which("rt")).resolve().parent.parent / "KIT-ID"
+        ).read_text()
+        assert (
+            kit_id.startswith(f"rattle-kit-{kit['version']} ")
+            and len(kit["hashes"][0]["content"]) == 64
+        )
         assert {part["name"] for part in parts if part["type"] == "library"} == {
-            "std", "base64", "byteorder", "clap", "hex", "linked_list_allocator", "memchr", "thiserror"}
+            "std",
+            "base64",
+            "byteorder",
+            "clap",
+            "hex",
+            "linked_list_allocator",
+            "memchr",
+            "thiserror",
+        }
         crates = sorted(part["bom-ref"] for part in parts if part["type"] == "library")
-        assert {one["ref"]: sorted(one["dependsOn"]) for one in bill["dependencies"]} == {
-            "keywrap": crates, "kit": crates}
-        files = {part["name"]: part["hashes"][0]["content"] for part in parts if part["type"] == "file"}
-        assert files == {path.name: hashlib.sha256(path.read_bytes()).hexdigest() for path in dist.iterdir()
-                         if path.suffix in (".gz", ".tgz", ".whl")}
+        assert {
+            one["ref"]: sorted(one["dependsOn"]) for one in bill["dependencies"]
+        } == {"keywrap": crates, "kit": crates}
+        files = {
+            part["name"]: part["hashes"][0]["content"]
+            for part in parts
+            if part["type"] == "file"
+        }
+        assert files == {
+            path.name: hashlib.sha256(path.read_bytes()).hexdigest()
+            for path in dist.iterdir()
+            if path.suffix in (".gz", ".tgz", ".whl")
+        }
 
     def test_hashes_in_trust(self, dist):
-        run("python3", ROOT / "generate/trust.py", "--check-hashes", dist / "SHA256SUMS")
+        run(
+            "python3", ROOT / "generate/trust.py", "--check-hashes", dist / "SHA256SUMS"
+        )
 
     def test_lines_of_installing(self, dist):
-        page = (ROOT / "docs/INSTALLING.md").read_text().partition("### From an archive")[2]
+        page = (
+            (ROOT / "docs/INSTALLING.md")
+            .read_text()
+            .partition("### From an archive")[2]
+        )
         lines = re.findall("^    (.*)", page, re.M)
         assert lines
         copy = shutil.copytree(dist, "copy")
@@ -61,17 +89,38 @@ class TestWhole:
 
     def test_same_elsewhere(self, dist, built, python, pytestconfig):
         """make dist in a copy of the tree, of another path, umask, time and -j, gives the same checksums."""
-        tree = copied_tree(pathlib.Path("another"), pytestconfig.program, built("llvm.a"))
+        tree = copied_tree(
+            pathlib.Path("another"), pytestconfig.program, built("llvm.a")
+        )
         run("find", tree, "-exec", "touch", "-d", "2001-02-03", "{}", "+")
-        words = [f"PROGRAM={pytestconfig.program}", f"ARCHIVE={built('llvm.a')}", "-o", "build"]
-        run("sh", "-c", 'umask 077; exec make -sj4 "$@"', "-", "-C", tree, "dist", f"PYTHON={python}", MACHINE,
-            *words)
-        assert (tree / "out/SHA256SUMS").read_text() == (dist / "SHA256SUMS").read_text()
+        words = [
+            f"PROGRAM={pytestconfig.program}",
+            f"ARCHIVE={built('llvm.a')}",
+            "-o",
+            "build",
+        ]
+        run(
+            "sh",
+            "-c",
+            'umask 077; exec make -sj4 "$@"',
+            "-",
+            "-C",
+            tree,
+            "dist",
+            f"PYTHON={python}",
+            MACHINE,
+            *words,
+        )
+        assert (tree / "out/SHA256SUMS").read_text() == (
+            dist / "SHA256SUMS"
+        ).read_text()
 
 
 def headings(document):
-    return [re.sub("[^a-z0-9 _-]", "", heading.lower()).replace(" ", "-")
-            for heading in re.findall("^#+ (.*)", document.read_text(), re.M)]
+    return [
+        re.sub("[^a-z0-9 _-]", "", heading.lower()).replace(" ", "-")
+        for heading in re.findall("^#+ (.*)", document.read_text(), re.M)
+    ]
 
 
 @pytest.mark.parametrize("name", ARCHIVES)
@@ -79,29 +128,41 @@ class TestDocuments:
     def test_links(self, thing, name):
         """Each link that does not lead to the web leads to a file there, and to its heading."""
         found = []
-        for document in (thing(f"archive of {name}") / "share/doc/keywrap").rglob("*.md"):
-            for target in re.findall(r"\]\(([^)]*)\)", document.read_text().replace("\n", " ")):
+        for document in (thing(f"archive of {name}") / "share/doc/keywrap").rglob(
+            "*.md"
+        ):
+            for target in re.findall(
+                r"\]\(([^)]*)\)", document.read_text().replace("\n", " ")
+            ):
                 if not target.startswith("https:"):
                     file, _, anchor = target.partition("#")
                     file = document.parent / file if file else document
                     assert file.exists(), (document.name, target)
-                    assert not anchor or anchor in headings(file), (document.name, target)
+                    assert not anchor or anchor in headings(file), (
+                        document.name,
+                        target,
+                    )
                     found.append(target)
         assert any("#" in target for target in found)
 
 
-@pytest.mark.parametrize("name, path", [("archive of library", "lib/libkeywrap.so"), ("wheel", "keywrap/_ffi.abi3.so")])
+@pytest.mark.parametrize(
+    "name, path",
+    [("archive of library", "lib/libkeywrap.so"), ("wheel", "keywrap/_ffi.abi3.so")],
+)
 def test_no_new_glibc(thing, name, path):
     check_glibc(thing(name) / path)
 
 
 def test_command_of_the_wheel_needs_no_library(thing):
-    command, = thing("wheel").glob("*.data/scripts/keywrap")
+    (command,) = thing("wheel").glob("*.data/scripts/keywrap")
     assert "INTERP" not in run("readelf", "-l", command)
 
 
 def test_packed_program(thing, keywrap):
-    assert (thing("archive of command") / "bin/keywrap").read_bytes() == pathlib.Path(keywrap.path).read_bytes()
+    assert (thing("archive of command") / "bin/keywrap").read_bytes() == pathlib.Path(
+        keywrap.path
+    ).read_bytes()
 
 
 def typed(readme):
@@ -137,20 +198,37 @@ def test_readme_in_an_empty_root(thing, keywrap, name):
     the result of RFC 3394, 4.2."""
     root = pathlib.Path("bare")
     root.mkdir()
-    shutil.copytree(thing(f"archive of {name}"), root / archive_name(name), symlinks=True)
+    shutil.copytree(
+        thing(f"archive of {name}"), root / archive_name(name), symlinks=True
+    )
     for file in re.findall(r"(/\S+) \(0x", run("ldd", keywrap.path)):
         (root / file[1:]).parent.mkdir(parents=True, exist_ok=True)
         shutil.copy(file, root / file[1:])
     lines, answers = typed(root / archive_name(name) / "README")
-    lines = lines[:next((at for at, line in enumerate(lines) if line.startswith("cc") and ".so" in line), len(lines))]
+    lines = lines[
+        : next(
+            (
+                at
+                for at, line in enumerate(lines)
+                if line.startswith("cc") and ".so" in line
+            ),
+            len(lines),
+        )
+    ]
     assert len(lines) == (7 if name == "command" else 9)
     script = []
     for line in lines:
         if line.startswith("cp -r "):
             script.append('bare() { "$@"; }')
         script.append(re.sub(r"(^|\| )(bin/keywrap|\./wrap)", r"\1bare \2", line))
-    said = run("unshare", "-rm", "bash", "-ec", IN_BARE + "\n".join(script), env={
-        **os.environ, "workdir": os.getcwd(), "name": archive_name(name)})
+    said = run(
+        "unshare",
+        "-rm",
+        "bash",
+        "-ec",
+        IN_BARE + "\n".join(script),
+        env={**os.environ, "workdir": os.getcwd(), "name": archive_name(name)},
+    )
     if name == "command":
         assert said.splitlines() == answers and len(answers) == 4 and KEY16 in answers
     else:
@@ -161,9 +239,15 @@ def test_readme_in_an_empty_root(thing, keywrap, name):
 def test_readme_builds_the_provider(thing):
     root = shutil.copytree(thing("archive of library"), "archive", symlinks=True)
     lines, _ = typed(pathlib.Path(root) / "README")
-    at, = (at for at, line in enumerate(lines) if line.startswith("cc") and "keywrap.so" in line)
+    (at,) = (
+        at
+        for at, line in enumerate(lines)
+        if line.startswith("cc") and "keywrap.so" in line
+    )
     run("bash", "-ec", "\n".join(lines[at:]), cwd=root)
-    assert f"version: {VERSION}" in run("openssl", "list", "-providers", "-provider-path", root, "-provider", "keywrap")
+    assert f"version: {VERSION}" in run(
+        "openssl", "list", "-providers", "-provider-path", root, "-provider", "keywrap"
+    )
 
 
 def test_help(dist):
@@ -175,26 +259,45 @@ def test_help(dist):
 
 class TestNpm:
     def test_readme_links_to_no_file(self, thing):
-        assert not re.search(r"\]\((\.\.|[a-z_]*/)", (thing("npm") / "README.md").read_text())
+        assert not re.search(
+            r"\]\((\.\.|[a-z_]*/)", (thing("npm") / "README.md").read_text()
+        )
 
     @pytest.mark.needs("npm", "no network")
     def test_packed_and_installed_by_npm(self, thing, dist):
         """npm packs the same files, and installs the archive by the README's line. A program then imports it."""
-        env = {**os.environ, "npm_config_cache": f"{os.getcwd()}/npm", "npm_config_update_notifier": "false"}
+        env = {
+            **os.environ,
+            "npm_config_cache": f"{os.getcwd()}/npm",
+            "npm_config_update_notifier": "false",
+        }
         pathlib.Path("by_npm").mkdir()
         run("make", "-s", "-C", ROOT, "js", f"JS={os.getcwd()}/js")
-        run("npm", "pack", "--silent", "--offline", "--pack-destination", "by_npm", "./js", env=env)
+        run(
+            "npm",
+            "pack",
+            "--silent",
+            "--offline",
+            "--pack-destination",
+            "by_npm",
+            "./js",
+            env=env,
+        )
         run("tar", "-C", "by_npm", "-xzf", f"by_npm/keywrap-{VERSION}.tgz")
         run("diff", "-r", thing("npm"), "by_npm/package")
-        lines = re.findall("^    npm install .*", (thing("npm") / "README.md").read_text(), re.M)
+        lines = re.findall(
+            "^    npm install .*", (thing("npm") / "README.md").read_text(), re.M
+        )
         assert len(lines) == 1
         pathlib.Path("a_program").mkdir()
         shutil.copy(dist / f"keywrap-{VERSION}.tgz", "a_program")
-        pathlib.Path("a_program/use.mjs").write_text("""
+        pathlib.Path("a_program/use.mjs").write_text(
+            """
             for (const name of ['keywrap', 'keywrap/inline']) {
                 const { load } = await import(name);
                 console.log((await load()).wrap(new Uint8Array(32), new Uint8Array(16)).at(-1));
-            }""")
+            }"""
+        )
         said = run(*alone([*lines, "node use.mjs"], HOME=os.getcwd()), cwd="a_program")
         assert said.endswith("\n215\n215\n")
         run("diff", "-r", thing("npm"), "a_program/node_modules/keywrap")

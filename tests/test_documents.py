@@ -12,11 +12,23 @@ import pytest
 from page_lines import page_lines
 
 ROOT = pathlib.Path(__file__).resolve().parent.parent
-DOCUMENTS = [path.relative_to(ROOT) for path in [
-    *sorted(ROOT.glob("*.md")), *sorted(ROOT.glob("docs/*.md")), ROOT / "python/README.md", ROOT / "js/README.md",
-    ROOT / "java/README.md", ROOT / "dist/GO.md", ROOT / "dist/RUST.md"]]
-DIRECTORIES = (r"\.ci|bench|c|command|crates|dist|docs|generate|java|js|packaging|python|scripts|specs|src|tests"
-               "|[a-z0-9_]+/(?:specs|src|proofs)")
+DOCUMENTS = [
+    path.relative_to(ROOT)
+    for path in [
+        *sorted(ROOT.glob("*.md")),
+        *sorted(ROOT.glob("docs/*.md")),
+        ROOT / "python/README.md",
+        ROOT / "js/README.md",
+        ROOT / "java/README.md",
+        ROOT / "dist/GO.md",
+        ROOT / "dist/RUST.md",
+    ]
+]
+DIRECTORIES = (
+    r"\.ci|bench|c|command|crates|dist|docs|generate|java|js|packaging|python|scripts|specs|src|tests"
+    "|[a-z0-9_]+/(?:specs|src|proofs)"
+)
+
 
 def text_of(document):
     return (ROOT / document).read_text()
@@ -26,52 +38,100 @@ def text_of(document):
 class TestEachDocument:
     def test_links(self, document):
         text = text_of(document).replace("\n", " ")
-        for target in re.findall(r"\]\(([^)]*)\)", text) + re.findall(r'<img src="([^"]*)"', text):
+        for target in re.findall(r"\]\(([^)]*)\)", text) + re.findall(
+            r'<img src="([^"]*)"', text
+        ):
             if not re.match("https?:", target):
                 name, _, anchor = target.partition("#")
                 file = document.parent / name if name else document
                 assert (ROOT / file).exists(), target
                 headings = re.findall("^#+ (.*)", text_of(file), re.M) if anchor else []
-                anchors = [re.sub("[^a-z0-9 _-]", "", heading.lower()).replace(" ", "-") for heading in headings]
+                anchors = [
+                    re.sub("[^a-z0-9 _-]", "", heading.lower()).replace(" ", "-")
+                    for heading in headings
+                ]
                 assert not anchor or anchor in anchors, target
 
     def test_paths(self, document):
         """Files that are named with their directory are there: in the repository, or in the directory of a crate."""
         for path in re.findall(r"`([^` ]+)`", text_of(document)):
-            if re.fullmatch(f"(?:{DIRECTORIES})/[A-Za-z0-9_./*-]*", path) and not re.search("NAME|MODULE|TOPIC", path):
-                assert any(any(ROOT.glob(place + path.rstrip("/"))) for place in ("", "crates/", "crates/*/")), path
+            if re.fullmatch(
+                f"(?:{DIRECTORIES})/[A-Za-z0-9_./*-]*", path
+            ) and not re.search("NAME|MODULE|TOPIC", path):
+                assert any(
+                    any(ROOT.glob(place + path.rstrip("/")))
+                    for place in ("", "crates/", "crates/*/")
+                ), path
 
 
 def test_lines_without_the_kit():
     """The page of each language is in without_kit.txt, which tests/fresh.sh runs, and has at most four lines there."""
-    sections = [row.split(" | ") for row in text_of("tests/without_kit.txt").splitlines() if row and row[0] != "#"]
+    sections = [
+        row.split(" | ")
+        for row in text_of("tests/without_kit.txt").splitlines()
+        if row and row[0] != "#"
+    ]
     for page, heading in sections:
         packages, *lines = page_lines(text_of(page), heading)
-        assert packages.startswith("apt-get install ") and 1 <= len(lines) <= 4, (page, lines)
-    languages, = re.findall(r"^## Use it from a language\n\n((?:\|.*\n)+)", text_of("README.md"), re.M)
+        assert packages.startswith("apt-get install ") and 1 <= len(lines) <= 4, (
+            page,
+            lines,
+        )
+    (languages,) = re.findall(
+        r"^## Use it from a language\n\n((?:\|.*\n)+)", text_of("README.md"), re.M
+    )
     linked = {*re.findall(r"\]\(([^)#]*)", languages)}
-    assert len(linked) == 9 and linked - {page for page, _ in sections} == {"docs/CONTRACTS.md"}
+    assert len(linked) == 9 and linked - {page for page, _ in sections} == {
+        "docs/CONTRACTS.md"
+    }
 
 
 @pytest.mark.needs("git")
 def test_width():
     """No line outside crates/ and python/ has more than 120 columns, but for data and what a script writes."""
-    data = [":!crates", ":!python", ":!*.csv", ":!*.svg", ":!tests/launcher.txt", ":!tests/rows.txt",
-            ":!tests/all_inputs/bugs.txt", ":!tests/library", ":!*.edit",
-            ":!dist/keywrap.c", ":!dist/command/program.c"]
-    tracked = subprocess.run(["git", "-C", ROOT, "ls-files", "--", ".", *data], capture_output=True, text=True).stdout
-    contents = {name: (ROOT / name).read_bytes() for name in tracked.splitlines() if (ROOT / name).exists()}
-    assert [name for name, content in contents.items() if b"\0" not in content
-            and max(map(len, content.decode().splitlines()), default=0) > 120] == ["crates.txt"]
+    data = [
+        ":!crates",
+        ":!python",
+        ":!*.csv",
+        ":!*.svg",
+        ":!tests/launcher.txt",
+        ":!tests/rows.txt",
+        ":!tests/all_inputs/bugs.txt",
+        ":!tests/library",
+        ":!*.edit",
+        ":!dist/keywrap.c",
+        ":!dist/command/program.c",
+    ]
+    tracked = subprocess.run(
+        ["git", "-C", ROOT, "ls-files", "--", ".", *data],
+        capture_output=True,
+        text=True,
+    ).stdout
+    contents = {
+        name: (ROOT / name).read_bytes()
+        for name in tracked.splitlines()
+        if (ROOT / name).exists()
+    }
+    assert [
+        name
+        for name, content in contents.items()
+        if b"\0" not in content
+        and max(map(len, content.decode().splitlines()), default=0) > 120
+    ] == ["crates.txt"]
 
 
 def test_edits_fit():
     """Each text that a must-fail edit replaces stands once in its file. rt ci would only say that the edit is bad."""
     crates = {edit: edit.parents[1] for edit in ROOT.glob("crates/*/must-fail/*.edit")}
-    crates |= {edit: ROOT / "crates" / edit.parent.name for edit in ROOT.glob("tests/edits/*/*.edit")}
+    crates |= {
+        edit: ROOT / "crates" / edit.parent.name
+        for edit in ROOT.glob("tests/edits/*/*.edit")
+    }
     for edit, crate in crates.items():
         texts = {}
-        for kind, value in re.findall(r"^(file|old|new): ?(.*)$", edit.read_text(), re.M):
+        for kind, value in re.findall(
+            r"^(file|old|new): ?(.*)$", edit.read_text(), re.M
+        ):
             if kind == "file":
                 path = crate / value
                 texts.setdefault(path, path.read_text())
@@ -86,47 +146,83 @@ def test_edits_fit():
 def test_width_of_rattle():
     """Without imports and attributes, which `rt fmt` leaves on one line, and the first line of whole_rewrap_law."""
     for pattern, most in ("src/**/*.rt", 110), ("specs/**/*.antt", 190):
-        wide = [f"{path.relative_to(ROOT)}:{number}" for path in ROOT.glob(f"crates/*/{pattern}")
-                for number, line in enumerate(path.read_text().splitlines(), 1)
-                if len(line) > most and not re.match(r" *((ghost |pub )?use |#!?\[|ensures . .pass_new : Bool)", line)]
+        wide = [
+            f"{path.relative_to(ROOT)}:{number}"
+            for path in ROOT.glob(f"crates/*/{pattern}")
+            for number, line in enumerate(path.read_text().splitlines(), 1)
+            if len(line) > most
+            and not re.match(
+                r" *((ghost |pub )?use |#!?\[|ensures . .pass_new : Bool)", line
+            )
+        ]
         assert wide == []
 
 
 def test_map():
     """docs/ARCHITECTURE.md has a line for each directory and file at the top, except documents, and for each directory
     of c/. At the top are at most 14 directories."""
-    table = re.search("^At the top:\n\n(.*?)\n\n", text_of("docs/ARCHITECTURE.md"), re.M | re.S)[1]
+    table = re.search(
+        "^At the top:\n\n(.*?)\n\n", text_of("docs/ARCHITECTURE.md"), re.M | re.S
+    )[1]
     named = [line.split()[0] for line in table.splitlines()]
-    tracked = subprocess.run(["git", "-C", ROOT, "ls-files"], capture_output=True, text=True).stdout.splitlines()
-    paths = {name.split("/")[0] for name in tracked} | {"/".join(name.split("/")[:2]) for name in tracked
-                                                        if name.startswith("c/")}
-    assert sorted(named) == sorted(path for path in paths - {"c"} if not re.search(r"\.md$|^\.git", path))
+    tracked = subprocess.run(
+        ["git", "-C", ROOT, "ls-files"], capture_output=True, text=True
+    ).stdout.splitlines()
+    paths = {name.split("/")[0] for name in tracked} | {
+        "/".join(name.split("/")[:2]) for name in tracked if name.startswith("c/")
+    }
+    assert sorted(named) == sorted(
+        path for path in paths - {"c"} if not re.search(r"\.md$|^\.git", path)
+    )
     assert len({name.split("/")[0] for name in tracked if "/" in name}) <= 14
 
 
 class TestRepeatedFacts:
     def test_no_licence(self):
         """README says that there is no licence, and no file gives one."""
-        words = "There is no release and no licence: you may not copy, change or share it."
+        words = (
+            "There is no release and no licence: you may not copy, change or share it."
+        )
         assert words in " ".join(text_of("README.md").split())
-        tracked = subprocess.run(["git", "-C", ROOT, "ls-files"], capture_output=True, text=True).stdout.splitlines()
-        assert [name for name in tracked if re.match(r"(?i)licen[cs]e|copying|copyright$", name.split("/")[-1])] == []
-        for name in "python/pyproject.toml", "python/setup.py", "js/package.json.in", "dist/Cargo.toml":
-            assert not re.search(r'(?im)^ *"?licen[cs]e|License ::', text_of(name)), name
+        tracked = subprocess.run(
+            ["git", "-C", ROOT, "ls-files"], capture_output=True, text=True
+        ).stdout.splitlines()
+        assert [
+            name
+            for name in tracked
+            if re.match(r"(?i)licen[cs]e|copying|copyright$", name.split("/")[-1])
+        ] == []
+        for name in (
+            "python/pyproject.toml",
+            "python/setup.py",
+            "js/package.json.in",
+            "dist/Cargo.toml",
+        ):
+            assert not re.search(
+                r'(?im)^ *"?licen[cs]e|License ::', text_of(name)
+            ), name
 
     @pytest.mark.parametrize("script", ["facts.py", "plots.py", "trust.py"])
     def test_what_scripts_make(self, script):
         """The map of the crates, the plots, and the definitions that a reader has to read."""
-        ended = subprocess.run([ROOT / "generate" / script, "--check"], capture_output=True, text=True)
+        ended = subprocess.run(
+            [ROOT / "generate" / script, "--check"], capture_output=True, text=True
+        )
         assert (ended.returncode, ended.stdout) == (0, "")
 
     def test_what_scripts_miss(self, monkeypatch):
         """The item of an option with a longer name does not count, and no line is no list of hashes."""
         monkeypatch.syspath_prepend(ROOT / "generate")
         facts, trust = map(importlib.import_module, ("facts", "trust"))
-        monkeypatch.setattr(facts, "read", lambda name, real=facts.read: real(name).replace(".It Fl -raw\n", ""))
+        monkeypatch.setattr(
+            facts,
+            "read",
+            lambda name, real=facts.read: real(name).replace(".It Fl -raw\n", ""),
+        )
         assert facts.lacking() == ["command/man/keywrap.1: lacks the option --raw"]
-        assert trust.are_listed("aa  a.tgz\n", "aa  a.tgz\n") and not trust.are_listed("", "aa  a.tgz\n")
+        assert trust.are_listed("aa  a.tgz\n", "aa  a.tgz\n") and not trust.are_listed(
+            "", "aa  a.tgz\n"
+        )
 
     def test_texts_of_pictures(self):
         """Texts end inside their picture, in the width of DejaVu Sans, which is wider than most."""
@@ -135,9 +231,18 @@ class TestRepeatedFacts:
             drawing = ElementTree.parse(picture).getroot()
             for text in drawing.iter("{http://www.w3.org/2000/svg}text"):
                 kinds = {*text.get("class").split()}
-                letter = 7.3 if kinds & {"shown", "faint", "mono"} else 7 if "strong" in kinds else 6.5
+                letter = (
+                    7.3
+                    if kinds & {"shown", "faint", "mono"}
+                    else 7
+                    if "strong" in kinds
+                    else 6.5
+                )
                 if not kinds & {"middle", "end"}:
-                    fits.append(float(text.get("x")) + letter * len(text.text) <= float(drawing.get("width")))
+                    fits.append(
+                        float(text.get("x")) + letter * len(text.text)
+                        <= float(drawing.get("width"))
+                    )
                     assert fits[-1], (picture.name, text.text)
         assert len(fits) > 100
 
@@ -148,27 +253,53 @@ class TestRepeatedFacts:
         version = text_of("VERSION").strip()
         assert re.fullmatch(r"\d+\.\d+\.\d+(-dev)?", version)
         assert keywrap("--version").stdout == f"keywrap {version}\n"
-        newest, date = re.search(r"^## (\S+)(?: \((\d{4}-\d\d-\d\d)\))?$", text_of("CHANGELOG.md"), re.M).groups()
+        newest, date = re.search(
+            r"^## (\S+)(?: \((\d{4}-\d\d-\d\d)\))?$", text_of("CHANGELOG.md"), re.M
+        ).groups()
         assert newest == version and bool(date) == (not version.endswith("-dev"))
-        search = ["git", "grep", "-lIF", "-e", version, "-e", version.replace("-dev", ".dev0"), "--"]
+        search = [
+            "git",
+            "grep",
+            "-lIF",
+            "-e",
+            version,
+            "-e",
+            version.replace("-dev", ".dev0"),
+            "--",
+        ]
         search += "keywrap Makefile command packaging generate scripts python js :!packaging/debian".split()
-        search += [f"crates/{name}" for name in ("keywrap", "keywrap_cli", "keywrap_args")]
-        assert subprocess.run(search, cwd=ROOT, stdout=subprocess.PIPE, text=True).stdout == (
-            "crates/keywrap_args/src/subcommands.rt\n")
+        search += [
+            f"crates/{name}" for name in ("keywrap", "keywrap_cli", "keywrap_args")
+        ]
+        assert subprocess.run(
+            search, cwd=ROOT, stdout=subprocess.PIPE, text=True
+        ).stdout == ("crates/keywrap_args/src/subcommands.rt\n")
 
     def test_first_screen(self):
         """README is short, and has what decides for a visitor."""
         page = text_of("README.md")
         assert len(page.split()) <= 750
-        for answer in ("is not public", "not a validated FIPS 140 module", "we know no outside review",
-                       "does not wipe its memory", "**Tested, not proved**", "[timing](SECURITY.md)"):
+        for answer in (
+            "is not public",
+            "not a validated FIPS 140 module",
+            "we know no outside review",
+            "does not wipe its memory",
+            "**Tested, not proved**",
+            "[timing](SECURITY.md)",
+        ):
             assert answer in " ".join(page.split())
 
     def test_times(self):
         """README has the launcher's time of the first build; the help of make has both, and that of `make test`."""
         readme = text_of("README.md")
-        build, = re.findall("# first proves and builds the program: (.* minutes)", readme)
-        tests, = re.findall(r"make test +# (\d+) minutes on four processors: at least [0-9,]+ tests$", readme, re.M)
+        (build,) = re.findall(
+            "# first proves and builds the program: (.* minutes)", readme
+        )
+        (tests,) = re.findall(
+            r"make test +# (\d+) minutes on four processors: at least [0-9,]+ tests$",
+            readme,
+            re.M,
+        )
         assert f"program, {build} the first time" in text_of("keywrap")
         goals = text_of("Makefile")
         assert re.search(rf"^make build  .* \({build}\)$", goals, re.M)
@@ -177,22 +308,36 @@ class TestRepeatedFacts:
     @pytest.mark.needs("rt")
     def test_kit(self):
         """README names the logic of the kit in use. Only dist/ and TRUST name the kit that they are made by."""
-        used = re.search(r"logic (\w+)", subprocess.run(["rt", "version"], capture_output=True, text=True).stdout)[1]
-        named, = re.findall(r"`logic (\w+)`", text_of("README.md"))
-        assert used == named, (f"this kit has logic {used}: with it all proofs are made again, and may fail. Run `make "
-                               f"proofs`. If it passes, write {used} into README instead of {named}")
+        used = re.search(
+            r"logic (\w+)",
+            subprocess.run(["rt", "version"], capture_output=True, text=True).stdout,
+        )[1]
+        (named,) = re.findall(r"`logic (\w+)`", text_of("README.md"))
+        assert used == named, (
+            f"this kit has logic {used}: with it all proofs are made again, and may fail. Run `make "
+            f"proofs`. If it passes, write {used} into README instead of {named}"
+        )
         search = ["git", "-C", ROOT, "grep", "-lE", f"rattle-kit-[0-9]|{named}"]
         assert subprocess.run(search, capture_output=True, text=True).stdout == (
-            "README.md\ndist/command/program.c\ndist/keywrap.c\ndocs/TRUST.md\n")
+            "README.md\ndist/command/program.c\ndist/keywrap.c\ndocs/TRUST.md\n"
+        )
 
     def test_example_in_rattle(self):
         """The blocks of docs/CONTRACTS.md are lines of the crate that it shows, and crates.txt has the same crates."""
         page = text_of("docs/CONTRACTS.md")
-        sources = [f"\n{path.read_text()}" for path in ROOT.glob("crates/example_caller/src/*")]
+        sources = [
+            f"\n{path.read_text()}" for path in ROOT.glob("crates/example_caller/src/*")
+        ]
         blocks = re.findall(r"^```.*\n((?:.*\n)*?)```", page, re.M)
         assert blocks
-        assert [block for block in blocks if not any(f"\n{block}" in source for source in sources)] == []
+        assert [
+            block
+            for block in blocks
+            if not any(f"\n{block}" in source for source in sources)
+        ] == []
         names = "block_pair|fips197|aes_block|key_wrap_core|key_wrap_steps|key_wrap|example_caller"
         crates = re.findall(f"^(?:{names}):.*", text_of("crates.txt"), re.M)
-        shown = re.search(r"(?:^    [a-z0-9_]+:.*\n)+", page[page.index("    block_pair:"):], re.M)[0]
+        shown = re.search(
+            r"(?:^    [a-z0-9_]+:.*\n)+", page[page.index("    block_pair:") :], re.M
+        )[0]
         assert sorted(line.strip() for line in shown.splitlines()) == sorted(crates)

@@ -15,12 +15,25 @@ import subprocess
 
 import pytest
 
-from checks import DONE, FLUSH_FAULT, NO_OUTPUT, fresh, held, keeps, lands, no_output, state
+from checks import (
+    DONE,
+    FLUSH_FAULT,
+    NO_OUTPUT,
+    fresh,
+    held,
+    keeps,
+    lands,
+    no_output,
+    state,
+)
 from commands import CHECK, FILES, JOBS, SAME_KEK, UNWRAP, WRAP
 from program import PIPES, Ended, finish, refused, sh, slow, wait_for
 from vectors import KEY16, NOT_FLUSHED, WRAPPED16
 
-WRAP_FILE, UNWRAP_FILE = f"{WRAP} -i key.hex -o to/file", f"{UNWRAP} -i wrapped.hex -o to/file"
+WRAP_FILE, UNWRAP_FILE = (
+    f"{WRAP} -i key.hex -o to/file",
+    f"{UNWRAP} -i wrapped.hex -o to/file",
+)
 WRAPPED, PART = FILES["wrapped.hex"], pathlib.Path("to/file.part0")
 NOT_KEPT = "to/file: owner, group or mode can't be kept"
 
@@ -46,25 +59,63 @@ class TestFaults:
         assert re.findall("fsync|rename", failing.met) == ["fsync", "rename", "fsync"]
         assert held() == job.stdout
 
-    @pytest.mark.parametrize("call, error, ended", [("fsync:2", "22", DONE), ("fsync:2", "95", DONE),
-                                                    ("fsync:2", "5", FLUSH_FAULT), ("fchmod", "1", DONE)])
+    @pytest.mark.parametrize(
+        "call, error, ended",
+        [
+            ("fsync:2", "22", DONE),
+            ("fsync:2", "95", DONE),
+            ("fsync:2", "5", FLUSH_FAULT),
+            ("fchmod", "1", DONE),
+        ],
+    )
     def test_call_that_may_fail(self, failing, call, error, ended):
         """Some directories cannot be synced (22, 95). Some file systems refuse to set a mode, even to what it is."""
         os.chmod("to/file", 0o600)
         assert failing(WRAP_FILE, FAIL_CALL=call, FAIL_ERRNO=error) == ended
-        assert (held(), oct(stat.S_IMODE(os.stat("to/file").st_mode))) == (WRAPPED, "0o600")
+        assert (held(), oct(stat.S_IMODE(os.stat("to/file").st_mode))) == (
+            WRAPPED,
+            "0o600",
+        )
 
-    @pytest.mark.parametrize("prepare, args, variables, ended", [
-        ("", WRAP_FILE, {"FAIL_CALL": "rename"}, refused(6, NOT_FLUSHED, "to/file: Input/output error (os error 5)")),
-        ("", WRAP_FILE, {"FAIL_CALL": "fchmod", "FAIL_ERRNO": "1"},
-         no_output(f"{NOT_KEPT}: Operation not permitted (os error 1)")),
-        # A file that cannot be told from the KEK file, or from the input.
-        *[("", f"{WRAP_FILE} --lines --keep-going", {"FAIL_CALL": f"statx:{number}"},
-           no_output("to/file: may be a file that was read")) for number in (1, 2)],
-        # A file system without modes, where others can read a new file: everybody, the others, or the group.
-        *[(prepare, args, {"ONE_MODE": str(mode)}, no_output(f"{NOT_KEPT}: the file system has one for all"))
-          for prepare in ("chmod 600 to/file", "rm to/file") for args in (WRAP_FILE, UNWRAP_FILE)
-          for mode in (0o777, 0o004, 0o040)]])
+    @pytest.mark.parametrize(
+        "prepare, args, variables, ended",
+        [
+            (
+                "",
+                WRAP_FILE,
+                {"FAIL_CALL": "rename"},
+                refused(6, NOT_FLUSHED, "to/file: Input/output error (os error 5)"),
+            ),
+            (
+                "",
+                WRAP_FILE,
+                {"FAIL_CALL": "fchmod", "FAIL_ERRNO": "1"},
+                no_output(f"{NOT_KEPT}: Operation not permitted (os error 1)"),
+            ),
+            # A file that cannot be told from the KEK file, or from the input.
+            *[
+                (
+                    "",
+                    f"{WRAP_FILE} --lines --keep-going",
+                    {"FAIL_CALL": f"statx:{number}"},
+                    no_output("to/file: may be a file that was read"),
+                )
+                for number in (1, 2)
+            ],
+            # A file system without modes, where others can read a new file: everybody, the others, or the group.
+            *[
+                (
+                    prepare,
+                    args,
+                    {"ONE_MODE": str(mode)},
+                    no_output(f"{NOT_KEPT}: the file system has one for all"),
+                )
+                for prepare in ("chmod 600 to/file", "rm to/file")
+                for args in (WRAP_FILE, UNWRAP_FILE)
+                for mode in (0o777, 0o004, 0o040)
+            ],
+        ],
+    )
     def test_refusal(self, failing, prepare, args, variables, ended):
         sh(prepare)
         keeps(failing, f"{args} --verbose", ended, **variables)
@@ -74,12 +125,24 @@ class TestFaults:
         """The reason has the system's text and number of the error."""
         for number in range(1, 134):
             reason = f"to/file: {os.strerror(number)} (os error {number})"
-            keeps(failing, f"{WRAP_FILE} --verbose", refused(6, NOT_FLUSHED, reason), FAIL_CALL="rename",
-                  FAIL_ERRNO=str(number))
+            keeps(
+                failing,
+                f"{WRAP_FILE} --verbose",
+                refused(6, NOT_FLUSHED, reason),
+                FAIL_CALL="rename",
+                FAIL_ERRNO=str(number),
+            )
 
-    @pytest.mark.parametrize("args", [
-        *[f"wrap --kek to/kek16.hex -i key.hex -o to/{name}" for name in ("file", "kek16.hex", "link")],
-        "rewrap --kek to/kek16.hex --new-kek to/kek32.hex -i wrapped.hex -o to/kek32.hex"])
+    @pytest.mark.parametrize(
+        "args",
+        [
+            *[
+                f"wrap --kek to/kek16.hex -i key.hex -o to/{name}"
+                for name in ("file", "kek16.hex", "link")
+            ],
+            "rewrap --kek to/kek16.hex --new-kek to/kek32.hex -i wrapped.hex -o to/kek32.hex",
+        ],
+    )
     def test_look(self, failing, args):
         """If a file cannot be looked at, once or from then on, the run is refused and nothing changes.
 
@@ -91,8 +154,15 @@ class TestFaults:
             ended = failing(f"{args} --verbose", FAIL_CALL=f"statx:{call}{after}")
             if failing.met.split().count("statx") < call:
                 break
-            assert (ended.status, ended.stdout, state()) == (6, "", before), f"{call}{after}"
-            assert re.fullmatch(f"({NO_OUTPUT.stderr}|{FLUSH_FAULT.stderr})  to/.*: {reason}\n", ended.stderr)
+            assert (ended.status, ended.stdout, state()) == (
+                6,
+                "",
+                before,
+            ), f"{call}{after}"
+            assert re.fullmatch(
+                f"({NO_OUTPUT.stderr}|{FLUSH_FAULT.stderr})  to/.*: {reason}\n",
+                ended.stderr,
+            )
         assert 1 < call < 98
 
     @pytest.mark.skipif(os.getuid() != 0, reason="only root can change owners")
@@ -105,7 +175,11 @@ class TestFaults:
     @pytest.mark.parametrize("cwd, name", [(".", "to/file"), ("to", "file")])
     def test_directory_that_cannot_be_read(self, failing, files, cwd, name):
         """Then it is not synced, and no other directory either. Root needs two rights less for this."""
-        setpriv = ["setpriv", "--bounding-set=-dac_override,-dac_read_search"] if os.getuid() == 0 else ["env"]
+        setpriv = (
+            ["setpriv", "--bounding-set=-dac_override,-dac_read_search"]
+            if os.getuid() == 0
+            else ["env"]
+        )
         if subprocess.run([*setpriv, "true"], capture_output=True).returncode:
             pytest.skip("setpriv takes no right away")
         os.chmod("to", 0o300)
@@ -118,12 +192,16 @@ class TestFaults:
     def test_limit_that_ends_the_program(self, keywrap):
         """The system reports a limit on the size of files by a signal, which ends the program if it is not ignored."""
         before = state(str(PART))
-        assert keywrap(WRAP_FILE, limits={"CORE": 0, "FSIZE": 0}, ignoring=[]) == Ended(-signal.SIGXFSZ)
+        assert keywrap(WRAP_FILE, limits={"CORE": 0, "FSIZE": 0}, ignoring=[]) == Ended(
+            -signal.SIGXFSZ
+        )
         assert (PART.read_bytes(), state(str(PART))) == (b"", before)
         lands(keywrap, WRAP_FILE, WRAPPED)
 
     @pytest.mark.needs("chattr")
-    @pytest.mark.parametrize("attribute, name, part", [("+i", "to/file", None), ("+a", "to", WRAPPED)])
+    @pytest.mark.parametrize(
+        "attribute, name, part", [("+i", "to/file", None), ("+a", "to", WRAPPED)]
+    )
     def test_attribute(self, keywrap, attribute, name, part):
         """An immutable file; and a directory in which no file can be renamed or removed, so that the new one stays."""
         if subprocess.run(["chattr", attribute, name], capture_output=True).returncode:
@@ -131,35 +209,61 @@ class TestFaults:
         before = state(str(PART))
         try:
             assert keywrap(WRAP_FILE) == FLUSH_FAULT
-            assert (PART.read_bytes() if PART.exists() else None, state(str(PART))) == (part, before)
+            assert (PART.read_bytes() if PART.exists() else None, state(str(PART))) == (
+                part,
+                before,
+            )
         finally:
             subprocess.run(["chattr", "-ia", name], check=True)
 
     @pytest.mark.needs("tmpfs in a namespace")
-    @pytest.mark.parametrize("script, ended", [
-        # Their first files have the same inode number. The KEK file is on one of them, the output on the other.
-        ("""mkdir one other; mount -t tmpfs none one; mount -t tmpfs none other
+    @pytest.mark.parametrize(
+        "script, ended",
+        [
+            # Their first files have the same inode number. The KEK file is on one of them, the output on the other.
+            (
+                """mkdir one other; mount -t tmpfs none one; mount -t tmpfs none other
             cp kek16.hex one/kek; echo old >other/file
             [ "$(stat -c %i one/kek)" = "$(stat -c %i other/file)" ] || exit 77
-            "$program" wrap --kek one/kek -i key.hex -o other/file; cat other/file""", Ended(0, WRAPPED.decode())),
-        # It cannot be replaced, which the program notices only at the end.
-        ("""mount --bind kek24.hex to/file
+            "$program" wrap --kek one/kek -i key.hex -o other/file; cat other/file""",
+                Ended(0, WRAPPED.decode()),
+            ),
+            # It cannot be replaced, which the program notices only at the end.
+            (
+                """mount --bind kek24.hex to/file
             "$program" wrap --kek kek16.hex -i key.hex -o to/file || echo "status $?"
             cat to/file; ls to""",
-         FLUSH_FAULT._replace(status=0, stdout=f"status 6\n{FILES['kek24.hex'].decode()}file\n")),
-        # While a run waits for its input, a file of another file system takes the name and the number of its new file.
-        ("""mkdir one; mount -t tmpfs none one; echo old >one/file; mkfifo pipe; exec 3<>pipe
+                FLUSH_FAULT._replace(
+                    status=0, stdout=f"status 6\n{FILES['kek24.hex'].decode()}file\n"
+                ),
+            ),
+            # While a run waits for its input, a file of another file system takes the name and the number of its new file.
+            (
+                """mkdir one; mount -t tmpfs none one; echo old >one/file; mkfifo pipe; exec 3<>pipe
             "$program" wrap --kek kek16.hex -i pipe -o one/file 3<&- & run=$!
             until [ -e one/file.part0 ]; do sleep 0.01; done
             number=$(stat -c %i one/file.part0)
             mount -t tmpfs none one; echo old >one/file; echo other >one/file.part0
             [ "$(stat -c %i one/file.part0)" = "$number" ] || exit 77
             cat key.hex >&3; exec 3>&-; wait $run || echo "status $?"
-            cat one/file one/file.part0""", FLUSH_FAULT._replace(status=0, stdout="status 6\nold\nother\n"))],
-        ids=["equal numbers on two file systems", "mount point", "equal number meanwhile"])
+            cat one/file one/file.part0""",
+                FLUSH_FAULT._replace(status=0, stdout="status 6\nold\nother\n"),
+            ),
+        ],
+        ids=[
+            "equal numbers on two file systems",
+            "mount point",
+            "equal number meanwhile",
+        ],
+    )
     def test_mounts(self, keywrap, script, ended):
-        unshare, env = ["unshare", "-rm", "sh", "-eu", "-c"], {**os.environ, "program": keywrap.path}
-        run = subprocess.run([*unshare, script], env=env, capture_output=True, text=True, timeout=1200)
+        unshare, env = ["unshare", "-rm", "sh", "-eu", "-c"], {
+            **os.environ,
+            "program": keywrap.path,
+        }
+        run = subprocess.run(
+            [*unshare, script], env=env, capture_output=True, text=True, timeout=1200
+        )
         if run.returncode == 77:
             pytest.skip("the file systems give other numbers")
         assert (run.returncode, run.stdout, run.stderr) == ended
@@ -172,16 +276,25 @@ class TestWhileItWaits:
     def begin(self, keywrap):
         """begin(args) starts such a run over to/file."""
         with contextlib.ExitStack() as begun:
+
             def start(args=WRAP):
-                run = begun.enter_context(keywrap.started(f"{args} -o to/file", **PIPES))
+                run = begun.enter_context(
+                    keywrap.started(f"{args} -o to/file", **PIPES)
+                )
                 begun.callback(run.kill)
                 wait_for(PART.exists)
                 return run
 
             yield start
 
-    @pytest.mark.parametrize("number", [signal.SIGKILL, signal.SIGINT, signal.SIGTERM, signal.SIGHUP])
-    @pytest.mark.parametrize("given", ["", "--input pipe", "--lines"], ids=["standard input", "pipe", "many lines"])
+    @pytest.mark.parametrize(
+        "number", [signal.SIGKILL, signal.SIGINT, signal.SIGTERM, signal.SIGHUP]
+    )
+    @pytest.mark.parametrize(
+        "given",
+        ["", "--input pipe", "--lines"],
+        ids=["standard input", "pipe", "many lines"],
+    )
     def test_signal(self, keywrap, begin, number, given):
         """The file is unchanged, and only the new file may be beside it. The next run uses another name."""
         os.mkfifo("pipe")
@@ -205,11 +318,16 @@ class TestWhileItWaits:
         before, run = state(), begin()
         assert state(str(PART)) == before
         assert keywrap("wrap --kek kek32.hex -i key.hex -o to/file") == DONE
-        assert (pathlib.Path("to/file").read_bytes(), PART.exists()) == (FILES["wrapped32.hex"], True)
+        assert (pathlib.Path("to/file").read_bytes(), PART.exists()) == (
+            FILES["wrapped32.hex"],
+            True,
+        )
         assert finish(run, KEY16.encode()) == DONE
         assert held() == WRAPPED
 
-    @pytest.mark.parametrize("args, is_new", [(WRAP, True), (UNWRAP, True), (UNWRAP, False)])
+    @pytest.mark.parametrize(
+        "args, is_new", [(WRAP, True), (UNWRAP, True), (UNWRAP, False)]
+    )
     def test_new_file_is_for_its_owner_alone(self, begin, args, is_new):
         """From the start, if it does not get the mode of an old file; and always for an unwrapped key."""
         if is_new:
@@ -218,12 +336,19 @@ class TestWhileItWaits:
         begin(args)
         assert oct(stat.S_IMODE(PART.stat().st_mode)) == "0o600"
 
-    @pytest.mark.parametrize("meanwhile, part", [
-        ("rm to/file.part0", ""), ("rm to/file.part0; echo other >to/file.part0", ""),
-        ("mv to moved; mkdir to", "moved/file.part0"), ("rm to/file; mkdir to/file", "to/file.part0")])
+    @pytest.mark.parametrize(
+        "meanwhile, part",
+        [
+            ("rm to/file.part0", ""),
+            ("rm to/file.part0; echo other >to/file.part0", ""),
+            ("mv to moved; mkdir to", "moved/file.part0"),
+            ("rm to/file; mkdir to/file", "to/file.part0"),
+        ],
+    )
     def test_what_changes_meanwhile(self, begin, meanwhile, part):
         """The new file goes away, or another takes its name, such as the new file of another run; another directory has
-        the name of the one that the file is in; or a directory has its name. What is there then stays."""
+        the name of the one that the file is in; or a directory has its name. What is there then stays.
+        """
         run = begin()
         sh(meanwhile)
         before = state(part)
@@ -243,9 +368,15 @@ def ask(run, text, lines):
 
 
 class TestLines:
-    @pytest.mark.parametrize("args, given, answer", [
-        (WRAP, KEY16, WRAPPED16), (UNWRAP, WRAPPED16, KEY16), (CHECK, WRAPPED16, "plain 16"),
-        (f"{SAME_KEK} --keep-form", WRAPPED16, WRAPPED16)])
+    @pytest.mark.parametrize(
+        "args, given, answer",
+        [
+            (WRAP, KEY16, WRAPPED16),
+            (UNWRAP, WRAPPED16, KEY16),
+            (CHECK, WRAPPED16, "plain 16"),
+            (f"{SAME_KEK} --keep-form", WRAPPED16, WRAPPED16),
+        ],
+    )
     def test_co_process_is_asked_1000_times(self, keywrap, args, given, answer):
         with keywrap.started(f"{args} --lines", **PIPES) as run:
             for _ in range(1000):
@@ -267,6 +398,9 @@ class TestLines:
         """So a file of many lines is as fast as before."""
         pathlib.Path("many").write_text(f"{WRAPPED16}\n" * 20_000)
         strace = "strace -f -o calls -e trace=write".split()
-        assert keywrap(f"{CHECK} --lines --input many --output answers", prefix=strace) == DONE
+        assert (
+            keywrap(f"{CHECK} --lines --input many --output answers", prefix=strace)
+            == DONE
+        )
         assert pathlib.Path("answers").read_text() == "plain 16\n" * 20_000
         assert len(pathlib.Path("calls").read_text().splitlines()) < 20

@@ -33,7 +33,12 @@ MACHINES = {
 def env(once):
     """An empty environment without the kit on the PATH and without a proxy. What is built is kept in its home."""
     home = once("go-home", lambda directory: None)
-    return {"PATH": "/usr/bin:/bin", "HOME": str(home), "GOPROXY": "off", "GOFLAGS": "-modcacherw"}
+    return {
+        "PATH": "/usr/bin:/bin",
+        "HOME": str(home),
+        "GOPROXY": "off",
+        "GOFLAGS": "-modcacherw",
+    }
 
 
 @pytest.fixture
@@ -49,11 +54,22 @@ def module():
 @pytest.fixture
 def program(env):
     """The directory of a program over dist/, with these files."""
+
     def make(*files):
         directory = pathlib.Path("program")
         directory.mkdir()
         run("go", "mod", "init", "example.org/program", cwd=directory, env=env)
-        run("go", "mod", "edit", "-require", f"{MODULE}@v0.0.0", "-replace", f"{MODULE}={DIST}", cwd=directory, env=env)
+        run(
+            "go",
+            "mod",
+            "edit",
+            "-require",
+            f"{MODULE}@v0.0.0",
+            "-replace",
+            f"{MODULE}={DIST}",
+            cwd=directory,
+            env=env,
+        )
         for file in files:
             shutil.copy(PROGRAMS / file, directory)
         return directory
@@ -66,28 +82,48 @@ def test_module(module, env):
     panics: not only the block, which a caller sees, too."""
     shutil.copy(PROGRAMS / "cleared_test.go", module)
     assert run("gofmt", "-l", ".", cwd=module, env=env) == ""
-    vetted = subprocess.run(["go", "vet", "./..."], cwd=module, env=env, capture_output=True, text=True)
+    vetted = subprocess.run(
+        ["go", "vet", "./..."], cwd=module, env=env, capture_output=True, text=True
+    )
     assert (vetted.returncode, vetted.stdout, vetted.stderr) == (0, "", "")
     said = run("go", "test", "-v", "./...", cwd=module, env=env)
     sources = "".join(path.read_text() for path in module.glob("*_test.go"))
     names = re.findall(r"^func ((?:Test|Example)\w*)\(", sources, re.M)
-    assert sorted(re.findall(r"^--- PASS: (\w+)", said, re.M)) == sorted(names) and len(names) >= 10
+    assert (
+        sorted(re.findall(r"^--- PASS: (\w+)", said, re.M)) == sorted(names)
+        and len(names) >= 10
+    )
 
 
-@pytest.mark.parametrize("variables", [{"CGO_ENABLED": "0"}, {"GOOS": "darwin"}], ids=["without cgo", "for macOS"])
+@pytest.mark.parametrize(
+    "variables",
+    [{"CGO_ENABLED": "0"}, {"GOOS": "darwin"}],
+    ids=["without cgo", "for macOS"],
+)
 def test_without_cgo(program, env, variables):
     """A build without cgo says what is missing, as GO.md has it."""
-    reason, = re.findall("`undefined: (.*?)`", " ".join((DIST / "GO.md").read_text().split()))
+    (reason,) = re.findall(
+        "`undefined: (.*?)`", " ".join((DIST / "GO.md").read_text().split())
+    )
     directory = program()
-    (directory / "main.go").write_text(f'package main\n\nimport _ "{MODULE}"\n\nfunc main() {{}}\n')
-    ended = subprocess.run(["go", "build", "main.go"], cwd=directory, env={**env, **variables},
-                           capture_output=True, text=True)
+    (directory / "main.go").write_text(
+        f'package main\n\nimport _ "{MODULE}"\n\nfunc main() {{}}\n'
+    )
+    ended = subprocess.run(
+        ["go", "build", "main.go"],
+        cwd=directory,
+        env={**env, **variables},
+        capture_output=True,
+        text=True,
+    )
     assert ended.returncode != 0 and f"undefined: {reason}\n" in ended.stderr, ended
 
 
 @slow
-@pytest.mark.parametrize("option, tool", [
-    ("-race", "go"), pytest.param("-asan", "sanitizers of gcc", marks=evidence)])
+@pytest.mark.parametrize(
+    "option, tool",
+    [("-race", "go"), pytest.param("-asan", "sanitizers of gcc", marks=evidence)],
+)
 def test_sanitizers(module, env, option, tool):
     """The race detector, and the addresses that C uses in Go's buffers."""
     need(tool)
@@ -96,19 +132,31 @@ def test_sanitizers(module, env, option, tool):
 
 def runner(command, module, env):
     """Runs tests/go/rows_test.go over these lines."""
+
     def call(text):
         (module / "lines.txt").write_text(text)
-        return run(*command, cwd=module, env={**env, "KEYWRAP_ROWS": f"{module.absolute()}/lines.txt"})
+        return run(
+            *command,
+            cwd=module,
+            env={**env, "KEYWRAP_ROWS": f"{module.absolute()}/lines.txt"},
+        )
 
     return call
 
 
-@pytest.mark.parametrize("names", [["rows"], pytest.param(["more", "foreign", "nist"], marks=slow)],
-                         ids=["kept", "all"])
+@pytest.mark.parametrize(
+    "names",
+    [["rows"], pytest.param(["more", "foreign", "nist"], marks=slow)],
+    ids=["kept", "all"],
+)
 def test_rows(module, env, names):
     shutil.copy(PROGRAMS / "rows_test.go", module)
     assert run("gofmt", "-l", ".", cwd=module, env=env) == ""
-    faces.check("go", runner(["go", "test", "-run", "TestRows", "-v", "./..."], module, env), *names)
+    faces.check(
+        "go",
+        runner(["go", "test", "-run", "TestRows", "-v", "./..."], module, env),
+        *names,
+    )
 
 
 @pytest.mark.parametrize("name", all_of(MACHINES, [], []))
@@ -120,12 +168,22 @@ def test_other_machine(module, env, name):
     static = ["-ldflags", "-linkmode external -extldflags -static"]
     shutil.copy(PROGRAMS / "rows_test.go", module)
     run("go", "test", *static, "-c", "-o", "tests", ".", cwd=module, env=there)
-    faces.check("go", runner([emulator, "./tests", "-test.short", "-test.v"], module, env), "rows", "foreign")
+    faces.check(
+        "go",
+        runner([emulator, "./tests", "-test.short", "-test.v"], module, env),
+        "rows",
+        "foreign",
+    )
 
 
 class TestReadme:
-    DIRECTORY, PACKED = (re.findall("^    ((?:go|make|export) .*)", part, re.M) for part in (
-        DIST / "GO.md").read_text().partition("## Use it")[2].partition("`make go`")[::2])
+    DIRECTORY, PACKED = (
+        re.findall("^    ((?:go|make|export) .*)", part, re.M)
+        for part in (DIST / "GO.md")
+        .read_text()
+        .partition("## Use it")[2]
+        .partition("`make go`")[::2]
+    )
 
     @pytest.mark.needs("no network")
     @slow
@@ -136,25 +194,52 @@ class TestReadme:
         (directory / "go.mod").write_text("module example.org/program\n\ngo 1.19\n")
         if lines is self.PACKED:
             # It writes into the repository.
-            shutil.copytree(ROOT, "repository", ignore=lambda _, names: {"out", ".git", "crates"} & {*names})
-        given = {"HOME": os.getcwd(), "GOCACHE": f"{env['HOME']}/.cache/go-build", "KEYWRAP": DIST,
-                 "REPOSITORY": f"{os.getcwd()}/repository"}
+            shutil.copytree(
+                ROOT,
+                "repository",
+                ignore=lambda _, names: {"out", ".git", "crates"} & {*names},
+            )
+        given = {
+            "HOME": os.getcwd(),
+            "GOCACHE": f"{env['HOME']}/.cache/go-build",
+            "KEYWRAP": DIST,
+            "REPOSITORY": f"{os.getcwd()}/repository",
+        }
         said = run(*alone(lines, **given), cwd=directory)
         assert re.search(r"^ok\s+example\.org/program\s", said, re.M)
         if lines is self.PACKED:
             assert re.search(rf"^ok\s+{re.escape(MODULE)}\s", said, re.M)
-            assert f"{MODULE} {VERSION}\n" in run(*alone(["go list -m all"], **given), cwd=directory)
-            run(*alone(["go mod vendor", "rm -r ~/go", "go test ./..."], **given), cwd=directory)
-        assert (directory / f"vendor/{MODULE}/keywrap.c").read_bytes() == (DIST / "keywrap.c").read_bytes()
+            assert f"{MODULE} {VERSION}\n" in run(
+                *alone(["go list -m all"], **given), cwd=directory
+            )
+            run(
+                *alone(["go mod vendor", "rm -r ~/go", "go test ./..."], **given),
+                cwd=directory,
+            )
+        assert (directory / f"vendor/{MODULE}/keywrap.c").read_bytes() == (
+            DIST / "keywrap.c"
+        ).read_bytes()
 
 
 def test_packed_files(thing):
     """The files of the repository's dist/ but those of the program, under the name and the version."""
     with zipfile.ZipFile(thing("go") / MODULE / f"@v/{VERSION}.zip") as packed:
         found = {member: packed.read(member) for member in packed.namelist()}
-    tracked = run("git", "-C", ROOT, "ls-files", "--cached", "--others", "--exclude-standard", "dist").split()
-    assert found == {name.replace("dist", f"{MODULE}@{VERSION}", 1): (ROOT / name).read_bytes() for name in tracked
-                     if not name.startswith("dist/command/")}
+    tracked = run(
+        "git",
+        "-C",
+        ROOT,
+        "ls-files",
+        "--cached",
+        "--others",
+        "--exclude-standard",
+        "dist",
+    ).split()
+    assert found == {
+        name.replace("dist", f"{MODULE}@{VERSION}", 1): (ROOT / name).read_bytes()
+        for name in tracked
+        if not name.startswith("dist/command/")
+    }
 
 
 @pytest.mark.needs("go-jose")
@@ -168,13 +253,24 @@ def test_go_jose(env, package):
     shutil.copytree(DIST, there / MODULE)
     jose = there / "gopkg.in/square/go-jose.v2"
     shutil.copy(PROGRAMS / "key_wrap.go", jose / "cipher")
-    for directory, name, calls in (".", "jose", "josecipher.Calls"), ("cipher", "josecipher", "Calls"):
-        imported = '"testing"' + '; josecipher "gopkg.in/square/go-jose.v2/cipher"' * (directory == ".")
+    for directory, name, calls in (".", "jose", "josecipher.Calls"), (
+        "cipher",
+        "josecipher",
+        "Calls",
+    ):
+        imported = '"testing"' + '; josecipher "gopkg.in/square/go-jose.v2/cipher"' * (
+            directory == "."
+        )
         (jose / directory / "zz_test.go").write_text(
-            f'package {name}\n\nimport ({imported})\n\nfunc TestZ(t *testing.T) {{ t.Log("calls:", {calls}) }}\n')
+            f'package {name}\n\nimport ({imported})\n\nfunc TestZ(t *testing.T) {{ t.Log("calls:", {calls}) }}\n'
+        )
     variables = {**env, "GO111MODULE": "off", "GOPATH": str(there.parent)}
     # In ./cipher, TestInvalidPaddingOpen, of AES-CBC, fails with some of the random bytes that it draws.
     only = ["-run", "KeyWrap|TestZ"] * (package == "./cipher")
     said = run("go", "test", "-v", *only, package, cwd=jose, env=variables)
     assert int(re.search(r"calls: (\d+)", said)[1]) >= 9
-    assert "--- PASS: " + ("TestAesKeyWrapInvalid" if package == "./cipher" else "TestRoundtripsJWE") in said
+    assert (
+        "--- PASS: "
+        + ("TestAesKeyWrapInvalid" if package == "./cipher" else "TestRoundtripsJWE")
+        in said
+    )

@@ -17,9 +17,26 @@ from program import slow
 
 pytestmark = slow
 
-LIB = "lib/" + subprocess.run(["cc", "-dumpmachine"], capture_output=True, text=True).stdout.strip()
-THINGS = ["command", "library", "hardware", "provider", "dist", "portable", "go", "npm", "wheel"]
-HEADERS = "".join((ROOT / "dist" / name).read_text() for name in ("keywrap.h", "keywrap_steps.h"))
+LIB = (
+    "lib/"
+    + subprocess.run(
+        ["cc", "-dumpmachine"], capture_output=True, text=True
+    ).stdout.strip()
+)
+THINGS = [
+    "command",
+    "library",
+    "hardware",
+    "provider",
+    "dist",
+    "portable",
+    "go",
+    "npm",
+    "wheel",
+]
+HEADERS = "".join(
+    (ROOT / "dist" / name).read_text() for name in ("keywrap.h", "keywrap_steps.h")
+)
 
 
 def rows(section):
@@ -47,10 +64,21 @@ def expected(section):
         if not name.endswith("/"):
             found[name] = mode
             continue
-        tracked = run("git", "-C", ROOT, "ls-files", "--cached", "--others", "--exclude-standard", mode).split()
+        tracked = run(
+            "git",
+            "-C",
+            ROOT,
+            "ls-files",
+            "--cached",
+            "--others",
+            "--exclude-standard",
+            mode,
+        ).split()
         assert tracked
         for path in tracked:
-            found[name + str(pathlib.Path(path).relative_to(mode))] = "755" if path.endswith(".sh") else "644"
+            found[name + str(pathlib.Path(path).relative_to(mode))] = (
+                "755" if path.endswith(".sh") else "644"
+            )
     return found
 
 
@@ -59,14 +87,18 @@ def test_files(thing, name):
     assert listed(thing(name)) == expected(f"files of {name}")
 
 
-@pytest.mark.parametrize("name, readme", [("command", "README"), ("library", "README.library")])
+@pytest.mark.parametrize(
+    "name, readme", [("command", "README"), ("library", "README.library")]
+)
 def test_files_of_archive(thing, name, readme):
     """The archive has the files that make installs, with README at the top, and keywrap.pc that finds them there."""
     archive, installed = thing(f"archive of {name}"), thing(name)
     assert listed(archive) == {**expected(f"files of {name}"), "README": "644"}
     for path in listed(installed):
         if path != "lib/pkgconfig/keywrap.pc":
-            assert (archive / path).read_bytes() == (installed / path).read_bytes(), path
+            assert (archive / path).read_bytes() == (
+                installed / path
+            ).read_bytes(), path
     text = (archive / "README").read_text()
     assert text == (archive / "share/doc/keywrap" / readme).read_text()
     assert text.startswith(f"keywrap {NAMES['VERSION']}:")
@@ -75,18 +107,40 @@ def test_files_of_archive(thing, name, readme):
 def fields(request, name):
     """The fields that are written in a thing, as names and values."""
     if name.startswith("deb "):
-        return dict(email.message_from_string(run("dpkg-deb", "-f", package_of(
-            request.getfixturevalue("debs"), name))).items())
+        return dict(
+            email.message_from_string(
+                run("dpkg-deb", "-f", package_of(request.getfixturevalue("debs"), name))
+            ).items()
+        )
     thing = request.getfixturevalue("thing")
     if name == "npm":
-        return {key: str(value) for key, value in json.loads((thing(name) / "package.json").read_text()).items()}
+        return {
+            key: str(value)
+            for key, value in json.loads(
+                (thing(name) / "package.json").read_text()
+            ).items()
+        }
     if name == "library":
-        return dict(re.findall("^(.*): (.*)$", (thing(name) / "lib/pkgconfig/keywrap.pc").read_text(), re.M))
+        return dict(
+            re.findall(
+                "^(.*): (.*)$",
+                (thing(name) / "lib/pkgconfig/keywrap.pc").read_text(),
+                re.M,
+            )
+        )
     if name == "java":
         manifest = thing("library") / "share/doc/keywrap/java/META-INF/MANIFEST.MF"
         return dict(re.findall("^(.*): (.*)$", manifest.read_text(), re.M))
-    files = [thing(name) / "PKG-INFO"] if name == "sdist" else thing(name).glob("*.dist-info/[MW]*")
-    return {key: value for file in files for key, value in email.message_from_string(file.read_text()).items()}
+    files = (
+        [thing(name) / "PKG-INFO"]
+        if name == "sdist"
+        else thing(name).glob("*.dist-info/[MW]*")
+    )
+    return {
+        key: value
+        for file in files
+        for key, value in email.message_from_string(file.read_text()).items()
+    }
 
 
 @pytest.mark.parametrize("name, field, value", rows("fields"))
@@ -101,11 +155,25 @@ def test_object(thing, name, path, soname, needed, shown):
     if name == "deb libkeywrap1":
         file = file.parent / file.readlink()
     elf = run("readelf", "-dlW", file)
-    assert (re.findall(r"\(SONAME\).*\[(.*)\]", elf) or ["(none)"], re.findall(r"\(NEEDED\).*\[(.*)\]", elf)) == (
-        [soname], [needed])
+    assert (
+        re.findall(r"\(SONAME\).*\[(.*)\]", elf) or ["(none)"],
+        re.findall(r"\(NEEDED\).*\[(.*)\]", elf),
+    ) == ([soname], [needed])
     # Of the source distribution, pip and its compiler choose the options.
-    assert name == "sdist built" or "BIND_NOW" in elf and "GNU_RELRO" in elf and "TEXTREL" not in elf
-    names = {line.split()[-1].partition("@")[0] for line in run("nm", "-D", "--defined-only", file).splitlines()
-             if line.split()[-2] != "A"}
-    calls = set(re.findall(r"^(?:u?int(?:32|64)_t|size_t|void) (keywrap_[a-z_]*)\(", HEADERS, re.M))
+    assert (
+        name == "sdist built"
+        or "BIND_NOW" in elf
+        and "GNU_RELRO" in elf
+        and "TEXTREL" not in elf
+    )
+    names = {
+        line.split()[-1].partition("@")[0]
+        for line in run("nm", "-D", "--defined-only", file).splitlines()
+        if line.split()[-2] != "A"
+    }
+    calls = set(
+        re.findall(
+            r"^(?:u?int(?:32|64)_t|size_t|void) (keywrap_[a-z_]*)\(", HEADERS, re.M
+        )
+    )
     assert names == (calls if shown == "the header's" else {shown} - {"(none)"})

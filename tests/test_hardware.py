@@ -11,7 +11,16 @@ import pytest
 
 import faces
 from builds import NAMES, ROOT, make_library, run
-from machines import ARM, EXPORTS, MACHINES, NAMES as CALLS, SANITIZED, STRICT, SYSROOT, check_library
+from machines import (
+    ARM,
+    EXPORTS,
+    MACHINES,
+    NAMES as CALLS,
+    SANITIZED,
+    STRICT,
+    SYSROOT,
+    check_library,
+)
 from program import evidence, slow
 from test_library import rows_over
 from test_secrets import DECISION, left_on_the_stack, reports
@@ -23,32 +32,55 @@ OWN, HARDWARE = ROOT / "tests/hardware", ROOT / "c/hardware"
 INCLUDED = [f"-I{ROOT}/c/include", f"-I{ROOT}/tests/reference"]
 OPTIONS = [*STRICT, "-O2", *INCLUDED]
 AES = [HARDWARE / f"{name}.c" for name in ("aes", "x86_64", "aarch64")]
-COMPARING = [path for path in sorted((ROOT / "tests/provider").glob("*.c")) if path.name != "direct.c"]
-OF_DEBIAN = [word for part in ("", "/aarch64-linux-gnu") for word in ("-idirafter", f"{SYSROOT}/usr/include{part}")]
+COMPARING = [
+    path
+    for path in sorted((ROOT / "tests/provider").glob("*.c"))
+    if path.name != "direct.c"
+]
+OF_DEBIAN = [
+    word
+    for part in ("", "/aarch64-linux-gnu")
+    for word in ("-idirafter", f"{SYSROOT}/usr/include{part}")
+]
 HAS_OPENSSL = (SYSROOT / "usr/include/openssl").is_dir()
 
 
 @pytest.fixture(scope="session")
 def hardware(once, built):
     """The directory of `make library HARDWARE=1`."""
-    return once("hardware", lambda directory: make_library(directory, built("llvm.a"), "HARDWARE=1"))
+    return once(
+        "hardware",
+        lambda directory: make_library(directory, built("llvm.a"), "HARDWARE=1"),
+    )
 
 
 @pytest.fixture(scope="session")
 def arm_hardware(once, built):
     archive = built("arm64") / "libkeywrap.a"
-    return once("hardware-arm", lambda directory: make_library(directory, archive, "HARDWARE=1", *ARM))
+    return once(
+        "hardware-arm",
+        lambda directory: make_library(directory, archive, "HARDWARE=1", *ARM),
+    )
 
 
 @pytest.fixture
 def proved(library):
     """The archive of the proved calls, by the names that c/hardware gives them."""
-    run("objcopy", f"--redefine-syms={HARDWARE}/names", library / "libkeywrap.a", "proved.a")
+    run(
+        "objcopy",
+        f"--redefine-syms={HARDWARE}/names",
+        library / "libkeywrap.a",
+        "proved.a",
+    )
     return "proved.a"
 
 
 def kept():
-    return ["rows", "foreign", *(() if missing("import cryptography_vectors") else ("nist",))]
+    return [
+        "rows",
+        "foreign",
+        *(() if missing("import cryptography_vectors") else ("nist",)),
+    ]
 
 
 class TestFiles:
@@ -58,15 +90,40 @@ class TestFiles:
     @slow
     def test_with_lto(self, built):
         """Built by these flags, in a directory with a blank in its name."""
-        make_library(f"{os.getcwd()}/with lto", built("llvm.a"), "HARDWARE=1", "CC=cc", "CFLAGS=-O2 -flto")
-        run("cc", "-flto", *OPTIONS, ROOT / "tests/rows.c", "with lto/libkeywrap_hw.a", "-o", "program")
+        make_library(
+            f"{os.getcwd()}/with lto",
+            built("llvm.a"),
+            "HARDWARE=1",
+            "CC=cc",
+            "CFLAGS=-O2 -flto",
+        )
+        run(
+            "cc",
+            "-flto",
+            *OPTIONS,
+            ROOT / "tests/rows.c",
+            "with lto/libkeywrap_hw.a",
+            "-o",
+            "program",
+        )
         faces.check("c", ["./program"], "rows")
 
-    @pytest.mark.parametrize("compiler, standard", [("cc", "c89"), ("cc", "c99"), ("cc", "c11"), ("c++", "c++11")])
+    @pytest.mark.parametrize(
+        "compiler, standard",
+        [("cc", "c89"), ("cc", "c99"), ("cc", "c11"), ("c++", "c++11")],
+    )
     def test_header_of_steps(self, compiler, standard):
         need(compiler)
-        run(compiler, f"-std={standard}", *STRICT[1:], "-fsyntax-only", "-x", "c++" if compiler == "c++" else "c", "-",
-            input="#include <keywrap_steps.h>\n")
+        run(
+            compiler,
+            f"-std={standard}",
+            *STRICT[1:],
+            "-fsyntax-only",
+            "-x",
+            "c++" if compiler == "c++" else "c",
+            "-",
+            input="#include <keywrap_steps.h>\n",
+        )
 
 
 class TestSteps:
@@ -75,47 +132,96 @@ class TestSteps:
     def test_around_openssl(self, hardware, library, name):
         """With the numbers of steps that the header has."""
         sentence = r"There are (\d+) steps for each 8 bytes of the registers, or (\d+) if they are 8 bytes long"
-        steps, = re.findall(sentence, (ROOT / "dist/keywrap_steps.h").read_text())
+        (steps,) = re.findall(sentence, (ROOT / "dist/keywrap_steps.h").read_text())
         numbers = [f"-DSTEPS_OF_WORD={steps[0]}", f"-DSTEPS_OF_ONE_WORD={steps[1]}"]
         archive = (library if name == "keywrap" else hardware) / f"lib{name}.a"
-        run("cc", *OPTIONS, *numbers, OWN / "steps.c", archive, "-lcrypto", "-o", "steps")
+        run(
+            "cc",
+            *OPTIONS,
+            *numbers,
+            OWN / "steps.c",
+            archive,
+            "-lcrypto",
+            "-o",
+            "steps",
+        )
         assert " passed, 0 failed" in run("./steps")
 
     @pytest.mark.needs("<openssl/evp.h>")
     def test_example_of_openssl(self, library):
-        run("cc", *OPTIONS, ROOT / "c/examples/c/evp.c", library / "libkeywrap.a", "-lcrypto", "-o", "evp")
+        run(
+            "cc",
+            *OPTIONS,
+            ROOT / "c/examples/c/evp.c",
+            library / "libkeywrap.a",
+            "-lcrypto",
+            "-o",
+            "evp",
+        )
         assert WRAPPED16 in run("./evp")
 
     @pytest.mark.needs("openssl", "softhsm2-util", "pkcs11.h of p11-kit", "pkg-config")
     def test_recipe_of_a_token(self, prefix):
         """Over the library as it is installed."""
         flags = run("pkg-config", "--cflags", "p11-kit-1").split()
-        run("cc", *OPTIONS, *flags, "-c", ROOT / "c/examples/c/token.c", "-o", "token.o")
-        section, = re.findall(r"^## A KEK that never leaves a token\n(.*?)^## ", (ROOT / "docs/RECIPES.md").read_text(),
-                              re.M | re.S)
+        run(
+            "cc", *OPTIONS, *flags, "-c", ROOT / "c/examples/c/token.c", "-o", "token.o"
+        )
+        (section,) = re.findall(
+            r"^## A KEK that never leaves a token\n(.*?)^## ",
+            (ROOT / "docs/RECIPES.md").read_text(),
+            re.M | re.S,
+        )
         recipe = re.findall("^    (.*\n)", section, re.M)
         os.mkdir("token")
         ended = subprocess.run(
-            ["bash", "-c", "".join(line[2:] for line in recipe if line.startswith("$ "))], cwd="token", text=True,
-            stdout=subprocess.PIPE, stderr=subprocess.STDOUT,
-            env={**os.environ, "EXAMPLES": f"{prefix}/share/doc/keywrap/examples", "LD_LIBRARY_PATH": f"{prefix}/lib",
-                 "PKG_CONFIG_PATH": f"{prefix}/lib/pkgconfig"})
-        assert ended.stdout == "".join(line for line in recipe if not line.startswith("$ "))
+            [
+                "bash",
+                "-c",
+                "".join(line[2:] for line in recipe if line.startswith("$ ")),
+            ],
+            cwd="token",
+            text=True,
+            stdout=subprocess.PIPE,
+            stderr=subprocess.STDOUT,
+            env={
+                **os.environ,
+                "EXAMPLES": f"{prefix}/share/doc/keywrap/examples",
+                "LD_LIBRARY_PATH": f"{prefix}/lib",
+                "PKG_CONFIG_PATH": f"{prefix}/lib/pkgconfig",
+            },
+        )
+        assert ended.stdout == "".join(
+            line for line in recipe if not line.startswith("$ ")
+        )
 
 
 class TestSecrets:
     @slow
     @pytest.mark.needs("valgrind", "<valgrind/memcheck.h>")
     def test_calls(self, hardware):
-        run("cc", *OPTIONS, "-O1", "-g", ROOT / "tests/secrets/secrets.c", ROOT / "tests/reference/one_table.c",
-            hardware / "libkeywrap_hw.a", "-o", "secrets")
+        run(
+            "cc",
+            *OPTIONS,
+            "-O1",
+            "-g",
+            ROOT / "tests/secrets/secrets.c",
+            ROOT / "tests/reference/one_table.c",
+            hardware / "libkeywrap_hw.a",
+            "-o",
+            "secrets",
+        )
         found = reports(["valgrind"], 264, DECISION)
         assert ("keywrap_kind", 0) in found
-        assert {call.partition(",")[0] for call, count in found if count} == {"tables"}, found
+        assert {call.partition(",")[0] for call, count in found if count} == {
+            "tables"
+        }, found
 
     def test_stack(self, hardware):
         """No call leaves more than a block of the wrapped key, except the first, which makes the known-answer test."""
-        for words in left_on_the_stack(MACHINES["here"], hardware / "libkeywrap_hw.a")[1:]:
+        for words in left_on_the_stack(MACHINES["here"], hardware / "libkeywrap_hw.a")[
+            1:
+        ]:
             assert max(map(int, words[3:6])) <= 16, words
 
 
@@ -125,15 +231,24 @@ class TestHere:
     @faces.each_line
     def test_rows(self, once, hardware, line):
         library = hardware / "libkeywrap_hw.a"
-        faces.check_line(line, once, "hardware", "c", lambda text: run(*rows_over(library), input=text))
+        faces.check_line(
+            line,
+            once,
+            "hardware",
+            "c",
+            lambda text: run(*rows_over(library), input=text),
+        )
 
     def test_more_rows(self, hardware):
         faces.check("c", rows_over(hardware / "libkeywrap_hw.a"), *kept()[1:], "more")
 
     @slow
     @pytest.mark.needs("sanitizers of cc")
-    @pytest.mark.parametrize("names", [("short", "foreign"), pytest.param((*kept(), "more"), marks=evidence)],
-                             ids=["short", "all"])
+    @pytest.mark.parametrize(
+        "names",
+        [("short", "foreign"), pytest.param((*kept(), "more"), marks=evidence)],
+        ids=["short", "all"],
+    )
     def test_sanitized(self, proved, names):
         sources = [ROOT / "tests/rows.c", *sorted(HARDWARE.glob("*.c"))]
         run("cc", *OPTIONS, "-g", *SANITIZED, *sources, proved, "-o", "program")
@@ -141,7 +256,9 @@ class TestHere:
 
     def test_aes_of_each_call(self):
         """Each call with a KEK, but for the one that keeps it, and no other, is also in c/hardware."""
-        names = [line.split()[0] for line in (HARDWARE / "names").read_text().splitlines()]
+        names = [
+            line.split()[0] for line in (HARDWARE / "names").read_text().splitlines()
+        ]
         assert sorted([*names, "keywrap_kek_init"]) == EXPORTS
 
     @pytest.mark.needs("the processor's AES")
@@ -149,7 +266,10 @@ class TestHere:
         """Each way of the processor's AES is tested, with each length of a KEK."""
         sources = [OWN / "chosen.c", OWN / "wrong_aes.c", HARDWARE / "aes.c"]
         run("cc", *OPTIONS, *sources, "-o", "chosen")
-        places = ["", *(f"{way}{rounds}" for way in "edEDFC" for rounds in (10, 12, 14))]
+        places = [
+            "",
+            *(f"{way}{rounds}" for way in "edEDFC" for rounds in (10, 12, 14)),
+        ]
         chosen = [run("env", f"WRONG={place}", "./chosen") for place in places]
         assert chosen == ["instructions\n"] + 18 * ["software\n"]
 
@@ -158,7 +278,12 @@ class TestHere:
         threads = ["cc", *OPTIONS, "-g", "-pthread", OWN / "threads.c", "-o", "threads"]
         if name == "sanitized":
             need("thread sanitizer of cc")
-            run(*threads, "-fsanitize=thread", *sorted(HARDWARE.glob("*.c")), request.getfixturevalue("proved"))
+            run(
+                *threads,
+                "-fsanitize=thread",
+                *sorted(HARDWARE.glob("*.c")),
+                request.getfixturevalue("proved"),
+            )
         else:
             run(*threads, (library if name == "keywrap" else hardware) / f"lib{name}.a")
         assert " passed, 0 failed" in run("./threads")
@@ -166,9 +291,22 @@ class TestHere:
     @evidence
     def test_provider(self, hardware):
         """The other tests of the provider."""
-        given = {name: value for name, value in os.environ.items() if not name.startswith("PYTEST_")}
-        run(sys.executable, "-m", "pytest", "-p", "no:xdist", "-p", "no:cacheprovider", ROOT / "tests/test_provider.py",
-            env={**given, "KEYWRAP_ARCHIVES": str(hardware / "libkeywrap_hw.a")})
+        given = {
+            name: value
+            for name, value in os.environ.items()
+            if not name.startswith("PYTEST_")
+        }
+        run(
+            sys.executable,
+            "-m",
+            "pytest",
+            "-p",
+            "no:xdist",
+            "-p",
+            "no:cacheprovider",
+            ROOT / "tests/test_provider.py",
+            env={**given, "KEYWRAP_ARCHIVES": str(hardware / "libkeywrap_hw.a")},
+        )
 
     @evidence
     @pytest.mark.needs("qemu-x86_64")
@@ -179,15 +317,51 @@ class TestHere:
 @pytest.fixture(scope="session")
 def programs(once, request):
     """programs("here") is the directory of the programs of a build, over its libkeywrap_hw.so.1."""
+
     def compile_all(directory, library, compiler, openssl, *more):
-        run(*compiler, *OPTIONS, ROOT / "tests/rows.c", library / "libkeywrap_hw.so.1", *more, "-o", directory / "rows")
-        run(*compiler, *OPTIONS, OWN / "chosen.c", *AES, *more, "-o", directory / "chosen")
+        run(
+            *compiler,
+            *OPTIONS,
+            ROOT / "tests/rows.c",
+            library / "libkeywrap_hw.so.1",
+            *more,
+            "-o",
+            directory / "rows",
+        )
+        run(
+            *compiler,
+            *OPTIONS,
+            OWN / "chosen.c",
+            *AES,
+            *more,
+            "-o",
+            directory / "chosen",
+        )
         if openssl:
-            run(*compiler, *OPTIONS, *openssl[1:], *COMPARING, openssl[0], *more, "-o", directory / "compared")
+            run(
+                *compiler,
+                *OPTIONS,
+                *openssl[1:],
+                *COMPARING,
+                openssl[0],
+                *more,
+                "-o",
+                directory / "compared",
+            )
 
     def provider(directory, library, archive, *words):
-        run("make", "-s", "-C", ROOT, "provider", "HARDWARE=1", f"LIBRARY={library}", f"ARCHIVE={archive}",
-            f"PROVIDER={directory}", *words)
+        run(
+            "make",
+            "-s",
+            "-C",
+            ROOT,
+            "provider",
+            "HARDWARE=1",
+            f"LIBRARY={library}",
+            f"ARCHIVE={archive}",
+            f"PROVIDER={directory}",
+            *words,
+        )
 
     def here(directory):
         library = request.getfixturevalue("hardware")
@@ -195,26 +369,43 @@ def programs(once, request):
         compile_all(directory, library, ["cc"], ["-lcrypto"] * has_openssl)
         if has_openssl:
             provider(directory, library, request.getfixturevalue("built")("llvm.a"))
-            assert re.search(r"\baes_set_encrypt\b", run("nm", directory / "keywrap.so"))
+            assert re.search(
+                r"\baes_set_encrypt\b", run("nm", directory / "keywrap.so")
+            )
 
     def of_arm(*more):
         def build(directory):
             library = request.getfixturevalue("arm_hardware")
-            openssl = [SYSROOT / "usr/lib/aarch64-linux-gnu/libcrypto.so", *OF_DEBIAN] * HAS_OPENSSL
+            openssl = [
+                SYSROOT / "usr/lib/aarch64-linux-gnu/libcrypto.so",
+                *OF_DEBIAN,
+            ] * HAS_OPENSSL
             compile_all(directory, library, ["aarch64-linux-gnu-gcc"], openssl, *more)
             if HAS_OPENSSL:
                 archive = request.getfixturevalue("built")("arm64") / "libkeywrap.a"
-                provider(directory, library, archive, *ARM, f"CPPFLAGS={' '.join(OF_DEBIAN)}")
+                provider(
+                    directory, library, archive, *ARM, f"CPPFLAGS={' '.join(OF_DEBIAN)}"
+                )
 
         return build
 
     # Every processor of qemu has the instructions, so these programs replace getauxval.
-    builds = {"here": here, "arm": of_arm(), "arm-without": of_arm("-rdynamic", OWN / "no_aes.c")}
+    builds = {
+        "here": here,
+        "arm": of_arm(),
+        "arm-without": of_arm("-rdynamic", OWN / "no_aes.c"),
+    }
     return lambda name: once(f"hardware-programs-{name}", builds[name])
 
 
 # An early processor of aarch64.
-ON_ARM = ["qemu-aarch64", "-L", SYSROOT if HAS_OPENSSL else "/usr/aarch64-linux-gnu", "-cpu", "cortex-a53"]
+ON_ARM = [
+    "qemu-aarch64",
+    "-L",
+    SYSROOT if HAS_OPENSSL else "/usr/aarch64-linux-gnu",
+    "-cpu",
+    "cortex-a53",
+]
 # The programs for each processor, how they run here, and the AES that they choose.
 PROCESSORS = {
     "x86-64 with AES": ("here", ["qemu-x86_64", "-cpu", "max"], "instructions"),
@@ -227,17 +418,22 @@ PROCESSORS = {
 @pytest.fixture
 def on(programs, hardware, request, monkeypatch):
     """on("x86-64 with AES", "rows", *words) runs this program there. Skips if it cannot be built."""
+
     def found(processor, name, *words):
         built, runs, _ = PROCESSORS[processor]
         need(runs[0], *["aarch64-linux-gnu-gcc"] * (built != "here"))
-        library = hardware if built == "here" else request.getfixturevalue("arm_hardware")
+        library = (
+            hardware if built == "here" else request.getfixturevalue("arm_hardware")
+        )
         monkeypatch.setenv("KEYWRAP_VERSION", NAMES["VERSION"])
         directory = programs(built)
         if name == "compared":
             if built == "here":
                 need("<openssl/evp.h>")
             elif not HAS_OPENSSL:
-                pytest.skip(f"no OpenSSL in {SYSROOT} (packaging/sysroot.sh '{SYSROOT}')")
+                pytest.skip(
+                    f"no OpenSSL in {SYSROOT} (packaging/sysroot.sh '{SYSROOT}')"
+                )
             words = [directory, *words]
         return [*runs, "-E", f"LD_LIBRARY_PATH={library}", directory / name, *words]
 
@@ -245,19 +441,35 @@ def on(programs, hardware, request, monkeypatch):
 
 
 @slow
-@pytest.mark.parametrize("processor", [
-    pytest.param(name, marks=evidence) if name == "aarch64 without AES" else name for name in PROCESSORS])
+@pytest.mark.parametrize(
+    "processor",
+    [
+        pytest.param(name, marks=evidence) if name == "aarch64 without AES" else name
+        for name in PROCESSORS
+    ],
+)
 class TestEachProcessor:
     def test_aes(self, on, processor):
         assert PROCESSORS[processor][2] in run(*on(processor, "chosen"))
 
-    @pytest.mark.parametrize("names", [("short", "foreign"), pytest.param((*kept(), "more"), marks=evidence)],
-                             ids=["short", "all"])
+    @pytest.mark.parametrize(
+        "names",
+        [("short", "foreign"), pytest.param((*kept(), "more"), marks=evidence)],
+        ids=["short", "all"],
+    )
     def test_rows(self, on, processor, names):
         faces.check("c", on(processor, "rows"), *names)
 
-    @pytest.mark.parametrize("part", [
-        "parameters", pytest.param("sequences 200", marks=slow),
-        *[pytest.param(part, marks=evidence) for part in ("lengths", "refusals few", "sequences 1000")]])
+    @pytest.mark.parametrize(
+        "part",
+        [
+            "parameters",
+            pytest.param("sequences 200", marks=slow),
+            *[
+                pytest.param(part, marks=evidence)
+                for part in ("lengths", "refusals few", "sequences 1000")
+            ],
+        ],
+    )
     def test_provider(self, on, processor, part):
         run(*on(processor, "compared", *part.split()))

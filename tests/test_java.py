@@ -31,36 +31,66 @@ def compiled(directory, path, *sources):
 @pytest.fixture(scope="session")
 def classes(once):
     """The provider, the example and the programs, compiled without a warning."""
-    programs = [ROOT / "java/Example.java",
-                *(PROGRAMS / f"{name}.java" for name in ("Checks", "Cleared", "Heap"))]
-    return once("java-classes", lambda directory: compiled(directory, [JNA], *SOURCES, *programs))
+    programs = [
+        ROOT / "java/Example.java",
+        *(PROGRAMS / f"{name}.java" for name in ("Checks", "Cleared", "Heap")),
+    ]
+    return once(
+        "java-classes",
+        lambda directory: compiled(directory, [JNA], *SOURCES, *programs),
+    )
 
 
 @pytest.fixture
 def java(classes, library):
     """java("Checks", "names") runs a class over the library."""
+
     def call(name, *args, **options):
-        return run("java", f"-Djna.library.path={library}", f"-Djava.io.tmpdir={os.getcwd()}", "-cp",
-                   f"{classes}:{JNA}", name, *args, **options)
+        return run(
+            "java",
+            f"-Djna.library.path={library}",
+            f"-Djava.io.tmpdir={os.getcwd()}",
+            "-cp",
+            f"{classes}:{JNA}",
+            name,
+            *args,
+            **options,
+        )
 
     return call
 
 
 def test_no_warning_for_java_11():
     """Of the provider and of the example."""
-    run("javac", *"-Xlint:all -Werror --release 11 -d . -cp".split(), JNA, *SOURCES, ROOT / "java/Example.java")
+    run(
+        "javac",
+        *"-Xlint:all -Werror --release 11 -d . -cp".split(),
+        JNA,
+        *SOURCES,
+        ROOT / "java/Example.java",
+    )
 
 
-@pytest.mark.parametrize("made", ["names 1158", "values 10", "calls 416", "ignored 32", "keys 8", "cleared 12"])
+@pytest.mark.parametrize(
+    "made",
+    ["names 1158", "values 10", "calls 416", "ignored 32", "keys 8", "cleared 12"],
+)
 def test_compared(java, made):
     """It prints its name, how often it has compared, and the numbers of the library's version."""
-    assert java("Checks", made.split()[0]) == f"{made} {NAMES['VERSION'].removesuffix('-dev')}\n"
+    assert (
+        java("Checks", made.split()[0])
+        == f"{made} {NAMES['VERSION'].removesuffix('-dev')}\n"
+    )
 
 
 def test_limited_policy(java):
     """With crypto.policy=limited, as with the JDK's ciphers, only a KEK of 16 bytes is taken."""
     pathlib.Path("limited").write_text("crypto.policy=limited\n")
-    java("Checks", "names", env={**os.environ, "JAVA_TOOL_OPTIONS": "-Djava.security.properties=limited"})
+    java(
+        "Checks",
+        "names",
+        env={**os.environ, "JAVA_TOOL_OPTIONS": "-Djava.security.properties=limited"},
+    )
 
 
 @pytest.mark.parametrize("name", all_of(["rows", "more", "foreign", "nist"], ["rows"]))
@@ -73,17 +103,36 @@ def test_self_test(java, tmp_path):
     for name in "keywrap.c", "keywrap.h", "keywrap_steps.h":
         shutil.copy(ROOT / "dist" / name, tmp_path)
     plant("portable", "rotation-to-the-other-side", tmp_path)
-    run("cc", "-std=c99", "-O1", "-shared", "-fPIC", "-DKEYWRAP_NO_AES_INSTRUCTIONS", tmp_path / "keywrap.c", "-o",
-        tmp_path / "wrong.so")
+    run(
+        "cc",
+        "-std=c99",
+        "-O1",
+        "-shared",
+        "-fPIC",
+        "-DKEYWRAP_NO_AES_INSTRUCTIONS",
+        tmp_path / "keywrap.c",
+        "-o",
+        tmp_path / "wrong.so",
+    )
     with pytest.raises(AssertionError, match="the self test of the library failed"):
-        java("Checks", "names", env={**os.environ, "JAVA_TOOL_OPTIONS": f"-Dkeywrap.library={tmp_path}/wrong.so"})
+        java(
+            "Checks",
+            "names",
+            env={
+                **os.environ,
+                "JAVA_TOOL_OPTIONS": f"-Dkeywrap.library={tmp_path}/wrong.so",
+            },
+        )
 
 
 def test_other_library(java, thing):
     """By its path, in the property keywrap.library."""
+
     def called(path):
         env = {**os.environ, "JAVA_TOOL_OPTIONS": f"-Dkeywrap.library={path}"}
-        faces.check("java", lambda text: java("Checks", "rows", input=text, env=env), "rows")
+        faces.check(
+            "java", lambda text: java("Checks", "rows", input=text, env=env), "rows"
+        )
 
     called(thing("hardware") / "lib/libkeywrap_hw.so.1")
     with pytest.raises(AssertionError, match="cannot load /none.so"):
@@ -103,6 +152,7 @@ def test_heap_is_cleared(java):
 
 class TestReadme:
     """The lines of the page, over a copy of the directories that they name, without the kit and without a network."""
+
     LINES = re.findall(r"^    (.*)", (ROOT / "java/README.md").read_text(), re.M)
     BUILD, EXAMPLE, UNCHANGED = LINES[:3], LINES[3:4], LINES[4:]
     # It knows nothing of the provider.
@@ -121,23 +171,43 @@ public class Program {
         need("no network", "cc")
         pathlib.Path("Program.java").write_text(self.PROGRAM)
         run("javac", "Program.java")
-        said = subprocess.run(["java", "-XshowSettings:properties", "-version"], capture_output=True, text=True).stderr
+        said = subprocess.run(
+            ["java", "-XshowSettings:properties", "-version"],
+            capture_output=True,
+            text=True,
+        ).stderr
         home = re.search(r"java\.home = (.*)", said)[1]
         for name in "dist", "java":
-            shutil.copytree(ROOT / name, name, ignore=shutil.ignore_patterns("*.o", "*.a", "*.so.1", "target"))
+            shutil.copytree(
+                ROOT / name,
+                name,
+                ignore=shutil.ignore_patterns("*.o", "*.a", "*.so.1", "target"),
+            )
 
         def call(lines):
-            return subprocess.run(alone(self.BUILD + lines, JAVA_HOME=home), capture_output=True, text=True)
+            return subprocess.run(
+                alone(self.BUILD + lines, JAVA_HOME=home),
+                capture_output=True,
+                text=True,
+            )
 
         return call
 
     def test_lines(self, tried):
         ended = tried(self.EXAMPLE + self.UNCHANGED)
-        assert ended.stdout.splitlines()[-5:] == ["true", "Keywrap b595a1c0afbe7a89ce43807cb3b2ba5737ff5d71d0a35cd7",
-                                                  "Keywrap", "Keywrap", "SunJCE"], ended
+        assert ended.stdout.splitlines()[-5:] == [
+            "true",
+            "Keywrap b595a1c0afbe7a89ce43807cb3b2ba5737ff5d71d0a35cd7",
+            "Keywrap",
+            "Keywrap",
+            "SunJCE",
+        ], ended
         with zipfile.ZipFile("out/keywrap.jar") as jar:
             assert b"Implementation-Title: keywrap" in jar.read("META-INF/MANIFEST.MF")
-            assert jar.read("META-INF/services/java.security.Provider") == b"keywrap.KeywrapProvider\n"
+            assert (
+                jar.read("META-INF/services/java.security.Provider")
+                == b"keywrap.KeywrapProvider\n"
+            )
 
     @slow
     def test_without_the_library(self, tried):
@@ -154,12 +224,25 @@ def test_maven():
     """The pom builds the jar, with the same manifest and services, over Debian's packages in the place of Maven's
     repository."""
     shutil.copytree(ROOT / "java", "java")
-    mirror = "<id>debian</id><mirrorOf>*</mirrorOf><url>file:///usr/share/maven-repo</url>"
-    pathlib.Path("settings.xml").write_text(f"<settings><mirrors><mirror>{mirror}</mirror></mirrors></settings>")
+    mirror = (
+        "<id>debian</id><mirrorOf>*</mirrorOf><url>file:///usr/share/maven-repo</url>"
+    )
+    pathlib.Path("settings.xml").write_text(
+        f"<settings><mirrors><mirror>{mirror}</mirror></mirrors></settings>"
+    )
     run(*alone(["mvn -q -B -s settings.xml -f java/pom.xml package"], HOME=os.getcwd()))
     with zipfile.ZipFile(f"out/maven/keywrap-{NAMES['VERSION']}.jar") as jar:
-        names = {name for name in jar.namelist() if not name.endswith("/") and "/maven/" not in name}
+        names = {
+            name
+            for name in jar.namelist()
+            if not name.endswith("/") and "/maven/" not in name
+        }
         assert {name for name in names if "$" not in name} == {
-            "META-INF/MANIFEST.MF", "META-INF/services/java.security.Provider",
-            *(f"keywrap/{path.stem}.class" for path in SOURCES)}
-        assert f"Implementation-Version: {NAMES['VERSION']}" in jar.read("META-INF/MANIFEST.MF").decode()
+            "META-INF/MANIFEST.MF",
+            "META-INF/services/java.security.Provider",
+            *(f"keywrap/{path.stem}.class" for path in SOURCES),
+        }
+        assert (
+            f"Implementation-Version: {NAMES['VERSION']}"
+            in jar.read("META-INF/MANIFEST.MF").decode()
+        )

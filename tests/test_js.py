@@ -25,18 +25,27 @@ ENTRY = "import {{ load }} from '{}'; import {{ offer }} from './bundle.mjs';"
 BUNDLES = {
     "beside.mjs": ("esm", "keywrap", "offer('beside', load);"),
     # The module's bytes are in it, so it need not be an ES module.
-    "inside.js": ("iife", "keywrap", "import module from 'keywrap/keywrap.wasm'; offer('inside', () => load(module));"),
+    "inside.js": (
+        "iife",
+        "keywrap",
+        "import module from 'keywrap/keywrap.wasm'; offer('inside', () => load(module));",
+    ),
     "alone/bundle.js": ("iife", "keywrap/inline", "offer('alone', load);"),
 }
 
 
 def tables(kept="rows"):
-    return [kept, "foreign", *([] if missing("import cryptography_vectors") else ["nist"])]
+    return [
+        kept,
+        "foreign",
+        *([] if missing("import cryptography_vectors") else ["nist"]),
+    ]
 
 
 @pytest.fixture(scope="session")
 def programs(once):
     """The directory of the programs, with the package where a user has it, the lines of rows.mjs, and vectors.mjs."""
+
     def build(directory):
         shutil.copytree(ROOT / "tests/js", directory, dirs_exist_ok=True)
         shutil.copy(ROOT / "tests/lib/engine.mjs", directory)
@@ -44,8 +53,13 @@ def programs(once):
         package = directory / "node_modules/keywrap"
         run("make", "-s", "-C", ROOT, "js", f"JS={package}")
         (directory / "vectors.mjs").write_text(
-            "".join(f"export const {name} = '{value}';\n" for name, value in VALUES.items()))
-        (directory / "lines.txt").write_text("".join(f"{line}\n" for line, _, _ in faces.asked("js", *tables("short"))))
+            "".join(
+                f"export const {name} = '{value}';\n" for name, value in VALUES.items()
+            )
+        )
+        (directory / "lines.txt").write_text(
+            "".join(f"{line}\n" for line, _, _ in faces.asked("js", *tables("short")))
+        )
 
     return once("js", build)
 
@@ -62,9 +76,21 @@ def bundles(once, programs):
 
     def build(directory):
         for name, (form, package, rest) in BUNDLES.items():
-            options = ["--bundle", "--minify", "--log-level=warning", f"--format={form}", "--loader:.wasm=binary"]
-            ended = subprocess.run(["esbuild", *options, f"--outfile={directory}/{name}"], cwd=programs, check=True,
-                                   input=ENTRY.format(package) + rest, capture_output=True, text=True)
+            options = [
+                "--bundle",
+                "--minify",
+                "--log-level=warning",
+                f"--format={form}",
+                "--loader:.wasm=binary",
+            ]
+            ended = subprocess.run(
+                ["esbuild", *options, f"--outfile={directory}/{name}"],
+                cwd=programs,
+                check=True,
+                input=ENTRY.format(package) + rest,
+                capture_output=True,
+                text=True,
+            )
             assert ended.stderr == "" or package == "keywrap"
         shutil.copy(programs / "node_modules/keywrap/keywrap.wasm", directory)
 
@@ -81,14 +107,19 @@ class TestPackage:
         assert size <= 43000 and f"`keywrap.wasm` ({(size + 500) // 1000} KB)" in PAGE
 
     def test_what_a_bundler_looks_for(self, package):
-        assert "new URL('./keywrap.wasm', import.meta.url)" in (package / "keywrap.js").read_text()
+        assert (
+            "new URL('./keywrap.wasm', import.meta.url)"
+            in (package / "keywrap.js").read_text()
+        )
 
     @pytest.mark.needs("esbuild")
     @pytest.mark.parametrize("name", ["calls", "inline", "keywrap"])
     def test_syntax(self, package, name):
         """esbuild has nothing to replace for older hosts."""
         esbuild = ["esbuild", "--format=esm"]
-        assert run(*esbuild, package / f"{name}.js") == run(*esbuild, f"--target={HOSTS}", package / f"{name}.js")
+        assert run(*esbuild, package / f"{name}.js") == run(
+            *esbuild, f"--target={HOSTS}", package / f"{name}.js"
+        )
 
 
 @pytest.mark.needs("node")
@@ -97,12 +128,19 @@ class TestNode:
         """The package has the version of the program, and the module in it the numbers."""
         program = "import { load } from 'keywrap'; console.log((await load()).version)"
         said = run("node", "--input-type=module", "-e", program, cwd=programs)
-        version = json.loads((programs / "node_modules/keywrap/package.json").read_text())["version"]
-        assert [version, said] == [NAMES["VERSION"], NAMES["VERSION"].removesuffix("-dev") + "\n"]
+        version = json.loads(
+            (programs / "node_modules/keywrap/package.json").read_text()
+        )["version"]
+        assert [version, said] == [
+            NAMES["VERSION"],
+            NAMES["VERSION"].removesuffix("-dev") + "\n",
+        ]
 
     def test_readme(self, programs):
         """Its program writes what its comments say."""
-        part = re.search(r"^<!-- tests/test_js\.py runs this.*?^- ", PAGE, re.M | re.S)[0]
+        part = re.search(r"^<!-- tests/test_js\.py runs this.*?^- ", PAGE, re.M | re.S)[
+            0
+        ]
         program = "".join(re.findall("^    (.*\n)", part, re.M))
         due = re.findall(r"^ *console\.log.*;  *// (.*)", program, re.M)
         assert len(due) == 3
@@ -111,29 +149,52 @@ class TestNode:
 
     def test_common_js(self, programs):
         """import() there has the package, and require of Node 18 fails with the error that README names."""
-        run("node", "-e", "import('keywrap').then(async ({ load }) => (await load()).selfTest())", cwd=programs)
+        run(
+            "node",
+            "-e",
+            "import('keywrap').then(async ({ load }) => (await load()).selfTest())",
+            cwd=programs,
+        )
         if run("node", "--version").startswith("v18."):
-            ended = subprocess.run(["node", "-e", "require('keywrap')"], cwd=programs, capture_output=True, text=True)
+            ended = subprocess.run(
+                ["node", "-e", "require('keywrap')"],
+                cwd=programs,
+                capture_output=True,
+                text=True,
+            )
             assert ended.returncode and "ERR_REQUIRE_ESM" in ended.stderr
 
-    @pytest.mark.parametrize("name", ["calls.mjs", "objects.mjs", "--expose-gc growth.mjs"])
+    @pytest.mark.parametrize(
+        "name", ["calls.mjs", "objects.mjs", "--expose-gc growth.mjs"]
+    )
     def test_program(self, programs, name):
         run("node", *name.split(), cwd=programs)
 
     def test_rows(self, programs):
-        faces.check("js", lambda text: run("node", "rows.mjs", input=text, cwd=programs), *tables())
+        faces.check(
+            "js",
+            lambda text: run("node", "rows.mjs", input=text, cwd=programs),
+            *tables(),
+        )
 
     def test_bundles(self, programs, bundles):
         run("node", "bundles.mjs", bundles, cwd=programs)
 
 
 ENGINES = {
-    "chromium": (["chromium"], "chromium"), "firefox": (["firefox-esr"], "firefox-esr"),
-    "webkit": (["MiniBrowser", "xvfb-run", "dbus-run-session"], "/usr/lib/*/webkit2gtk-4.*/MiniBrowser"),
+    "chromium": (["chromium"], "chromium"),
+    "firefox": (["firefox-esr"], "firefox-esr"),
+    "webkit": (
+        ["MiniBrowser", "xvfb-run", "dbus-run-session"],
+        "/usr/lib/*/webkit2gtk-4.*/MiniBrowser",
+    ),
 }
 
 
-@pytest.mark.parametrize("engine", ["chromium", *(pytest.param(name, marks=slow) for name in ("firefox", "webkit"))])
+@pytest.mark.parametrize(
+    "engine",
+    ["chromium", *(pytest.param(name, marks=slow) for name in ("firefox", "webkit"))],
+)
 def test_engine(programs, request, engine):
     """The same tests in a page there."""
     tools, program = ENGINES[engine]
@@ -141,25 +202,42 @@ def test_engine(programs, request, engine):
     bundled = "" if missing("esbuild") else request.getfixturevalue("bundles")
     os.mkdir("files")
     program = glob.glob(program)[0] if "*" in program else program
-    faces.check("js", lambda _: run(
-        "node", "engines.mjs", engine, program, os.path.abspath("files"), programs / "node_modules/keywrap", bundled,
-        cwd=programs, timeout=1500), *tables("short"))
+    faces.check(
+        "js",
+        lambda _: run(
+            "node",
+            "engines.mjs",
+            engine,
+            program,
+            os.path.abspath("files"),
+            programs / "node_modules/keywrap",
+            bundled,
+            cwd=programs,
+            timeout=1500,
+        ),
+        *tables("short"),
+    )
 
 
 HEAD = """import { load, BadLength, KeyNotPlain, KeywrapError, type Kind, type Keywrap } from "keywrap";
 import { load as loadInline } from "keywrap/inline";
 const k = await load(), inline: Keywrap = await loadInline(); const b = new Uint8Array();
 """
-RIGHT = HEAD + """const kind: Kind | null = k.check(k.wrap(b, b), k.rewrap(b, b, b, { newPadded: true }));
+RIGHT = (
+    HEAD
+    + """const kind: Kind | null = k.check(k.wrap(b, b), k.rewrap(b, b, b, { newPadded: true }));
 k.rewrap(b, b, b, { oldPadded: true, keepForm: false }); k.wrap(b, b, { iv: b }); k.unwrap(b, b, { iv: b });
 k.unwrapPadded(b, k.wrapPadded(b, b)); const text: string = k.version; const error: BadLength = new KeyNotPlain();
 k.rewrap(b, b, b, { passNew: true }); const key: Uint8Array = k.unwrapAny(b, b).key;
 const wrapped: Uint8Array[] = k.wrapMany(b, [b]); const kinds: (Kind | null)[] = k.checkMany(b, [b]);
 const results: (Uint8Array | KeywrapError)[][] = [k.unwrapMany(b, [b]), k.rewrapMany(b, b, [b])];
 """
+)
 # A result is not a string, a padded form has no initial value, and what load returns cannot be changed. A refusal among
 # many results is not a key, and nothing found is not a kind. Numbers are not a key, and a text is not a flag.
-WRONG = HEAD + """const text: string = k.wrap(b, b, { iv: b });
+WRONG = (
+    HEAD
+    + """const text: string = k.wrap(b, b, { iv: b });
 k.wrapPadded(b, b, { iv: b });
 k.version = '1.0.0';
 const unwrapped: Uint8Array[] = k.unwrapMany(b, [b]);
@@ -168,6 +246,7 @@ const kinds: Kind[] = k.checkMany(b, [b]);
 k.wrapMany(b, [[1, 2]]);
 k.unwrapMany(b, [b], { padded: 'yes' });
 """
+)
 
 
 @pytest.mark.needs("tsc")
@@ -175,11 +254,35 @@ def test_types(programs):
     """tsc refuses the last lines of the wrong program, each for its reason, and nothing else."""
     for name, program in ("right.mts", RIGHT), ("wrong.mts", WRONG):
         (programs / name).write_text(program)
-    options = ["--noEmit", "--strict", "--target", "es2022", "--module", "node16", "--moduleResolution", "node16"]
-    ended = subprocess.run(["tsc", *options, "right.mts", "wrong.mts"], cwd=programs, capture_output=True, text=True)
+    options = [
+        "--noEmit",
+        "--strict",
+        "--target",
+        "es2022",
+        "--module",
+        "node16",
+        "--moduleResolution",
+        "node16",
+    ]
+    ended = subprocess.run(
+        ["tsc", *options, "right.mts", "wrong.mts"],
+        cwd=programs,
+        capture_output=True,
+        text=True,
+    )
     refused = dict(re.findall(r"^wrong\.mts\((\d+),(.*)", ended.stdout, re.M))
-    reasons = ["type 'string'", "Expected 2 arguments", "read-only", "to type 'Uint8Array[]'", "to type 'Uint8Array[]'",
-               "to type 'Kind[]'", "to type 'Uint8Array'", "to type 'boolean"]
+    reasons = [
+        "type 'string'",
+        "Expected 2 arguments",
+        "read-only",
+        "to type 'Uint8Array[]'",
+        "to type 'Uint8Array[]'",
+        "to type 'Kind[]'",
+        "to type 'Uint8Array'",
+        "to type 'boolean",
+    ]
     assert [*refused] == [str(4 + at) for at in range(len(reasons))], ended.stdout
-    assert all(reason in said for reason, said in zip(reasons, refused.values())), ended.stdout
+    assert all(
+        reason in said for reason, said in zip(reasons, refused.values())
+    ), ended.stdout
     assert len(re.findall(r"^\S", ended.stdout, re.M)) == len(reasons)

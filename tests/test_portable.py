@@ -46,7 +46,9 @@ IN_GATE = [*NATIVE, "gcc, tables", "s390x"]
 @pytest.fixture
 def portable_program(once):
     """portable_program("gcc", SOURCES, "-O2") is the command of a program over dist/, of which each object is compiled
-    once for all tests, or over the keywrap.c of another directory, in which a bug is planted."""
+    once for all tests, or over the keywrap.c of another directory, in which a bug is planted.
+    """
+
     def make(name, sources, *options, directory=DIST):
         compiler, runner = MACHINES[name]
         need(compiler[0], *runner[:1])
@@ -57,10 +59,21 @@ def portable_program(once):
 
         there = pathlib.Path()
         if directory == DIST:
-            there = once(re.sub("[ /]", "-", "-".join(["object", name, *options])), compile_object)
+            there = once(
+                re.sub("[ /]", "-", "-".join(["object", name, *options])),
+                compile_object,
+            )
         else:
             compile_object(there)
-        run(*command, f"-I{directory}", f"-I{ROOT}/tests/reference", *sources, there / "keywrap.o", "-o", "program")
+        run(
+            *command,
+            f"-I{directory}",
+            f"-I{ROOT}/tests/reference",
+            *sources,
+            there / "keywrap.o",
+            "-o",
+            "program",
+        )
         return [*runner, "./program"]
 
     return make
@@ -89,14 +102,33 @@ def test_is_what_the_tree_makes(built):
 
 
 @pytest.mark.parametrize("compiler", all_of(NATIVE, ["clang"]))
-@pytest.mark.parametrize("only", all_of(
-    ["", TABLES, "-DKEYWRAP_STEPS_ONLY", "-DKEYWRAP_TRAP()=__builtin_trap()"], [""]))
-@pytest.mark.parametrize("options", all_of(["-O0 -std=c99", "-O2 -std=c17", "-O3 -std=c99", "-Os -std=c99"], [], [
-    "-O2 -std=c17"]))
+@pytest.mark.parametrize(
+    "only",
+    all_of(
+        ["", TABLES, "-DKEYWRAP_STEPS_ONLY", "-DKEYWRAP_TRAP()=__builtin_trap()"], [""]
+    ),
+)
+@pytest.mark.parametrize(
+    "options",
+    all_of(
+        ["-O0 -std=c99", "-O2 -std=c17", "-O3 -std=c99", "-Os -std=c99"],
+        [],
+        ["-O2 -std=c17"],
+    ),
+)
 def test_compiles_without_a_warning(portable, compiler, only, options):
     """The other tests compile it with -O2 as C99, most by gcc."""
     need(compiler)
-    run(compiler, *STRICT, *options.split(), *only.split(), "-c", portable / "keywrap.c", "-o", "keywrap.o")
+    run(
+        compiler,
+        *STRICT,
+        *options.split(),
+        *only.split(),
+        "-c",
+        portable / "keywrap.c",
+        "-o",
+        "keywrap.o",
+    )
 
 
 @faces.each_line
@@ -119,23 +151,59 @@ def random_calls(directory, library, name, *options):
     """Compiles fuzz.c over the keywrap.c in the directory and over the library. Returns its command."""
     compiler, runner = MACHINES[name]
     need(compiler[0], *runner[:1])
-    calls = sorted(set(re.findall(r"^\w+ (keywrap_\w+)\(", "".join(
-        (DIST / header).read_text() for header in ("keywrap.h", "keywrap_steps.h")), re.M)))
-    pathlib.Path("renamed.h").write_text("".join(f"#define {call} dist_{call}\n" for call in calls))
+    calls = sorted(
+        set(
+            re.findall(
+                r"^\w+ (keywrap_\w+)\(",
+                "".join(
+                    (DIST / header).read_text()
+                    for header in ("keywrap.h", "keywrap_steps.h")
+                ),
+                re.M,
+            )
+        )
+    )
+    pathlib.Path("renamed.h").write_text(
+        "".join(f"#define {call} dist_{call}\n" for call in calls)
+    )
     renamed = ["-include", "./renamed.h", f"-I{directory}"]
     command = [*compiler, *STRICT, "-O2", f"-I{OWN}", *options]
     run(*command, *renamed, "-c", f"{directory}/keywrap.c", "-o", "dist.o")
-    run(*command, *renamed, "-DCALL=dist_call", "-c", OWN / "fuzz_call.c", "-o", "dist_call.o")
-    run(*command, f"-I{ROOT}/c/include", "-DCALL=library_call", OWN / "fuzz_call.c", OWN / "fuzz.c", "dist.o",
-        "dist_call.o", library / "libkeywrap.a", "-o", "fuzz")
+    run(
+        *command,
+        *renamed,
+        "-DCALL=dist_call",
+        "-c",
+        OWN / "fuzz_call.c",
+        "-o",
+        "dist_call.o",
+    )
+    run(
+        *command,
+        f"-I{ROOT}/c/include",
+        "-DCALL=library_call",
+        OWN / "fuzz_call.c",
+        OWN / "fuzz.c",
+        "dist.o",
+        "dist_call.o",
+        library / "libkeywrap.a",
+        "-o",
+        "fuzz",
+    )
     return [*runner, "./fuzz"]
 
 
-@pytest.mark.parametrize("name", all_of([*NATIVE, "gcc, tables", "an old x86-64"], [], ["gcc", "gcc, tables"]))
+@pytest.mark.parametrize(
+    "name",
+    all_of([*NATIVE, "gcc, tables", "an old x86-64"], [], ["gcc", "gcc, tables"]),
+)
 def test_as_the_library(portable, library, name):
     """Random calls, right ones and refusals, of all calls and steps: as the library, byte by byte."""
     cases = 200000 if ALL and name in NATIVE else 10000 if "old" in name else 40000
-    assert run(*random_calls(portable, library, name), str(cases), "1") == f"{cases} cases agree\n"
+    assert (
+        run(*random_calls(portable, library, name), str(cases), "1")
+        == f"{cases} cases agree\n"
+    )
 
 
 @pytest.mark.parametrize("name", all_of(NATIVE, [], ["gcc"]))
@@ -149,7 +217,11 @@ def test_sanitizers(portable_program, name, table):
 def test_valgrind(portable_program):
     need("valgrind")
     program = portable_program("gcc", ROWS, "-O1", "-g")
-    faces.check("c", ["valgrind", "-q", "--error-exitcode=9", "--leak-check=full", *program], "rows")
+    faces.check(
+        "c",
+        ["valgrind", "-q", "--error-exitcode=9", "--leak-check=full", *program],
+        "rows",
+    )
 
 
 @pytest.mark.parametrize("name", all_of(MACHINES, ["gcc"], IN_GATE))
@@ -160,26 +232,41 @@ def test_lengths(portable_program, name):
 def secrets_left(portable_program, name, level, **directory):
     """The most bytes below the stack pointer that depend on a KEK or a key, copies of these, and how many calls there
     are. The first call is left out: it also tests the AES."""
-    program = portable_program(name, [ROOT / "tests/secrets/stack.c", "-Wl,-z,now"], level, **directory)
-    counts = [list(map(int, line.split()[3:7])) for line in run(*program).splitlines()[1:]]
+    program = portable_program(
+        name, [ROOT / "tests/secrets/stack.c", "-Wl,-z,now"], level, **directory
+    )
+    counts = [
+        list(map(int, line.split()[3:7])) for line in run(*program).splitlines()[1:]
+    ]
     kek, new_kek, key, copies = map(max, zip(*counts))
     return max(kek, new_kek, key), copies, len(counts)
 
 
 def documented_secrets(name):
     """The most bytes that SECURITY.md has."""
-    found = re.search(r"at most (\d+) bytes below the stack pointer depend on a KEK or a key, and with AES "
-                      r"instructions at most (\d+)", " ".join((ROOT / "SECURITY.md").read_text().split()))
+    found = re.search(
+        r"at most (\d+) bytes below the stack pointer depend on a KEK or a key, and with AES "
+        r"instructions at most (\d+)",
+        " ".join((ROOT / "SECURITY.md").read_text().split()),
+    )
     return int(found[1 if "tables" in name else 2])
 
 
-@pytest.mark.parametrize("name", all_of(
-    [*NATIVE, "gcc, tables", "clang, tables"], [], ["gcc", "clang", "gcc, tables"]))
-@pytest.mark.parametrize("level", all_of(["-O1", "-O2", "-O3", "-Os"], ["-O2"], ["-Os"]))
+@pytest.mark.parametrize(
+    "name",
+    all_of(
+        [*NATIVE, "gcc, tables", "clang, tables"], [], ["gcc", "clang", "gcc, tables"]
+    ),
+)
+@pytest.mark.parametrize(
+    "level", all_of(["-O1", "-O2", "-O3", "-Os"], ["-O2"], ["-Os"])
+)
 def test_stack(portable, portable_program, name, level):
     """SECURITY.md's bytes below the stack pointer depend on a KEK or a key."""
     most, copies, calls = secrets_left(portable_program, name, level)
-    exports = re.findall(r"^int32_t keywrap_", (portable / "keywrap.h").read_text(), re.M)
+    exports = re.findall(
+        r"^int32_t keywrap_", (portable / "keywrap.h").read_text(), re.M
+    )
     assert calls >= 6 * len(exports) - 1
     assert most <= documented_secrets(name) and copies == 0
 
@@ -191,30 +278,78 @@ def test_object(portable, name, only):
     compiler, _ = MACHINES[name]
     need(compiler[0])
     tools = compiler[0].removesuffix("gcc") if compiler[0] not in NATIVE else ""
-    options = [option for option in [*compiler[1:], *only.split()] if option != "-static"]
-    run(compiler[0], *STRICT, "-O2", "-fno-pic", *options, "-c", portable / "keywrap.c", "-o", "keywrap.o")
-    needed, shown = ({line.split()[-1] for line in run(f"{tools}nm", *flags, "keywrap.o").splitlines()}
-                     for flags in (["-u"], ["-g", "--defined-only"]))
+    options = [
+        option for option in [*compiler[1:], *only.split()] if option != "-static"
+    ]
+    run(
+        compiler[0],
+        *STRICT,
+        "-O2",
+        "-fno-pic",
+        *options,
+        "-c",
+        portable / "keywrap.c",
+        "-o",
+        "keywrap.o",
+    )
+    needed, shown = (
+        {
+            line.split()[-1]
+            for line in run(f"{tools}nm", *flags, "keywrap.o").splitlines()
+        }
+        for flags in (["-u"], ["-g", "--defined-only"])
+    )
     # Those with leading underscores are of the compiler: division on 32-bit Arm, and atomics on aarch64.
     assert {symbol for symbol in needed if not symbol.startswith("__a")} <= {
-        "memcpy", "memmove", "memset", "memcmp", "abort", "getauxval"}
-    headers = [(portable / header).read_text() for header in ("keywrap.h", "keywrap_steps.h")]
-    calls = [re.findall(r"^\w+ (keywrap_\w+)\(", text.partition("#ifndef KEYWRAP_PORTABLE\n/*")[0], re.M)
-             for text in headers]
+        "memcpy",
+        "memmove",
+        "memset",
+        "memcmp",
+        "abort",
+        "getauxval",
+    }
+    headers = [
+        (portable / header).read_text() for header in ("keywrap.h", "keywrap_steps.h")
+    ]
+    calls = [
+        re.findall(
+            r"^\w+ (keywrap_\w+)\(",
+            text.partition("#ifndef KEYWRAP_PORTABLE\n/*")[0],
+            re.M,
+        )
+        for text in headers
+    ]
     assert shown == set(calls[1] if only else calls[0] + calls[1])
     _, data, bss = run(f"{tools}size", "keywrap.o").splitlines()[1].split()[:3]
     # Whether the instructions work.
-    assert data == "0" and int(bss) <= (4 if name in [*NATIVE, "an old x86-64", "aarch64"] and not only else 0)
+    assert data == "0" and int(bss) <= (
+        4 if name in [*NATIVE, "an old x86-64", "aarch64"] and not only else 0
+    )
 
 
 def test_stack_in_readme(portable):
     """The largest frame of a call that gcc compiles, with tables and with AES instructions. The frames around it are
     small."""
     need("gcc")
-    stacks = re.findall(r"takes (?:about|up to) ([\d,]+) bytes", (portable / "README").read_text())
+    stacks = re.findall(
+        r"takes (?:about|up to) ([\d,]+) bytes", (portable / "README").read_text()
+    )
     for stack, options in zip(stacks, [[TABLES], []], strict=True):
-        run("gcc", *STRICT, "-O1", "-fstack-usage", *options, "-c", portable / "keywrap.c", "-o", "keywrap.o")
-        used = max(int(line.split("\t")[1]) for line in pathlib.Path("keywrap.su").read_text().splitlines())
+        run(
+            "gcc",
+            *STRICT,
+            "-O1",
+            "-fstack-usage",
+            *options,
+            "-c",
+            portable / "keywrap.c",
+            "-o",
+            "keywrap.o",
+        )
+        used = max(
+            int(line.split("\t")[1])
+            for line in pathlib.Path("keywrap.su").read_text().splitlines()
+        )
         assert 0.7 < used / int(stack.replace(",", "")) < 1
 
 
@@ -222,7 +357,17 @@ def test_stack_in_readme(portable):
 @pytest.mark.parametrize("options", [[], [TABLES]])
 def test_self_test_sees_a_changed_byte(portable, options):
     need("gcc")
-    run("gcc", *STRICT, "-O2", "-shared", "-fPIC", *options, portable / "keywrap.c", "-o", "keywrap.so")
+    run(
+        "gcc",
+        *STRICT,
+        "-O2",
+        "-shared",
+        "-fPIC",
+        *options,
+        portable / "keywrap.c",
+        "-o",
+        "keywrap.so",
+    )
     run(sys.executable, ROOT / "tests/library/patched.py", "keywrap.so", "decryption")
 
 
@@ -232,7 +377,9 @@ RIGHT = "8 vectors and the self test: right"
 @pytest.fixture
 def copied(portable):
     """A copy of dist/."""
-    ignored = shutil.ignore_patterns("*.o", "*.a", "*.so.1", "vectors", "keywrap", "keywrap.built_from")
+    ignored = shutil.ignore_patterns(
+        "*.o", "*.a", "*.so.1", "vectors", "keywrap", "keywrap.built_from"
+    )
     return pathlib.Path(shutil.copytree(portable, "copy", ignore=ignored))
 
 
@@ -252,7 +399,9 @@ def test_makefile(copied):
 def test_makefile_for_another_machine(copied):
     """The line of README, after a build for this one."""
     need("cc", "s390x-linux-gnu-gcc", "qemu-s390x")
-    line, = re.findall(r"^    \$ (make .*RUN=.*)", (copied / "README").read_text(), re.M)
+    (line,) = re.findall(
+        r"^    \$ (make .*RUN=.*)", (copied / "README").read_text(), re.M
+    )
     run("make", "-C", copied)
     assert RIGHT in run("bash", "-ec", line, cwd=copied)
 
@@ -262,8 +411,14 @@ def test_check_of_a_wrong_unwrap(portable_program):
     """The check fails over a library that unwraps to a key with a wrong byte."""
     pathlib.Path("wrong.c").write_text(
         '#include "keywrap.h"\n#define keywrap_unwrap(a, b, c, d, key, f) (keywrap_unwrap(a, b, c, d, key, f) ? 5 : '
-        '(*(key) ^= 1, 0))\n#include "check/vectors.c"\n')
-    assert subprocess.run(portable_program("gcc", ["wrong.c"], "-O2"), capture_output=True).returncode == 1
+        '(*(key) ^= 1, 0))\n#include "check/vectors.c"\n'
+    )
+    assert (
+        subprocess.run(
+            portable_program("gcc", ["wrong.c"], "-O2"), capture_output=True
+        ).returncode
+        == 1
+    )
 
 
 @slow
@@ -272,12 +427,15 @@ def test_runner_sees_a_change_elsewhere(portable_program, place):
     """Behind a buffer, before it, and in what is only read."""
     pathlib.Path("wrong.c").write_text(
         f'#include "{DIST}/keywrap.h"\n#define keywrap_wrap(kek, n, key, len, to, room) (({place} ^= 1), '
-        f'keywrap_wrap(kek, n, key, len, to, room))\n#include "{ROWS[0]}"\n')
+        f'keywrap_wrap(kek, n, key, len, to, room))\n#include "{ROWS[0]}"\n'
+    )
     assert faces.has_fault("c", portable_program("gcc", ["wrong.c"], "-O2"), "foreign")
 
 
 def directory_files(directory):
-    return [str(path.relative_to(directory)) for path in pathlib.Path(directory).rglob("*")]
+    return [
+        str(path.relative_to(directory)) for path in pathlib.Path(directory).rglob("*")
+    ]
 
 
 @pytest.fixture
@@ -285,13 +443,21 @@ def example(portable):
     """Puts the program of README, by the name that it has there, into a directory; the lines that build it by make; the
     lines for CMake; its output."""
     page = (portable / "README").read_text()
-    program, = re.findall(r"^    #include <keywrap.h>\n(?:    .*\n|\n)*?    }\n", page, re.M)
-    line, output = re.search(r"^    \$ (make && .*)\n    ([0-9a-f]+)$", page, re.M).groups()
+    (program,) = re.findall(
+        r"^    #include <keywrap.h>\n(?:    .*\n|\n)*?    }\n", page, re.M
+    )
+    line, output = re.search(
+        r"^    \$ (make && .*)\n    ([0-9a-f]+)$", page, re.M
+    ).groups()
     cmake = re.search(r"^    add_subdirectory.*\n(?:    .*\n)*", page, re.M)[0]
 
     def put(directory):
         pathlib.Path(directory, "wrap.c").write_text(program)
-        return line, "cmake_minimum_required(VERSION 3.13)\nproject(program C)\n" + cmake, output + "\n"
+        return (
+            line,
+            "cmake_minimum_required(VERSION 3.13)\nproject(program C)\n" + cmake,
+            output + "\n",
+        )
 
     return put
 
@@ -313,85 +479,207 @@ def test_cmake_of_a_program(copied, example, way):
     os.mkdir("program")
     _, lines, output = example("program")
     if way == "find_package":
-        run("cmake", "-S", copied, "-B", "built", "-DBUILD_TESTING=OFF", f"-DCMAKE_INSTALL_PREFIX={os.getcwd()}/there")
+        run(
+            "cmake",
+            "-S",
+            copied,
+            "-B",
+            "built",
+            "-DBUILD_TESTING=OFF",
+            f"-DCMAKE_INSTALL_PREFIX={os.getcwd()}/there",
+        )
         run("cmake", "--build", "built")
         run("cmake", "--install", "built")
         assert sorted(os.listdir("there/include")) == ["keywrap.h", "keywrap_steps.h"]
         shutil.rmtree(copied)
-        lines = re.sub(r"add_subdirectory\(keywrap\) +#.*: (.*)", r"\1", lines).replace("(keywrap R", "(keywrap 1.1 R")
+        lines = re.sub(r"add_subdirectory\(keywrap\) +#.*: (.*)", r"\1", lines).replace(
+            "(keywrap R", "(keywrap 1.1 R"
+        )
     else:
         shutil.move(copied, "program/keywrap")
     assert re.match(rf" *{way}\(keywrap\b", lines.splitlines()[2])
     pathlib.Path("program/CMakeLists.txt").write_text(lines)
-    run("cmake", "-S", "program", "-B", "out", f"-DCMAKE_PREFIX_PATH={os.getcwd()}/there")
+    run(
+        "cmake",
+        "-S",
+        "program",
+        "-B",
+        "out",
+        f"-DCMAKE_PREFIX_PATH={os.getcwd()}/there",
+    )
     run("cmake", "--build", "out")
     assert run("out/wrap") == output
-    assert "vectors" not in " ".join(directory_files("out")) + run("ctest", "--test-dir", "out", "-N")
+    assert "vectors" not in " ".join(directory_files("out")) + run(
+        "ctest", "--test-dir", "out", "-N"
+    )
 
 
-@pytest.mark.parametrize("given, found", [
-    ([], ["-O2"]), (["-DCMAKE_BUILD_TYPE=Release"], ["-O3"]), (["-DCMAKE_BUILD_TYPE=Debug"], []),
-    (["-DCMAKE_C_FLAGS=-O1"], ["-O1"])])
+@pytest.mark.parametrize(
+    "given, found",
+    [
+        ([], ["-O2"]),
+        (["-DCMAKE_BUILD_TYPE=Release"], ["-O3"]),
+        (["-DCMAKE_BUILD_TYPE=Debug"], []),
+        (["-DCMAKE_C_FLAGS=-O1"], ["-O1"]),
+    ],
+)
 def test_cmake_optimizes(portable, given, found):
     """Also if no build type is given, where CMake does not."""
     need("cmake", "cc")
-    run("cmake", "-S", portable, "-B", "built", "-DCMAKE_EXPORT_COMPILE_COMMANDS=ON", *given)
-    command, = (row["command"] for row in json.loads(pathlib.Path("built/compile_commands.json").read_text())
-                if row["file"].endswith("keywrap.c"))
+    run(
+        "cmake",
+        "-S",
+        portable,
+        "-B",
+        "built",
+        "-DCMAKE_EXPORT_COMPILE_COMMANDS=ON",
+        *given,
+    )
+    (command,) = (
+        row["command"]
+        for row in json.loads(pathlib.Path("built/compile_commands.json").read_text())
+        if row["file"].endswith("keywrap.c")
+    )
     assert re.findall(r"-O\S*", command) == found
 
 
 @slow
 def test_cmake(portable):
     need("cmake", "cc")
-    run("cmake", "-S", portable, "-B", "built", "-DCMAKE_C_FLAGS=-fno-pie", "-DCMAKE_EXE_LINKER_FLAGS=-no-pie")
+    run(
+        "cmake",
+        "-S",
+        portable,
+        "-B",
+        "built",
+        "-DCMAKE_C_FLAGS=-fno-pie",
+        "-DCMAKE_EXE_LINKER_FLAGS=-no-pie",
+    )
     run("cmake", "--build", "built")
     run("ctest", "--test-dir", "built", "--no-tests=error")
-    run("cc", "-shared", "-o", "shared.so", "-Wl,--whole-archive", "built/libkeywrap.a", "-Wl,--no-whole-archive")
+    run(
+        "cc",
+        "-shared",
+        "-o",
+        "shared.so",
+        "-Wl,--whole-archive",
+        "built/libkeywrap.a",
+        "-Wl,--no-whole-archive",
+    )
 
 
 @slow
 def test_windows(portable):
     """Compiles with mingw; the vectors run under wine."""
     need("x86_64-w64-mingw32-gcc", "wine")
-    run("x86_64-w64-mingw32-gcc", *STRICT, "-O2", f"-I{portable}", portable / "check/vectors.c", portable / "keywrap.c",
-        "-o", "vectors.exe")
-    run("wine", "./vectors.exe", env={**os.environ, "WINEPREFIX": f"{os.getcwd()}/wine", "WINEDEBUG": "-all"})
+    run(
+        "x86_64-w64-mingw32-gcc",
+        *STRICT,
+        "-O2",
+        f"-I{portable}",
+        portable / "check/vectors.c",
+        portable / "keywrap.c",
+        "-o",
+        "vectors.exe",
+    )
+    run(
+        "wine",
+        "./vectors.exe",
+        env={**os.environ, "WINEPREFIX": f"{os.getcwd()}/wine", "WINEDEBUG": "-all"},
+    )
 
 
 def test_freestanding(portable):
     """Links for a Cortex-M0 without a C library, with three functions of the caller's own."""
     need("arm-none-eabi-gcc")
-    run("arm-none-eabi-gcc", "-mcpu=cortex-m0", "-mthumb", "-ffreestanding", *STRICT, "-Os",
-        "-DKEYWRAP_TRAP()=__builtin_trap()", f"-I{portable}", "-fno-tree-loop-distribute-patterns",
-        OWN / "freestanding.c", portable / "keywrap.c", "-nostdlib", "-o", "firmware.elf", "-lgcc")
+    run(
+        "arm-none-eabi-gcc",
+        "-mcpu=cortex-m0",
+        "-mthumb",
+        "-ffreestanding",
+        *STRICT,
+        "-Os",
+        "-DKEYWRAP_TRAP()=__builtin_trap()",
+        f"-I{portable}",
+        "-fno-tree-loop-distribute-patterns",
+        OWN / "freestanding.c",
+        portable / "keywrap.c",
+        "-nostdlib",
+        "-o",
+        "firmware.elf",
+        "-lgcc",
+    )
 
 
 @slow
 @pytest.mark.parametrize("compiler", ["gcc", pytest.param("clang", marks=evidence)])
 def test_sdist(compiler):
     """pip builds the source distribution without the kit, and the package's tests pass on it. It is the same again."""
-    need(compiler, "Python.h", *[f"import {name}" for name in ("build", "cffi", "ensurepip", "setuptools", "wheel")])
+    need(
+        compiler,
+        "Python.h",
+        *[
+            f"import {name}"
+            for name in ("build", "cffi", "ensurepip", "setuptools", "wheel")
+        ],
+    )
     kit = pathlib.Path(shutil.which("rt") or "/rt").parent
-    path = ":".join(directory for directory in os.environ["PATH"].split(":") if pathlib.Path(directory) != kit)
-    env = {**os.environ, "PATH": path, "CC": compiler, "LDSHARED": f"{compiler} -shared",
-           "SOURCE_DATE_EPOCH": "1767225600"}
+    path = ":".join(
+        directory
+        for directory in os.environ["PATH"].split(":")
+        if pathlib.Path(directory) != kit
+    )
+    env = {
+        **os.environ,
+        "PATH": path,
+        "CC": compiler,
+        "LDSHARED": f"{compiler} -shared",
+        "SOURCE_DATE_EPOCH": "1767225600",
+    }
     version = (ROOT / "VERSION").read_text().strip().replace("-dev", ".dev0")
     for directory in "one", "two":
-        words = [f"DIST={pathlib.Path(directory).absolute()}", f"PYTHON={sys.executable}"]
+        words = [
+            f"DIST={pathlib.Path(directory).absolute()}",
+            f"PYTHON={sys.executable}",
+        ]
         run("make", "-s", "-C", ROOT, "sdist", *words, env=env)
-    packed = [pathlib.Path(directory, f"keywrap-{version}.tar.gz").resolve() for directory in ("one", "two")]
+    packed = [
+        pathlib.Path(directory, f"keywrap-{version}.tar.gz").resolve()
+        for directory in ("one", "two")
+    ]
     assert packed[0].read_bytes() == packed[1].read_bytes()
     run(sys.executable, "-m", "venv", "--system-site-packages", "env")
-    run("env/bin/python3", "-m", "pip", "install", "--no-build-isolation", "--no-index", packed[0], env=env)
+    run(
+        "env/bin/python3",
+        "-m",
+        "pip",
+        "install",
+        "--no-build-isolation",
+        "--no-index",
+        packed[0],
+        env=env,
+    )
     run("tar", "-xzf", packed[0])
-    tests = [f"keywrap-{version}/tests/test_{name}.py" for name in ("calls", "objects", "pyca", "vectors")]
-    said = run("env/bin/python3", "-m", "pytest", "-q", "-p", "no:cacheprovider", *tests,
-               env={**env, "KEYWRAP_CALLS": "10000"})
+    tests = [
+        f"keywrap-{version}/tests/test_{name}.py"
+        for name in ("calls", "objects", "pyca", "vectors")
+    ]
+    said = run(
+        "env/bin/python3",
+        "-m",
+        "pytest",
+        "-q",
+        "-p",
+        "no:cacheprovider",
+        *tests,
+        env={**env, "KEYWRAP_CALLS": "10000"},
+    )
     assert re.search(r"^\d{3,} passed", said, re.M) and "skipped" not in said
 
 
-@pytest.mark.parametrize("suite, base", [("hardware", ROOT), ("portable", DIST), ("rust", DIST)])
+@pytest.mark.parametrize(
+    "suite, base", [("hardware", ROOT), ("portable", DIST), ("rust", DIST)]
+)
 def test_bugs_can_be_planted(tmp_path, suite, base):
     """Each edit fits the sources, also those that only `make evidence` tries."""
     for bug, (name, _, _) in bugs_of(suite).items():
@@ -401,7 +689,9 @@ def test_bugs_can_be_planted(tmp_path, suite, base):
         plant(suite, bug, tmp_path)
 
 
-@pytest.mark.parametrize("bug", all_of([*bugs_of("portable")], [], ["numbers-exchanged"]))
+@pytest.mark.parametrize(
+    "bug", all_of([*bugs_of("portable")], [], ["numbers-exchanged"])
+)
 def test_bug_is_caught(portable, portable_program, library, tmp_path, bug):
     """By random calls, with AES instructions or without, by the longest lengths, or by what is left on the stack."""
     need("sanitizers of gcc")
@@ -413,10 +703,17 @@ def test_bug_is_caught(portable, portable_program, library, tmp_path, bug):
         return subprocess.run([*program, *words], capture_output=True).returncode != 0
 
     def leaves_secrets():
-        most, _, _ = secrets_left(portable_program, "gcc, tables", "-O2", directory=tmp_path)
+        most, _, _ = secrets_left(
+            portable_program, "gcc, tables", "-O2", directory=tmp_path
+        )
         return most > documented_secrets("gcc, tables")
 
     lengths = [OWN / "lengths.c"], "-O1", *SANITIZED
-    assert (fails(random_calls(tmp_path, library, "gcc, tables", "-Wno-error"), "20000", "1")
-            or fails(random_calls(tmp_path, library, "gcc", "-Wno-error"), "20000", "1")
-            or fails(portable_program("gcc, tables", *lengths, directory=tmp_path)) or leaves_secrets())
+    assert (
+        fails(
+            random_calls(tmp_path, library, "gcc, tables", "-Wno-error"), "20000", "1"
+        )
+        or fails(random_calls(tmp_path, library, "gcc", "-Wno-error"), "20000", "1")
+        or fails(portable_program("gcc, tables", *lengths, directory=tmp_path))
+        or leaves_secrets()
+    )

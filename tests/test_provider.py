@@ -20,8 +20,10 @@ pytestmark = pytest.mark.needs("cc", "<openssl/evp.h>")
 OWN = ROOT / "tests/provider"
 PAGE = (ROOT / "docs/OPENSSL.md").read_text()
 RESERVED = "initial value reserved for the padded form"
-NEW_READER = ("openssl req -x509 -newkey ec -pkeyopt ec_paramgen_curve:P-256 -nodes -keyout key.pem -out cert.pem"
-              " -subj /CN=reader")
+NEW_READER = (
+    "openssl req -x509 -newkey ec -pkeyopt ec_paramgen_curve:P-256 -nodes -keyout key.pem -out cert.pem"
+    " -subj /CN=reader"
+)
 
 
 @pytest.fixture(scope="module", autouse=True)
@@ -37,8 +39,28 @@ def environment():
 def programs(directory, *options):
     """Compiles the two programs."""
     sources = [path for path in sorted(OWN.glob("*.c")) if path.name != "direct.c"]
-    run("cc", *STRICT, "-O1", "-g", *options, *sources, "-lcrypto", "-o", directory / "compared")
-    run("cc", *STRICT, "-O1", "-g", *options, OWN / "direct.c", "-ldl", "-o", directory / "direct")
+    run(
+        "cc",
+        *STRICT,
+        "-O1",
+        "-g",
+        *options,
+        *sources,
+        "-lcrypto",
+        "-o",
+        directory / "compared",
+    )
+    run(
+        "cc",
+        *STRICT,
+        "-O1",
+        "-g",
+        *options,
+        OWN / "direct.c",
+        "-ldl",
+        "-o",
+        directory / "direct",
+    )
 
 
 @pytest.fixture(scope="session")
@@ -47,9 +69,20 @@ def compiled_programs(once):
 
 
 def module(directory, library, *options):
-    run("cc", *STRICT, "-O1", "-g", "-fPIC", "-shared", *options, *sorted((ROOT / "c/provider").glob("*.c")),
-        library / "libkeywrap.a", f"-Wl,--version-script,{ROOT}/c/provider/provider.map",
-        "-o", directory / "keywrap.so")
+    run(
+        "cc",
+        *STRICT,
+        "-O1",
+        "-g",
+        "-fPIC",
+        "-shared",
+        *options,
+        *sorted((ROOT / "c/provider").glob("*.c")),
+        library / "libkeywrap.a",
+        f"-Wl,--version-script,{ROOT}/c/provider/provider.map",
+        "-o",
+        directory / "keywrap.so",
+    )
 
 
 @pytest.fixture(scope="session")
@@ -70,10 +103,13 @@ def modules(thing):
 @pytest.fixture(scope="session")
 def over_portable_c(once):
     """The directory with the module that the page's line builds, over a copy of the directories that it names."""
+
     def build(directory):
         for name in "dist", "c/provider":
-            shutil.copytree(ROOT / name, directory / name, ignore=shutil.ignore_patterns("target"))
-        line, = re.findall(r"^    (cc .*\\\n.*)", PAGE, re.M)
+            shutil.copytree(
+                ROOT / name, directory / name, ignore=shutil.ignore_patterns("target")
+            )
+        (line,) = re.findall(r"^    (cc .*\\\n.*)", PAGE, re.M)
         run("bash", "-ec", line, cwd=directory)
 
     return once("provider-over-portable-c", build)
@@ -82,7 +118,13 @@ def over_portable_c(once):
 @pytest.mark.parametrize("compiler", ["gcc", "clang"])
 def test_no_warning(compiler):
     need(compiler)
-    run(compiler, *STRICT, "-O2", "-fsyntax-only", *sorted((ROOT / "c/provider").glob("*.c")))
+    run(
+        compiler,
+        *STRICT,
+        "-O2",
+        "-fsyntax-only",
+        *sorted((ROOT / "c/provider").glob("*.c")),
+    )
 
 
 class TestCompared:
@@ -95,12 +137,20 @@ class TestCompared:
             return [programs / "compared", modules, *args.split()]
         return [programs / "direct", modules / "keywrap.so"]
 
-    @pytest.mark.parametrize("args", ["", "lengths", "sequences 10000", "parameters", "refusals"])
+    @pytest.mark.parametrize(
+        "args", ["", "lengths", "sequences 10000", "parameters", "refusals"]
+    )
     def test_module(self, compiled_programs, modules, args):
         run(*self.command(compiled_programs, modules, args))
 
-    @pytest.mark.parametrize("args", all_of(
-        ["", "lengths", "sequences 10000", "parameters", "refusals"], ["lengths"], [""]))
+    @pytest.mark.parametrize(
+        "args",
+        all_of(
+            ["", "lengths", "sequences 10000", "parameters", "refusals"],
+            ["lengths"],
+            [""],
+        ),
+    )
     def test_over_portable_c(self, compiled_programs, over_portable_c, args):
         run(*self.command(compiled_programs, over_portable_c, args))
 
@@ -122,12 +172,26 @@ class TestCompared:
 @pytest.mark.parametrize("words", [[], ["MODULESDIR=/opt/modules"]])
 def test_installed_and_removed(library, words):
     """In OpenSSL's directory of modules, or in another: one file, which make uninstall-provider removes."""
-    directory = "/opt/modules" if words else re.search('"(.*)"', run("openssl", "version", "-m"))[1]
+    directory = (
+        "/opt/modules"
+        if words
+        else re.search('"(.*)"', run("openssl", "version", "-m"))[1]
+    )
     workdir = os.getcwd()
-    made = ["make", "-s", "-C", ROOT, f"LIBRARY={library}", f"DESTDIR={workdir}/stage", f"PROVIDER={workdir}/built"]
+    made = [
+        "make",
+        "-s",
+        "-C",
+        ROOT,
+        f"LIBRARY={library}",
+        f"DESTDIR={workdir}/stage",
+        f"PROVIDER={workdir}/built",
+    ]
     run(*made, "install-provider", "-o", "library", *words)
     stage = pathlib.Path("stage")
-    assert [path for path in stage.rglob("*") if path.is_file()] == [stage / directory[1:] / "keywrap.so"]
+    assert [path for path in stage.rglob("*") if path.is_file()] == [
+        stage / directory[1:] / "keywrap.so"
+    ]
     assert (stage / directory[1:] / "keywrap.so").stat().st_mode & 0o777 == 0o644
     run(*made, "uninstall-provider", *words)
     assert not [path for path in stage.rglob("*") if path.is_file()]
@@ -135,10 +199,23 @@ def test_installed_and_removed(library, words):
 
 def configured(name, path):
     """Variables for programs that use the configuration of the page, with this path of the module."""
-    configuration = re.search(r"^    openssl_conf = .*?^    default_properties = .*?$", PAGE, re.M | re.S)[0]
+    configuration = re.search(
+        r"^    openssl_conf = .*?^    default_properties = .*?$", PAGE, re.M | re.S
+    )[0]
     lines = [line.removeprefix("    ") for line in configuration.splitlines()]
-    assert len([line for line in lines if re.match("module|activate|providers|nodejs_conf", line)]) == 5
-    lines = [f"module = {path}" if line.startswith("module = ") else line for line in lines]
+    assert (
+        len(
+            [
+                line
+                for line in lines
+                if re.match("module|activate|providers|nodejs_conf", line)
+            ]
+        )
+        == 5
+    )
+    lines = [
+        f"module = {path}" if line.startswith("module = ") else line for line in lines
+    ]
     pathlib.Path(name).write_text("\n".join(lines) + "\n")
     return {**os.environ, "OPENSSL_CONF": os.path.abspath(name)}
 
@@ -157,7 +234,12 @@ def refuses(text, *command, **options):
 
 def enc(given, *words, env=None):
     """What openssl enc makes of the hex digits, in hex."""
-    ended = subprocess.run(["openssl", "enc", *words, "-K", KEK32], input=raw(given), capture_output=True, env=env)
+    ended = subprocess.run(
+        ["openssl", "enc", *words, "-K", KEK32],
+        input=raw(given),
+        capture_output=True,
+        env=env,
+    )
     assert ended.returncode == 0, ended.stderr
     return ended.stdout.hex()
 
@@ -165,27 +247,43 @@ def enc(given, *words, env=None):
 @pytest.mark.needs("openssl")
 class TestOpenssl:
     # The page's way to see that ours is used: OpenSSL's own takes the value.
-    COMMAND = re.search(r"^    \$ (echo .* \| openssl enc -id-aes128-wrap .*)", PAGE, re.M)[1]
+    COMMAND = re.search(
+        r"^    \$ (echo .* \| openssl enc -id-aes128-wrap .*)", PAGE, re.M
+    )[1]
 
     def test_listed(self, ours):
-        assert f"version: {NAMES['VERSION']}" in run("openssl", "list", "-providers", env=ours)
+        assert f"version: {NAMES['VERSION']}" in run(
+            "openssl", "list", "-providers", env=ours
+        )
 
     def test_listed_by_the_page(self, over_portable_c):
         """The lines that build it without the kit end with it in the list."""
-        line, = re.findall(r"^    (openssl list .*)", PAGE, re.M)
+        (line,) = re.findall(r"^    (openssl list .*)", PAGE, re.M)
         said = run("bash", "-ec", line, cwd=over_portable_c)
-        assert "keywrap: AES Key Wrap, proved" in said and f"version: {NAMES['VERSION']}" in said
+        assert (
+            "keywrap: AES Key Wrap, proved" in said
+            and f"version: {NAMES['VERSION']}" in said
+        )
 
     def test_descriptions(self, modules):
         """OpenSSL lists six ciphers, with these descriptions."""
         given = "-provider-path", modules, "-provider", "keywrap"
         said = run("openssl", "list", "-verbose", "-cipher-algorithms", *given)
-        found = [re.search("description: (.*)", part) for part in said.split("@ keywrap\n")[1:]]
+        found = [
+            re.search("description: (.*)", part)
+            for part in said.split("@ keywrap\n")[1:]
+        ]
         assert sorted(match[1] if match else "" for match in found) == [
-            *["AES Key Wrap (RFC 3394), proved"] * 3, *["AES Key Wrap with Padding (RFC 5649), proved"] * 3]
+            *["AES Key Wrap (RFC 3394), proved"] * 3,
+            *["AES Key Wrap with Padding (RFC 5649), proved"] * 3,
+        ]
 
     def test_enc(self, ours):
-        plain, padded = ["-id-aes256-wrap", "-iv", "a6" * 8], ["-id-aes256-wrap-pad", "-iv", "a65959a6"]
+        plain, padded = ["-id-aes256-wrap", "-iv", "a6" * 8], [
+            "-id-aes256-wrap-pad",
+            "-iv",
+            "a65959a6",
+        ]
         assert enc(KEY16, *plain, env=ours) == WRAPPED32
         assert enc(WRAPPED32, "-d", *plain, env=ours) == KEY16
         by_theirs = enc(KEY16, *padded)
@@ -195,21 +293,53 @@ class TestOpenssl:
     def test_command_of_the_page(self, ours):
         refuses(RESERVED, "bash", "-c", self.COMMAND, env=ours)
         for env in os.environ, {**ours, "OPENSSL_CONF": "none.cnf"}:
-            ended = subprocess.run(["bash", "-c", self.COMMAND], capture_output=True, env=env)
+            ended = subprocess.run(
+                ["bash", "-c", self.COMMAND], capture_output=True, env=env
+            )
             assert len(ended.stdout) == 24
 
     def test_reason_of_a_refusal(self, ours):
-        refuses("integrity check failed", "openssl", "enc", "-d", "-id-aes256-wrap", "-iv", "a6" * 8, "-K", KEK32,
-                input=raw(WRAPPED32[:-1] + "8"), env=ours)
+        refuses(
+            "integrity check failed",
+            "openssl",
+            "enc",
+            "-d",
+            "-id-aes256-wrap",
+            "-iv",
+            "a6" * 8,
+            "-K",
+            KEK32,
+            input=raw(WRAPPED32[:-1] + "8"),
+            env=ours,
+        )
 
     @pytest.mark.needs("qemu-x86_64")
     def test_processor_without_sse41(self, ours, modules):
         """Loaded by name it fails with the reason, and OpenSSL's own ciphers serve."""
         openssl = shutil.which("openssl")
-        refuses("this processor lacks SSSE3 or SSE4.1", *WITHOUT_SSE41, openssl, "list", "-providers", "-provider-path",
-                modules, "-provider", "keywrap")
-        wrap = [openssl, "enc", "-id-aes256-wrap", "-iv", "a65959a600000010", "-K", KEK32]
-        ended = subprocess.run([*WITHOUT_SSE41, *wrap], input=raw(KEY16), capture_output=True, env=ours)
+        refuses(
+            "this processor lacks SSSE3 or SSE4.1",
+            *WITHOUT_SSE41,
+            openssl,
+            "list",
+            "-providers",
+            "-provider-path",
+            modules,
+            "-provider",
+            "keywrap",
+        )
+        wrap = [
+            openssl,
+            "enc",
+            "-id-aes256-wrap",
+            "-iv",
+            "a65959a600000010",
+            "-K",
+            KEK32,
+        ]
+        ended = subprocess.run(
+            [*WITHOUT_SSE41, *wrap], input=raw(KEY16), capture_output=True, env=ours
+        )
         assert len(ended.stdout) == 24
         refuses(RESERVED, *WITH_SSE41, *wrap, input=raw(KEY16), env=ours)
 
@@ -220,14 +350,58 @@ class TestOpenssl:
         writer, reader = (ours, None) if is_ours else (None, ours)
         run(*NEW_READER.split())
         pathlib.Path("message").write_text("a message\n")
-        for to, by in [(["-recip", "cert.pem"], ["-recip", "cert.pem", "-inkey", "key.pem"]),
-                       (["-secretkey", KEK32, "-secretkeyid", "01"], ["-secretkey", KEK32, "-secretkeyid", "01"])]:
-            run("openssl", "cms", "-encrypt", "-aes-256-cbc", "-in", "message", "-out", "message.cms", "-outform",
-                "DER", "-binary", *to, env=writer)
-            assert run("openssl", "cms", "-decrypt", "-in", "message.cms", "-inform", "DER", "-binary", *by,
-                       env=reader) == "a message\n"
-        refuses("integrity check failed", "openssl", "cms", "-decrypt", "-in", "message.cms", "-inform", "DER",
-                "-secretkey", KEK32[:-1] + "0", "-secretkeyid", "01", env=ours)
+        for to, by in [
+            (["-recip", "cert.pem"], ["-recip", "cert.pem", "-inkey", "key.pem"]),
+            (
+                ["-secretkey", KEK32, "-secretkeyid", "01"],
+                ["-secretkey", KEK32, "-secretkeyid", "01"],
+            ),
+        ]:
+            run(
+                "openssl",
+                "cms",
+                "-encrypt",
+                "-aes-256-cbc",
+                "-in",
+                "message",
+                "-out",
+                "message.cms",
+                "-outform",
+                "DER",
+                "-binary",
+                *to,
+                env=writer,
+            )
+            assert (
+                run(
+                    "openssl",
+                    "cms",
+                    "-decrypt",
+                    "-in",
+                    "message.cms",
+                    "-inform",
+                    "DER",
+                    "-binary",
+                    *by,
+                    env=reader,
+                )
+                == "a message\n"
+            )
+        refuses(
+            "integrity check failed",
+            "openssl",
+            "cms",
+            "-decrypt",
+            "-in",
+            "message.cms",
+            "-inform",
+            "DER",
+            "-secretkey",
+            KEK32[:-1] + "0",
+            "-secretkeyid",
+            "01",
+            env=ours,
+        )
 
 
 @pytest.mark.parametrize("command", ["php wrap.php", "ruby wrap.rb", "node wrap.js"])
@@ -244,9 +418,13 @@ def test_script(ours, command):
 
 def test_python(ours):
     """`import ssl` loads it."""
-    libcrypto = run("python3", "-c", 'import ssl; print(open("/proc/self/maps").read())')
+    libcrypto = run(
+        "python3", "-c", 'import ssl; print(open("/proc/self/maps").read())'
+    )
     path = re.search(r"\S*/libcrypto\.so\.3$", libcrypto, re.M)
     if not path:
-        pytest.skip("no python3 whose ssl is over a shared libcrypto.so.3 (apt-get install python3)")
+        pytest.skip(
+            "no python3 whose ssl is over a shared libcrypto.so.3 (apt-get install python3)"
+        )
     assert "keywrap" in run("python3", OWN / "who.py", path[0], env=ours)
     assert "default" in run("python3", OWN / "who.py", path[0])

@@ -28,14 +28,25 @@ class TestProgram:
         cases = [case for case in published.foreign() if case.call is CALLS[call]]
         assert len(cases) > 90
         for case in cases:
-            due = REFUSALS[published.refusal(case)] if case.answer is None else Ended(0, case.answer.hex() + "\n")
+            due = (
+                REFUSALS[published.refusal(case)]
+                if case.answer is None
+                else Ended(0, case.answer.hex() + "\n")
+            )
             assert over_program(keywrap, case, "", str) == due, case
 
     def test_nist(self, keywrap, call):
         """A fifth of NIST's cases, in base64."""
-        cases = [case for case in published.nist_or_skip() if case.call is CALLS[call]][::5]
+        cases = [case for case in published.nist_or_skip() if case.call is CALLS[call]][
+            ::5
+        ]
         assert len(cases) > 500
         for case in cases:
-            due = REFUSALS[published.refusal(case)] if case.answer is None else Ended(
-                0, in_base64(case.answer.hex()) + "\n")
-            assert over_program(keywrap, case, "--base64 --base64-kek", in_base64) == due, case
+            due = (
+                REFUSALS[published.refusal(case)]
+                if case.answer is None
+                else Ended(0, in_base64(case.answer.hex()) + "\n")
+            )
+            assert (
+                over_program(keywrap, case, "--base64 --base64-kek", in_base64) == due
+            ), case

@@ -11,8 +11,12 @@ from tools import need
 
 ROOT = pathlib.Path(__file__).resolve().parent.parent
 RECIPES = (ROOT / "docs/RECIPES.md").read_text()
-SECTIONS = dict(section.split("\n", 1) for section in re.split("^## ", RECIPES, flags=re.M)[1:])
-PARTS = re.split("^#: after ", (ROOT / "tests/lib/recipes.sh").read_text(), flags=re.M)[1:]
+SECTIONS = dict(
+    section.split("\n", 1) for section in re.split("^## ", RECIPES, flags=re.M)[1:]
+)
+PARTS = re.split("^#: after ", (ROOT / "tests/lib/recipes.sh").read_text(), flags=re.M)[
+    1:
+]
 PARTS = dict(part.split("\n", 1) for part in PARTS)
 TOOLS = "openssl", "xxd", "jq"
 
@@ -23,7 +27,7 @@ def typed_and_shown(section):
     for line in section.splitlines(keepends=True):
         if prompt := re.match(r"    (?: {1,3})?[$>] ", line):
             indent = len(prompt[0]) - 2
-            typed += line[len(prompt[0]):]
+            typed += line[len(prompt[0]) :]
         elif line.startswith("    "):
             shown += line[indent:]
     return typed, shown
@@ -34,23 +38,39 @@ def follow(keywrap, files, script):
     need(*[tool for tool in TOOLS if re.search(rf"\b{tool}\b|_{tool}\.", script)])
     environment = {**os.environ, "PATH": f"{files}/bin:{os.environ['PATH']}"}
     if re.search("wrap-pad|cipher-pad", script):
-        ciphers = subprocess.run(["openssl", "enc", "-list"], capture_output=True, text=True).stdout
+        ciphers = subprocess.run(
+            ["openssl", "enc", "-list"], capture_output=True, text=True
+        ).stdout
         if "id-aes256-wrap-pad" not in ciphers:
             pytest.skip("no openssl with id-aes256-wrap-pad (apt-get install openssl)")
     for name in "bin", "here":
         os.mkdir(name)
     os.symlink(keywrap.path, "bin/keywrap")
     pathlib.Path("script").write_text(script)
-    ended = subprocess.run(["bash", "-u", "../script"], cwd="here", env=environment, stdin=subprocess.DEVNULL,
-                           stdout=subprocess.PIPE, stderr=subprocess.STDOUT, text=True, timeout=1200)
+    ended = subprocess.run(
+        ["bash", "-u", "../script"],
+        cwd="here",
+        env=environment,
+        stdin=subprocess.DEVNULL,
+        stdout=subprocess.PIPE,
+        stderr=subprocess.STDOUT,
+        text=True,
+        timeout=1200,
+    )
     assert ended.returncode == 0, ended.stdout
     return ended.stdout
 
 
 # Two kinds are tested elsewhere: recipes with the Python package in python/tests/rotation, the recipe that
 # compiles a program with the C library in tests/test_hardware.py.
-@pytest.mark.parametrize("name", [name for name, section in SECTIONS.items()
-                                  if not re.search(r"-m keywrap\.|pkg-config", typed_and_shown(section)[0])])
+@pytest.mark.parametrize(
+    "name",
+    [
+        name
+        for name, section in SECTIONS.items()
+        if not re.search(r"-m keywrap\.|pkg-config", typed_and_shown(section)[0])
+    ],
+)
 def test_recipe(keywrap, files, name):
     script, shown = typed_and_shown(SECTIONS[name])
     assert follow(keywrap, files, script + PARTS.get(name, "")) == shown

@@ -31,7 +31,9 @@ def cargos():
     """The directories of the cargos here: Debian's, and one that is first on the PATH."""
     found = {"debian": "/usr/bin"} if pathlib.Path("/usr/bin/cargo").exists() else {}
     # rustup's cargo needs variables of the environment. The toolchain that it starts does not.
-    sysroot = subprocess.run(["rustc", "--print", "sysroot"], capture_output=True, text=True).stdout.strip()
+    sysroot = subprocess.run(
+        ["rustc", "--print", "sysroot"], capture_output=True, text=True
+    ).stdout.strip()
     if sysroot and pathlib.Path(sysroot, "bin/cargo").exists():
         found.setdefault("debian" if sysroot == "/usr" else "first", f"{sysroot}/bin")
     return found
@@ -48,11 +50,16 @@ class Cargo:
     def __init__(self, name, home):
         self.home = home / name
         self.path = CARGOS[name]
-        self.env = {"PATH": f"{self.path}:/usr/bin:/bin", "HOME": str(self.home),
-                    "CARGO_TARGET_DIR": f"{self.home}/out"}
+        self.env = {
+            "PATH": f"{self.path}:/usr/bin:/bin",
+            "HOME": str(self.home),
+            "CARGO_TARGET_DIR": f"{self.home}/out",
+        }
         configured = self.home / ".cargo/config.toml"
         configured.parent.mkdir(parents=True, exist_ok=True)
-        configured.write_text(f'source.crates-io.replace-with = "debian"\nsource.debian.directory = "{REGISTRY}"\n')
+        configured.write_text(
+            f'source.crates-io.replace-with = "debian"\nsource.debian.directory = "{REGISTRY}"\n'
+        )
 
     def __call__(self, *words, cwd, **options):
         env = {**self.env, **options.pop("env", {})}
@@ -74,10 +81,20 @@ def cargo(home):
 @pytest.fixture(scope="session")
 def crate(once, home):
     """The unpacked package."""
+
     def build(directory):
-        shutil.copytree(DIST, directory / "dist", ignore=shutil.ignore_patterns("target", "Cargo.lock"))
-        Cargo(next(iter(CARGOS)), home)("package", "--offline", "--no-verify", cwd=directory / "dist",
-                                        env={"CARGO_TARGET_DIR": str(directory / "out")})
+        shutil.copytree(
+            DIST,
+            directory / "dist",
+            ignore=shutil.ignore_patterns("target", "Cargo.lock"),
+        )
+        Cargo(next(iter(CARGOS)), home)(
+            "package",
+            "--offline",
+            "--no-verify",
+            cwd=directory / "dist",
+            env={"CARGO_TARGET_DIR": str(directory / "out")},
+        )
         with tarfile.open(directory / f"out/package/keywrap-{VERSION}.crate") as packed:
             packed.extractall(directory)
 
@@ -86,20 +103,41 @@ def crate(once, home):
 
 def counted(said):
     """How many tests passed; none failed or was left out."""
-    results = re.findall(r"^test result: ok\. (\d+) passed; 0 failed; 0 ignored; 0 measured; 0 filtered", said, re.M)
+    results = re.findall(
+        r"^test result: ok\. (\d+) passed; 0 failed; 0 ignored; 0 measured; 0 filtered",
+        said,
+        re.M,
+    )
     assert len(results) == len(re.findall("^test result", said, re.M))
     return sum(map(int, results))
 
 
 def names_of_tests():
-    return [name for path in DIST.glob("**/*.rs") for name in re.findall(r"#\[test\]\n\s*fn (\w+)", path.read_text())]
+    return [
+        name
+        for path in DIST.glob("**/*.rs")
+        for name in re.findall(r"#\[test\]\n\s*fn (\w+)", path.read_text())
+    ]
 
 
 def test_files(crate):
     """The crate, and the C as it is in dist/; nothing of Go."""
-    files = {str(path.relative_to(crate)) for path in crate.rglob("*") if path.is_file()}
-    own = {str(path.relative_to(DIST)) for name in ("src", "tests") for path in (DIST / name).rglob("*.rs")}
-    copied = own | {"README", "RUST.md", "build.rs", "keywrap.c", "keywrap.h", "keywrap_steps.h"}
+    files = {
+        str(path.relative_to(crate)) for path in crate.rglob("*") if path.is_file()
+    }
+    own = {
+        str(path.relative_to(DIST))
+        for name in ("src", "tests")
+        for path in (DIST / name).rglob("*.rs")
+    }
+    copied = own | {
+        "README",
+        "RUST.md",
+        "build.rs",
+        "keywrap.c",
+        "keywrap.h",
+        "keywrap_steps.h",
+    }
     assert files - {"Cargo.lock"} == copied | {"Cargo.toml", "Cargo.toml.orig"}
     for name in copied:
         assert (crate / name).read_bytes() == (DIST / name).read_bytes()
@@ -111,8 +149,10 @@ class TestPage:
     @slow
     def test_tests(self, cargo, crate):
         """Those without a network run all tests of the crate, without another configuration."""
-        lines, = re.findall(r"^    (cargo --config .*\\\n.*)", PAGE, re.M)
-        said = run(*alone([lines], **cargo.env, CARGO_HOME=f"{cargo.home}/empty"), cwd=crate)
+        (lines,) = re.findall(r"^    (cargo --config .*\\\n.*)", PAGE, re.M)
+        said = run(
+            *alone([lines], **cargo.env, CARGO_HOME=f"{cargo.home}/empty"), cwd=crate
+        )
         # The test of zeroize.rs is not run. The documentation has three.
         assert counted(said) == len(names_of_tests()) + 2
 
@@ -123,30 +163,46 @@ class TestPage:
         """A program with the example, to which the line adds the crate by its path or from a clone, and whose own
         configuration is the page's."""
         example = re.search(r"^    use keywrap(?:.*\n)*?(?=^\S)", PAGE, re.M)[0]
-        line, = re.findall(f"^    (cargo add .*--{way} .*)", PAGE, re.M)
+        (line,) = re.findall(f"^    (cargo add .*--{way} .*)", PAGE, re.M)
         pathlib.Path("program/src").mkdir(parents=True)
         pathlib.Path("program/.cargo").mkdir()
-        pathlib.Path("program/.cargo/config.toml").write_text("".join(re.findall(r"^    (source\..*\n)", PAGE, re.M)))
+        pathlib.Path("program/.cargo/config.toml").write_text(
+            "".join(re.findall(r"^    (source\..*\n)", PAGE, re.M))
+        )
         pathlib.Path("program/Cargo.toml").write_text(PACKAGE)
         pathlib.Path("program/src/main.rs").write_text(
             "fn main() -> Result<(), Box<dyn std::error::Error>> {\nlet (bytes, key) = ([7; 32], [5; 16]);\n"
-            f'{example}\nprintln!("done");\nOk(())\n}}\n')
+            f'{example}\nprintln!("done");\nOk(())\n}}\n'
+        )
         run("git", "clone", "-q", ROOT, "clone")
-        given = {**cargo.env, "CARGO_HOME": os.path.abspath("empty"), "CARGO_TARGET_DIR": os.path.abspath("out"),
-                 "KEYWRAP": os.path.abspath("clone/dist"), "REPOSITORY": f"file://{os.path.abspath('clone')}"}
-        said = run(*alone([line, "cargo build", "cargo run --offline"], **given), cwd="program")
+        given = {
+            **cargo.env,
+            "CARGO_HOME": os.path.abspath("empty"),
+            "CARGO_TARGET_DIR": os.path.abspath("out"),
+            "KEYWRAP": os.path.abspath("clone/dist"),
+            "REPOSITORY": f"file://{os.path.abspath('clone')}",
+        }
+        said = run(
+            *alone([line, "cargo build", "cargo run --offline"], **given), cwd="program"
+        )
         assert said == "done\n"
         # Other flags compile keywrap.c again.
-        output, = pathlib.Path("out").glob("*/build/keywrap-*/output")
+        (output,) = pathlib.Path("out").glob("*/build/keywrap-*/output")
         assert "cargo:rerun-if-env-changed=CFLAGS\n" in output.read_text()
 
     def test_version(self):
         """RUST.md and Cargo.toml have the same oldest Rust."""
-        oldest = re.search('^rust-version = "(.*)"$', (DIST / "Cargo.toml").read_text(), re.M)[1]
+        oldest = re.search(
+            '^rust-version = "(.*)"$', (DIST / "Cargo.toml").read_text(), re.M
+        )[1]
         assert f"needs Rust {oldest} or newer" in " ".join(PAGE.split())
 
 
-FEATURES = ["--no-default-features", "--no-default-features --features alloc", "--all-features"]
+FEATURES = [
+    "--no-default-features",
+    "--no-default-features --features alloc",
+    "--all-features",
+]
 
 
 @pytest.mark.parametrize("name", NAMES)
@@ -166,8 +222,19 @@ def test_lints(name, home, crate):
     elif not pathlib.Path(cargo.path, "cargo-clippy").exists():
         pytest.skip(f"no cargo-clippy in {cargo.path}")
     for features in FEATURES:
-        cargo("clippy", "--offline", "--all-targets", *features.split(), "--", "-D", "warnings", cwd=crate)
-    cargo("doc", "--offline", "--no-deps", cwd=crate, env={"RUSTDOCFLAGS": "-D warnings"})
+        cargo(
+            "clippy",
+            "--offline",
+            "--all-targets",
+            *features.split(),
+            "--",
+            "-D",
+            "warnings",
+            cwd=crate,
+        )
+    cargo(
+        "doc", "--offline", "--no-deps", cwd=crate, env={"RUSTDOCFLAGS": "-D warnings"}
+    )
 
 
 def test_formatted():
@@ -182,12 +249,14 @@ def program(directory, source, crate, features, more):
     directory.mkdir()
     shutil.copy(OWN / source, directory)
     (directory / "Cargo.toml").write_text(
-        f'{PACKAGE}{more}[dependencies]\nkeywrap = {{ path = "{crate}"{features} }}\n')
+        f'{PACKAGE}{more}[dependencies]\nkeywrap = {{ path = "{crate}"{features} }}\n'
+    )
 
 
 @pytest.fixture(scope="session")
 def crate_with_rows(once, crate):
     """A copy of the crate in which rows.rs is one of its tests."""
+
     def build(directory):
         shutil.copytree(crate, directory / "copy")
         shutil.copy(OWN / "rows.rs", directory / "copy/tests")
@@ -197,11 +266,25 @@ def crate_with_rows(once, crate):
 
 def runner(cargo, crate, face, **more):
     """Runs rows.rs over the lines for one of the faces."""
+
     def call(text):
         pathlib.Path("lines.txt").write_text(text)
-        env = {"KEYWRAP_ROWS": os.path.abspath("lines.txt"), "CARGO_PROFILE_TEST_OPT_LEVEL": "1", **more,
-               "KEYWRAP_WAY": FACES[face]}
-        return cargo("test", "--offline", "--test", "rows", "--", "--nocapture", cwd=crate, env=env)
+        env = {
+            "KEYWRAP_ROWS": os.path.abspath("lines.txt"),
+            "CARGO_PROFILE_TEST_OPT_LEVEL": "1",
+            **more,
+            "KEYWRAP_WAY": FACES[face],
+        }
+        return cargo(
+            "test",
+            "--offline",
+            "--test",
+            "rows",
+            "--",
+            "--nocapture",
+            cwd=crate,
+            env=env,
+        )
 
     return call
 
@@ -211,7 +294,10 @@ FACES = {"rust": "", "rust vec": "_vec", "rust steps": "_steps"}
 
 
 @pytest.mark.needs("<openssl/evp.h>")
-@pytest.mark.parametrize("name", ["rows", *(pytest.param(name, marks=slow) for name in ("more", "foreign", "nist"))])
+@pytest.mark.parametrize(
+    "name",
+    ["rows", *(pytest.param(name, marks=slow) for name in ("more", "foreign", "nist"))],
+)
 @pytest.mark.parametrize("face", all_of(FACES, ["rust"]))
 def test_rows(cargo, crate_with_rows, face, name):
     faces.check(face, runner(cargo, crate_with_rows, face), name)
@@ -221,10 +307,17 @@ def test_rows(cargo, crate_with_rows, face, name):
 def test_without_std(cargo, crate):
     """A library with a panic handler of its own, which a program in C calls."""
     directory = pathlib.Path("program")
-    program(directory, "no_std.rs", crate, ", default-features = false",
-            '[lib]\npath = "no_std.rs"\ncrate-type = ["staticlib"]\n[profile.dev]\npanic = "abort"\n')
+    program(
+        directory,
+        "no_std.rs",
+        crate,
+        ", default-features = false",
+        '[lib]\npath = "no_std.rs"\ncrate-type = ["staticlib"]\n[profile.dev]\npanic = "abort"\n',
+    )
     cargo("build", "--offline", cwd=directory)
-    pathlib.Path("main.c").write_text("_Bool wraps(void);\nint main(void) { return wraps() ? 0 : 1; }\n")
+    pathlib.Path("main.c").write_text(
+        "_Bool wraps(void);\nint main(void) { return wraps() ? 0 : 1; }\n"
+    )
     run("cc", "main.c", f"{cargo.home}/out/debug/libprogram.a", "-o", "main")
     run("./main")
 
@@ -238,9 +331,19 @@ def test_aarch64(home, crate):
     if not list(root.glob(f"lib/rustlib/{ARM}/lib/libstd-*.rlib")):
         pytest.skip(f"no std of Rust in {root} (packaging/sysroot.sh)")
     of_target = f"CARGO_TARGET_{ARM.upper().replace('-', '_')}"
-    said = Cargo("debian", home)("test", "--offline", "--all-features", "--target", ARM, cwd=crate, env={
-        f"{of_target}_RUSTFLAGS": f"--sysroot={root}", f"{of_target}_LINKER": "aarch64-linux-gnu-gcc",
-        f"{of_target}_RUNNER": "qemu-aarch64 -L /usr/aarch64-linux-gnu"})
+    said = Cargo("debian", home)(
+        "test",
+        "--offline",
+        "--all-features",
+        "--target",
+        ARM,
+        cwd=crate,
+        env={
+            f"{of_target}_RUSTFLAGS": f"--sysroot={root}",
+            f"{of_target}_LINKER": "aarch64-linux-gnu-gcc",
+            f"{of_target}_RUNNER": "qemu-aarch64 -L /usr/aarch64-linux-gnu",
+        },
+    )
     assert counted(said) == len(names_of_tests())
 
 
@@ -252,13 +355,23 @@ def test_bugs_are_caught(cargo, crate, crate_with_rows):
     tests = ["cargo", "test", "--offline", "--all-features", "--lib", "--tests"]
     target, lines = os.path.abspath("out"), pathlib.Path("none.txt")
     lines.touch()
-    env = {**cargo.env, "CARGO_TARGET_DIR": target, "KEYWRAP_ROWS": str(lines.absolute())}
+    env = {
+        **cargo.env,
+        "CARGO_TARGET_DIR": target,
+        "KEYWRAP_ROWS": str(lines.absolute()),
+    }
 
     def passes():
         # An edit that does not compile catches nothing.
         run(*tests, "--no-run", cwd=copy, env=env)
-        return subprocess.run(tests, cwd=copy, env=env, capture_output=True).returncode == 0 and not any(
-            faces.has_fault(face, runner(cargo, copy, face, CARGO_TARGET_DIR=target), "rows") for face in FACES)
+        return subprocess.run(
+            tests, cwd=copy, env=env, capture_output=True
+        ).returncode == 0 and not any(
+            faces.has_fault(
+                face, runner(cargo, copy, face, CARGO_TARGET_DIR=target), "rows"
+            )
+            for face in FACES
+        )
 
     assert passes()
     survived = []

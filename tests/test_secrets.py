@@ -32,10 +32,22 @@ def left_on_the_stack(machine, archive):
 
 def reports(command, lengths, *options):
     """The reports of memcheck in each call, by the lines of secrets.c. It runs keys of up to this many bytes. No report
-    is taken for one of the caller of its function, as some are if memcheck follows a call."""
-    said = run(*command, "-q", "--vex-guest-chase=no", "--error-limit=no", "--log-file=valgrind.log", *options,
-               "./secrets", lengths)
-    return [(call, int(words.split()[0])) for call, _, words in (line.partition(": ") for line in said.splitlines())]
+    is taken for one of the caller of its function, as some are if memcheck follows a call.
+    """
+    said = run(
+        *command,
+        "-q",
+        "--vex-guest-chase=no",
+        "--error-limit=no",
+        "--log-file=valgrind.log",
+        *options,
+        "./secrets",
+        lengths,
+    )
+    return [
+        (call, int(words.split()[0]))
+        for call, _, words in (line.partition(": ") for line in said.splitlines())
+    ]
 
 
 @pytest.fixture(params=["here", pytest.param("aarch64", marks=evidence)])
@@ -57,21 +69,37 @@ def archive(machine, built, request):
 
 def test_stack(machine, archive):
     """The bytes that depend on the KEK, the new KEK and the key, and copies of half a secret: at most as many as
-    SECURITY.md says, after a failed check, after a padded wrap of 8 bytes, and after a KEK is kept."""
+    SECURITY.md says, after a failed check, after a padded wrap of 8 bytes, and after a KEK is kept.
+    """
     for words in left_on_the_stack(machine, archive):
-        done = {"kek_init": (4, 0, 0, 0), "wrap_padded,8": (16, 0, 16, 0), "wrap_padded_in_place,8": (16, 0, 16, 0)}
-        most = (8, 0, 8, 0) if words[1] == "integrity" else done.get(words[0], (0, 0, 1, 0))
+        done = {
+            "kek_init": (4, 0, 0, 0),
+            "wrap_padded,8": (16, 0, 16, 0),
+            "wrap_padded_in_place,8": (16, 0, 16, 0),
+        }
+        most = (
+            (8, 0, 8, 0)
+            if words[1] == "integrity"
+            else done.get(words[0], (0, 0, 1, 0))
+        )
         assert all(int(count) <= limit for count, limit in zip(words[3:7], most)), words
 
 
 @pytest.mark.parametrize("longest", LONGEST)
 def test_branches_and_addresses(machine, archive, longest):
-    need("<valgrind/memcheck.h>", *[] if pathlib.Path(machine.memcheck[-1]).is_file() else ["valgrind"])
+    need(
+        "<valgrind/memcheck.h>",
+        *[] if pathlib.Path(machine.memcheck[-1]).is_file() else ["valgrind"],
+    )
     run(machine.cc, *OPTIONS, *SOURCES, archive, "-o", "secrets")
     longest = longest if machine is MACHINES["here"] else LONGEST_UNDER_QEMU
     # With no suppression. That memcheck looks is seen at the decision, and at an AES by look-ups in tables.
     found = reports(machine.memcheck, longest)
-    for begin, least, most in ("keywrap_wrap", 0, 0), ("keywrap_unwrap", 1, 10 ** 7), ("tables", 10 ** 4, 10 ** 7):
+    for begin, least, most in (
+        ("keywrap_wrap", 0, 0),
+        ("keywrap_unwrap", 1, 10**7),
+        ("tables", 10**4, 10**7),
+    ):
         counts = [count for call, count in found if call.startswith(begin)]
         assert counts and all(least <= count <= most for count in counts), found
     # Without the decision, which a rewrap and keywrap_kind make at the same place.

@@ -14,12 +14,24 @@ from program import all_of
 HERE = pathlib.Path(__file__).resolve().parent
 
 
-@pytest.mark.parametrize("name", all_of(
-    sorted(path.stem for path in HERE.glob("*.sh")), ["fresh", "launcher", "shells"]))
+@pytest.mark.parametrize(
+    "name",
+    all_of(
+        sorted(path.stem for path in HERE.glob("*.sh")), ["fresh", "launcher", "shells"]
+    ),
+)
 def test_rows(name, pytestconfig, record_property):
-    env = {key: value for key, value in os.environ.items() if not key.startswith("PYTEST_")}
-    ended = subprocess.run(["bash", HERE / f"{name}.sh"], stdin=subprocess.DEVNULL, stdout=subprocess.PIPE, text=True,
-                           stderr=subprocess.STDOUT, env={**env, "KEYWRAP": str(pytestconfig.program)})
+    env = {
+        key: value for key, value in os.environ.items() if not key.startswith("PYTEST_")
+    }
+    ended = subprocess.run(
+        ["bash", HERE / f"{name}.sh"],
+        stdin=subprocess.DEVNULL,
+        stdout=subprocess.PIPE,
+        text=True,
+        stderr=subprocess.STDOUT,
+        env={**env, "KEYWRAP": str(pytestconfig.program)},
+    )
     passed, failed, reasons = counting.of_script(ended.stdout, ended.returncode)
     record_property("passed", passed)
     for reason in reasons:
@@ -34,15 +46,21 @@ def test_evidence():
     for name in "scripts", "tests":
         os.mkdir(name)
     shutil.copy(HERE.parent / "scripts/evidence.sh", "scripts")
-    pathlib.Path("tests/evidence.txt").write_text("bad | tried | false\ngood | tried | echo fine\n")
+    pathlib.Path("tests/evidence.txt").write_text(
+        "bad | tried | false\ngood | tried | echo fine\n"
+    )
     pathlib.Path("VERSION").write_text("1.9.0-dev\n")
 
     def evidence(*words):
-        ended = subprocess.run(["bash", "scripts/evidence.sh", *words], capture_output=True, text=True)
+        ended = subprocess.run(
+            ["bash", "scripts/evidence.sh", *words], capture_output=True, text=True
+        )
         return ended.returncode, ended.stdout.splitlines()
 
     pathlib.Path("tried").write_text("one\n")
-    assert evidence()[0] == 1 and pathlib.Path("docs/evidence/1.9.0/good").read_text().endswith("\nfine\n")
+    assert evidence()[0] == 1 and pathlib.Path(
+        "docs/evidence/1.9.0/good"
+    ).read_text().endswith("\nfine\n")
     assert evidence("--stale") == (0, ["bad"])
     pathlib.Path("tried").write_text("two\n")
     assert evidence("--stale") == (0, ["bad", "good"])
@@ -50,4 +68,9 @@ def test_evidence():
 
 def test_status_of_packages():
     """It is 1 if a tool is missing, here one that no package has."""
-    assert subprocess.run(["bash", HERE.parent / "scripts/packages.sh", "no such tool"]).returncode == 1
+    assert (
+        subprocess.run(
+            ["bash", HERE.parent / "scripts/packages.sh", "no such tool"]
+        ).returncode
+        == 1
+    )

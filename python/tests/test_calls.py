@@ -23,7 +23,11 @@ each_call = pytest.mark.parametrize("name", MANY)
 
 def test_self_test(monkeypatch):
     assert keywrap.self_test() is None
-    monkeypatch.setattr(keywrap, "_lib", types.SimpleNamespace(keywrap_self_test=lambda: 5, KEYWRAP_OK=0))
+    monkeypatch.setattr(
+        keywrap,
+        "_lib",
+        types.SimpleNamespace(keywrap_self_test=lambda: 5, KEYWRAP_OK=0),
+    )
     with pytest.raises(RuntimeError, match="self test failed"):
         keywrap.self_test()
 
@@ -35,14 +39,24 @@ def test_flags():
             with pytest.raises(ValueError, match="keep_form goes with neither"):
                 call(KEK, KEK, given, keep_form=True, **flag)
     assert keywrap.rewrap(KEK, KEK, PADDED_OF_7, True, True) == PADDED_OF_7
-    assert [keywrap.check(KEK, text) for text in (WRAPPED, PADDED_OF_7, bytes(24), b"")] == [*Kind, None, None]
-    assert keywrap.check_many(KEK, [b"", b""]) == keywrap.check_many(KEK, bytes(34), 17) == [None, None]
+    assert [
+        keywrap.check(KEK, text) for text in (WRAPPED, PADDED_OF_7, bytes(24), b"")
+    ] == [*Kind, None, None]
+    assert (
+        keywrap.check_many(KEK, [b"", b""])
+        == keywrap.check_many(KEK, bytes(34), 17)
+        == [None, None]
+    )
 
 
 def test_kek():
     """A `Kek` shows no bytes, and cannot be pickled. A copy of its bytes is a KEK. It is refused once it is closed."""
     with keywrap.Kek(bytearray(KEK)) as kek:
-        assert keywrap.pyca.aes_key_unwrap(kek, WRAPPED) == keywrap.unwrap(bytes(kek), WRAPPED) == KEK
+        assert (
+            keywrap.pyca.aes_key_unwrap(kek, WRAPPED)
+            == keywrap.unwrap(bytes(kek), WRAPPED)
+            == KEK
+        )
         assert f"{kek} {kek!r} {[kek]}" == "<keywrap.Kek> <keywrap.Kek> [<keywrap.Kek>]"
         for made_of in (copy.copy, copy.deepcopy, pickle.dumps):
             with pytest.raises(TypeError, match="a Kek cannot be pickled or copied"):
@@ -51,9 +65,15 @@ def test_kek():
     with pytest.raises(ZeroDivisionError), keywrap.Kek(KEK) as left:
         1 / 0
     assert not any(kek) and not any(left)
-    calls = (keywrap.wrap, kek, KEK), (keywrap.check, kek, bytearray()), (keywrap.rewrap, KEK, kek, WRAPPED)
+    calls = (
+        (keywrap.wrap, kek, KEK),
+        (keywrap.check, kek, bytearray()),
+        (keywrap.rewrap, KEK, kek, WRAPPED),
+    )
     for call, *given in (*calls, (keywrap.wrap_many, kek, [KEK])):
-        with pytest.raises(keywrap.BadKekLength, match="the KEK is closed, or 184 bytes long"):
+        with pytest.raises(
+            keywrap.BadKekLength, match="the KEK is closed, or 184 bytes long"
+        ):
             call(*given)
     with pytest.raises(keywrap.BadKekLength, match="the KEK is 15 bytes long"):
         keywrap.Kek(bytes(15))
@@ -62,7 +82,11 @@ def test_kek():
 def test_names():
     """`import *` gives all names without an underscore, except the modules that the package uses."""
     assert sorted(keywrap.__all__) == keywrap.__all__
-    own = [name for name, item in vars(keywrap).items() if getattr(item, "__module__", "") == "keywrap"]
+    own = [
+        name
+        for name, item in vars(keywrap).items()
+        if getattr(item, "__module__", "") == "keywrap"
+    ]
     assert [name for name in sorted(own) if name[0] != "_"] == keywrap.__all__
     assert (pathlib.Path(keywrap.__file__).parent / "py.typed").exists()
 
@@ -77,20 +101,39 @@ def test_the_statuses_of_slots():
     """`keywrap.rotate` goes by them."""
     texts = [keywrap.wrap(kek, KEK) for kek in (KEK, KEK[::-1], bytes(16))]
     slots, flags = bytearray(b"".join(texts)), keywrap._lib.KEYWRAP_PASS_NEW
-    assert list(_many.rewrap_slots(KEK, KEK[::-1], slots, 24, flags)) == [0, _many.ALREADY, 5] and _many.ALREADY == 1
+    assert (
+        list(_many.rewrap_slots(KEK, KEK[::-1], slots, 24, flags))
+        == [0, _many.ALREADY, 5]
+        and _many.ALREADY == 1
+    )
 
 
 @each_call
 def test_items(name):
     """They are what test_objects.py has for one key, from any iterable, or one object and a length that fits."""
     call, (keks, item) = getattr(keywrap, name), MANY[name]
-    for items in (map(bytearray, [item, item]), [Liar(item), memoryview(item).cast("Q")], iter((item, item))):
+    for items in (
+        map(bytearray, [item, item]),
+        [Liar(item), memoryview(item).cast("Q")],
+        iter((item, item)),
+    ):
         assert call(*keks, items) == call(*keks, item + item, len(item))
-    for wrong in (None, 7, "text", item, [7], [None, item], memoryview(item + item).cast("B", [2, len(item)])):
+    for wrong in (
+        None,
+        7,
+        "text",
+        item,
+        [7],
+        [None, item],
+        memoryview(item + item).cast("B", [2, len(item)]),
+    ):
         with pytest.raises(TypeError):
             call(*keks, wrong)
     for length in (-1, 0, 5, len(item) + 1):
-        with pytest.raises(keywrap.BadLength, match=f"bad length: {3 * len(item)} bytes are not items of {length} bytes"):
+        with pytest.raises(
+            keywrap.BadLength,
+            match=f"bad length: {3 * len(item)} bytes are not items of {length} bytes",
+        ):
             call(*keks, item * 3, length)
     assert call(*keks, []) == call(*keks, b"", 16) == []
 
@@ -100,8 +143,14 @@ def test_items(name):
 def test_keys_in_buffers_are_wiped(monkeypatch, name, item):
     """Also if the call is refused, or the lengths differ."""
     made, wipe = [], _many._Slots.wipe
-    monkeypatch.setattr(_many._Slots, "wipe", lambda slots: made.append(slots.buffer) or wipe(slots))
-    for kek, items in ((KEK, [item] * 3), (KEK[1:], [item] * 3), (KEK, [item, item[1:]])):
+    monkeypatch.setattr(
+        _many._Slots, "wipe", lambda slots: made.append(slots.buffer) or wipe(slots)
+    )
+    for kek, items in (
+        (KEK, [item] * 3),
+        (KEK[1:], [item] * 3),
+        (KEK, [item, item[1:]]),
+    ):
         with contextlib.suppress(keywrap.KeywrapError):
             getattr(keywrap, name)(kek, items, padded=len(item) == 9)
     assert [len(buffer) >= 2 * len(item) - 1 for buffer in made] == [True] * 3

@@ -69,19 +69,57 @@ CALLS = [
     (pyca.aes_key_unwrap_with_padding, (KEK, keywrap.wrap_padded(KEK, KEY)), KEY),
 ]
 # The same without a KEK.
-BY_STEPS = [(functools.partial(call, swapped), (given,), call(swapped, given)) for call, given in (
-    (steps.wrap, KEY), (steps.wrap_padded, KEY), (steps.unwrap, steps.wrap(swapped, KEY)),
-    (steps.unwrap_padded, steps.wrap_padded(swapped, KEY)))]
+BY_STEPS = [
+    (functools.partial(call, swapped), (given,), call(swapped, given))
+    for call, given in (
+        (steps.wrap, KEY),
+        (steps.wrap_padded, KEY),
+        (steps.unwrap, steps.wrap(swapped, KEY)),
+        (steps.unwrap_padded, steps.wrap_padded(swapped, KEY)),
+    )
+]
 # Of many keys, with an item and with all items in one object.
 MANY = [
-    (lambda kek, key: keywrap.wrap_many(kek, [KEY, key]), (KEK, KEY), [WRAPPED, WRAPPED]),
-    (lambda kek, keys: keywrap.wrap_many(kek, keys, 16), (KEK, KEY + KEY), [WRAPPED, WRAPPED]),
-    (lambda kek, text: keywrap.unwrap_many(kek, [WRAPPED, text]), (KEK, WRAPPED), [KEY, KEY]),
-    (lambda kek, texts: keywrap.unwrap_many(kek, texts, 24), (KEK, WRAPPED + WRAPPED), [KEY, KEY]),
-    (lambda kek, new, text: keywrap.rewrap_many(kek, new, [text]), (KEK, KEK, WRAPPED), [WRAPPED]),
-    (lambda kek, new, text: keywrap.rewrap_many(kek, new, text, 24), (KEK, KEK, WRAPPED), [WRAPPED]),
-    (lambda kek, text: keywrap.check_many(kek, [text]), (KEK, WRAPPED), [keywrap.Kind.PLAIN]),
-    (lambda kek, text: keywrap.check_many(kek, text, 24), (KEK, WRAPPED), [keywrap.Kind.PLAIN]),
+    (
+        lambda kek, key: keywrap.wrap_many(kek, [KEY, key]),
+        (KEK, KEY),
+        [WRAPPED, WRAPPED],
+    ),
+    (
+        lambda kek, keys: keywrap.wrap_many(kek, keys, 16),
+        (KEK, KEY + KEY),
+        [WRAPPED, WRAPPED],
+    ),
+    (
+        lambda kek, text: keywrap.unwrap_many(kek, [WRAPPED, text]),
+        (KEK, WRAPPED),
+        [KEY, KEY],
+    ),
+    (
+        lambda kek, texts: keywrap.unwrap_many(kek, texts, 24),
+        (KEK, WRAPPED + WRAPPED),
+        [KEY, KEY],
+    ),
+    (
+        lambda kek, new, text: keywrap.rewrap_many(kek, new, [text]),
+        (KEK, KEK, WRAPPED),
+        [WRAPPED],
+    ),
+    (
+        lambda kek, new, text: keywrap.rewrap_many(kek, new, text, 24),
+        (KEK, KEK, WRAPPED),
+        [WRAPPED],
+    ),
+    (
+        lambda kek, text: keywrap.check_many(kek, [text]),
+        (KEK, WRAPPED),
+        [keywrap.Kind.PLAIN],
+    ),
+    (
+        lambda kek, text: keywrap.check_many(kek, text, 24),
+        (KEK, WRAPPED),
+        [keywrap.Kind.PLAIN],
+    ),
 ]
 
 
@@ -104,7 +142,9 @@ TAKEN = {
     "an array": lambda item: array.array("B", item),
     "an array of words": lambda item: array.array("Q", item),
     "a view of words": lambda item: memoryview(array.array("H", item)),
-    "a view of two dimensions": lambda item: memoryview(item).cast("B", [2, len(item) // 2]),
+    "a view of two dimensions": lambda item: memoryview(item).cast(
+        "B", [2, len(item) // 2]
+    ),
 }
 
 
@@ -185,7 +225,9 @@ def test_pythons_own_bytes_stay():
     """Python shares its bytes objects of length 0 and 1."""
     for byte in range(256):
         one = bytearray([byte])
-        assert keywrap.unwrap_padded(KEK, keywrap.wrap_padded(KEK, one)) == bytes([byte])
+        assert keywrap.unwrap_padded(KEK, keywrap.wrap_padded(KEK, one)) == bytes(
+            [byte]
+        )
         with pytest.raises(keywrap.BadLength):
             keywrap.rewrap(KEK, KEK, one)
         assert bytes([byte])[0] == byte
@@ -195,17 +237,28 @@ def test_pythons_own_bytes_stay():
 def test_what_a_call_copies_is_wiped(monkeypatch):
     """Copies of objects that are not bytes, and a padded key with its padding, are wiped."""
     copied, wiped, copy, wipe = [], [], keywrap._copied, keywrap._wipe
-    monkeypatch.setattr(keywrap, "_copied", lambda given: copied.append(copy(given)) or copied[-1])
-    monkeypatch.setattr(keywrap, "_wipe", lambda made, length: wiped.append(made) or wipe(made, length))
+    monkeypatch.setattr(
+        keywrap, "_copied", lambda given: copied.append(copy(given)) or copied[-1]
+    )
+    monkeypatch.setattr(
+        keywrap, "_wipe", lambda made, length: wiped.append(made) or wipe(made, length)
+    )
     for call, given, answer in CALLS:
         copied.clear()
         assert call(*map(bytearray, given)) == answer
         with pytest.raises(keywrap.BadKekLength):
             call(bytearray(15), *map(bytearray, given[1:]))
-        assert len(copied) == 2 * len(given) and all(item == bytes(len(item)) for item in copied)
+        assert len(copied) == 2 * len(given) and all(
+            item == bytes(len(item)) for item in copied
+        )
     wiped.clear()
-    assert keywrap.unwrap_padded(KEK, keywrap.wrap_padded(KEK, b"seven..")) == b"seven.."
-    assert keywrap.unwrap_any(KEK, keywrap.wrap_padded(KEK, b"nine byte"))[0] == b"nine byte"
+    assert (
+        keywrap.unwrap_padded(KEK, keywrap.wrap_padded(KEK, b"seven..")) == b"seven.."
+    )
+    assert (
+        keywrap.unwrap_any(KEK, keywrap.wrap_padded(KEK, b"nine byte"))[0]
+        == b"nine byte"
+    )
     assert wiped == [bytes(8), bytes(16)]
 
 
@@ -218,7 +271,10 @@ def test_eight_threads():
         for turn in range(300):
             key = bytes([number, turn % 256]) * (8 + turn % 50 * 4)
             wrapped = keywrap.wrap(kek, bytearray(key))
-            if keywrap.unwrap(bytearray(kek), wrapped) != key or keywrap.check(kek, wrapped) is None:
+            if (
+                keywrap.unwrap(bytearray(kek), wrapped) != key
+                or keywrap.check(kek, wrapped) is None
+            ):
                 wrong.append(number)
 
     threads = [threading.Thread(target=work, args=[number]) for number in range(8)]
@@ -267,7 +323,11 @@ def resident():
 
 def test_many_calls_take_no_memory():
     """A million calls, or KEYWRAP_CALLS."""
-    padded, damaged, view = keywrap.wrap_padded(KEK, b"seven.."), bytes(24), memoryview(WRAPPED)
+    padded, damaged, view = (
+        keywrap.wrap_padded(KEK, b"seven.."),
+        bytes(24),
+        memoryview(WRAPPED),
+    )
 
     def calls(count):
         for _ in range(count):

@@ -9,7 +9,8 @@ import pytest
 from keywrap import pyca as ours
 
 theirs = pytest.importorskip(
-    "cryptography.hazmat.primitives.keywrap", reason="no cryptography (apt-get install python3-cryptography)"
+    "cryptography.hazmat.primitives.keywrap",
+    reason="no cryptography (apt-get install python3-cryptography)",
 )
 
 CALLS = [name for name in ours.__all__ if name.startswith("aes_")]
@@ -53,7 +54,9 @@ def test_kek_lengths_and_lengths(name):
         for length in range(0, 73):
             given = rng.randbytes(length)
             if not is_ours_alone(name, given):
-                assert ended(ours, name, kek, given) == ended(theirs, name, kek, given), (kek_length, length)
+                assert ended(ours, name, kek, given) == ended(
+                    theirs, name, kek, given
+                ), (kek_length, length)
 
 
 @pytest.mark.parametrize("name", CALLS)
@@ -68,7 +71,10 @@ def test_messages_contain_theirs(name):
                 refused.add(words)
                 assert words in said(ours, name, *given), (kek_length, length)
     # A wrapping key's length, and of the plain form two lengths of key, of the padded one of a wrapped key.
-    assert len(refused - {""}) == {"aes_key_wrap_with_padding": 1, "aes_key_unwrap_with_padding": 2}.get(name, 3)
+    assert len(refused - {""}) == {
+        "aes_key_wrap_with_padding": 1,
+        "aes_key_unwrap_with_padding": 2,
+    }.get(name, 3)
 
 
 def test_what_ours_alone_refuses():
@@ -78,7 +84,10 @@ def test_what_ours_alone_refuses():
     assert ended(ours, "aes_key_wrap", kek, bytes(1048584)) == "ValueError"
     assert ended(ours, "aes_key_wrap_with_padding", kek, bytes(1048577)) == "ValueError"
     assert ended(ours, "aes_key_unwrap", kek, bytes(1048592)) == "InvalidUnwrap"
-    assert ended(ours, "aes_key_unwrap_with_padding", kek, bytes(1048592)) == "InvalidUnwrap"
+    assert (
+        ended(ours, "aes_key_unwrap_with_padding", kek, bytes(1048592))
+        == "InvalidUnwrap"
+    )
 
 
 @pytest.mark.parametrize("padded", ["", "_with_padding"])
@@ -90,7 +99,11 @@ def test_random_keys_and_damaged_ones(padded):
         key = rng.randbytes(length if padded else 8 + (length + 7) // 8 * 8)
         wrapped = ended(ours, wrap, kek, key)
         assert wrapped == ended(theirs, wrap, kek, key)
-        assert ended(ours, unwrap, kek, wrapped) == key == ended(theirs, unwrap, kek, wrapped)
+        assert (
+            ended(ours, unwrap, kek, wrapped)
+            == key
+            == ended(theirs, unwrap, kek, wrapped)
+        )
         damaged = bytearray(wrapped)
         damaged[rng.randrange(len(wrapped))] ^= 1 << rng.randrange(8)
         for other in (bytes(damaged), wrapped[8:], wrapped + bytes(8)):
@@ -108,7 +121,10 @@ def test_one_exception():
             pyca.aes_key_unwrap(bytes(16), bytes(24))
         except pyca.InvalidUnwrap as error:
             print(type(error).__module__)"""
-    assert subprocess.check_output([sys.executable, "-c", code], text=True) == "keywrap.pyca\n"
+    assert (
+        subprocess.check_output([sys.executable, "-c", code], text=True)
+        == "keywrap.pyca\n"
+    )
 
 
 @pytest.mark.parametrize("name", CALLS)
@@ -117,5 +133,8 @@ def test_takes_the_backend_and_names(name):
     wrap = name.replace("unwrap", "wrap")
     given = getattr(ours, wrap)(bytes(16), bytes(16)) if "unwrap" in name else bytes(16)
     answer = getattr(theirs, name)(bytes(16), given)
-    assert getattr(ours, name)(wrapping_key=bytes(16), **{what: given}, backend=None) == answer
+    assert (
+        getattr(ours, name)(wrapping_key=bytes(16), **{what: given}, backend=None)
+        == answer
+    )
     assert getattr(ours, name)(bytes(16), given, object()) == answer

@@ -10,7 +10,8 @@ import pytest
 from keywrap import pyca as ours
 
 theirs = pytest.importorskip(
-    "cryptography.hazmat.primitives.keywrap", reason="no cryptography (apt-get install python3-cryptography)"
+    "cryptography.hazmat.primitives.keywrap",
+    reason="no cryptography (apt-get install python3-cryptography)",
 )
 
 CALLS = [name for name in ours.__all__ if name.startswith("aes_")]
@@ -38,11 +39,15 @@ def calls(monkeypatch):
 
 
 def jwcrypto():
-    jwk = pytest.importorskip("jwcrypto.jwk", reason="no jwcrypto (apt-get install python3-jwcrypto)")
+    jwk = pytest.importorskip(
+        "jwcrypto.jwk", reason="no jwcrypto (apt-get install python3-jwcrypto)"
+    )
     from jwcrypto import jwe
 
     key = jwk.JWK.generate(kty="oct", size=256)
-    token = jwe.JWE(b"a message", '{"alg": "A256KW", "enc": "A256GCM"}', recipient=key).serialize(compact=True)
+    token = jwe.JWE(
+        b"a message", '{"alg": "A256KW", "enc": "A256GCM"}', recipient=key
+    ).serialize(compact=True)
     yield
     read = jwe.JWE()
     read.deserialize(token, key)
@@ -50,16 +55,24 @@ def jwcrypto():
 
 
 def jose():
-    jwe = pytest.importorskip("jose.jwe", reason="no python-jose (apt-get install python3-jose)")
-    token = jwe.encrypt(b"a message", bytes(range(32)), algorithm="A256KW", encryption="A256GCM")
+    jwe = pytest.importorskip(
+        "jose.jwe", reason="no python-jose (apt-get install python3-jose)"
+    )
+    token = jwe.encrypt(
+        b"a message", bytes(range(32)), algorithm="A256KW", encryption="A256GCM"
+    )
     yield
     assert jwe.decrypt(token, bytes(range(32))) == b"a message"
 
 
 def authlib():
-    jose = pytest.importorskip("authlib.jose", reason="no Authlib (apt-get install python3-authlib)")
+    jose = pytest.importorskip(
+        "authlib.jose", reason="no Authlib (apt-get install python3-authlib)"
+    )
     jwe = jose.JsonWebEncryption()
-    token = jwe.serialize_compact({"alg": "A256KW", "enc": "A256GCM"}, b"a message", bytes(range(32)))
+    token = jwe.serialize_compact(
+        {"alg": "A256KW", "enc": "A256GCM"}, b"a message", bytes(range(32))
+    )
     yield
     assert jwe.deserialize_compact(token, bytes(range(32)))["payload"] == b"a message"
 
@@ -68,11 +81,19 @@ def pgpy():
     pgp = pytest.importorskip("pgpy", reason="no PGPy (apt-get install python3-pgpy)")
     from pgpy import constants
 
-    key = pgp.PGPKey.new(constants.PubKeyAlgorithm.ECDSA, constants.EllipticCurveOID.NIST_P256)
+    key = pgp.PGPKey.new(
+        constants.PubKeyAlgorithm.ECDSA, constants.EllipticCurveOID.NIST_P256
+    )
     ciphers = [constants.SymmetricKeyAlgorithm.AES256]
-    key.add_uid(pgp.PGPUID.new("reader"), usage={constants.KeyFlags.Sign}, hashes=[constants.HashAlgorithm.SHA256],
-                ciphers=ciphers)
-    part = pgp.PGPKey.new(constants.PubKeyAlgorithm.ECDH, constants.EllipticCurveOID.NIST_P256)
+    key.add_uid(
+        pgp.PGPUID.new("reader"),
+        usage={constants.KeyFlags.Sign},
+        hashes=[constants.HashAlgorithm.SHA256],
+        ciphers=ciphers,
+    )
+    part = pgp.PGPKey.new(
+        constants.PubKeyAlgorithm.ECDH, constants.EllipticCurveOID.NIST_P256
+    )
     key.add_subkey(part, usage={constants.KeyFlags.EncryptCommunications})
     message = key.pubkey.encrypt(pgp.PGPMessage.new("a message"), cipher=ciphers[0])
     yield
@@ -119,7 +140,9 @@ def test_names(importer, calls):
     """The names in pyca's module and in others, and back; the second call of either changes nothing."""
     for _ in range(2):
         assert importer.of_pyca is theirs.aes_key_wrap is not PYCAS["aes_key_wrap"]
-        assert importer.of_pyca(bytes(16), bytes(16)) == PYCAS["aes_key_wrap"](bytes(16), bytes(16))
+        assert importer.of_pyca(bytes(16), bytes(16)) == PYCAS["aes_key_wrap"](
+            bytes(16), bytes(16)
+        )
         ours.install()
     assert calls == ["wrap", "wrap"]
     later = types.ModuleType("later")
@@ -127,7 +150,10 @@ def test_names(importer, calls):
     sys.modules["later"] = later
     for _ in range(2):
         ours.uninstall()
-        assert importer.of_pyca is PYCAS["aes_key_wrap"] and importer.of_ours is OURS["aes_key_wrap"]
+        assert (
+            importer.of_pyca is PYCAS["aes_key_wrap"]
+            and importer.of_ours is OURS["aes_key_wrap"]
+        )
         assert {name: getattr(theirs, name) for name in CALLS} == PYCAS
         assert {name: getattr(ours, name) for name in CALLS} == OURS
         assert later.call is PYCAS["aes_key_unwrap"]
@@ -141,7 +167,11 @@ def test_other_code_in_the_place_of_pycas(calls):
     sys.modules["importer"] = module
     try:
         ours.install()
-        assert theirs.aes_key_wrap(bytes(16), bytes(16)) == module.call(bytes(16), bytes(16)) != b"other"
+        assert (
+            theirs.aes_key_wrap(bytes(16), bytes(16))
+            == module.call(bytes(16), bytes(16))
+            != b"other"
+        )
         assert calls == ["wrap", "wrap"]
         ours.uninstall()
         assert theirs.aes_key_wrap is module.call is other
@@ -166,7 +196,9 @@ def test_functions_look_like_pycas(calls):
         function = getattr(theirs, name)
         assert (function.__name__, function.__module__) == (name, "keywrap.pyca")
         assert function.__code__.co_varnames[:3] == PYCAS[name].__code__.co_varnames[:3]
-        with pytest.raises(ours.InvalidUnwrap) if "unwrap" in name else pytest.raises(ValueError):
+        with pytest.raises(ours.InvalidUnwrap) if "unwrap" in name else pytest.raises(
+            ValueError
+        ):
             function(bytes(16), b"", backend=None)
 
 

@@ -44,7 +44,9 @@ class Token:
 def call_of(padded, direction):
     """The call for one key, with the callable of the token for it."""
     name = direction + ("_padded" if padded else "")
-    return lambda token, text: getattr(steps, name)(getattr(token, CIPHERS[direction]), text)
+    return lambda token, text: getattr(steps, name)(
+        getattr(token, CIPHERS[direction]), text
+    )
 
 
 CIPHERS = {"wrap": "encrypt", "unwrap": "decrypt"}
@@ -55,7 +57,9 @@ CIPHERS = {"wrap": "encrypt", "unwrap": "decrypt"}
 def test_each_length(padded, kek_len):
     """The result of OpenSSL, and exactly 6 calls for each 8 bytes, or 1 for up to 8."""
     token = Token(bytes(range(kek_len)))
-    for length in [*range(1, 50), 256, 4096] if padded else [*range(16, 88, 8), 256, 4096]:
+    for length in (
+        [*range(1, 50), 256, 4096] if padded else [*range(16, 88, 8), 256, 4096]
+    ):
         key = bytes(at % 251 for at in range(length))
         wrapped = WRAPS[padded](bytes(range(kek_len)), key)
         words = -(-length // 8)
@@ -67,13 +71,25 @@ def test_each_length(padded, kek_len):
             assert token.counted() == due
 
 
-@pytest.mark.parametrize("call, text, more, refusal", [
-    (steps.wrap, bytes(15), {}, keywrap.BadLength), (steps.wrap_padded, b"", {}, keywrap.BadLength),
-    (steps.unwrap, bytes(16), {}, keywrap.BadLength), (steps.unwrap_padded, bytes(17), {}, keywrap.BadLength),
-    (steps.wrap, bytes(16), {"iv": IV[1:]}, keywrap.BadInitialValue),
-    (steps.unwrap, bytes(24), {"iv": bytes.fromhex("a65959a600000010")}, keywrap.BadInitialValue),
-    (steps.wrap_many, [bytes(15)], {}, keywrap.BadLength), (steps.unwrap_many, [bytes(17)], {}, keywrap.BadLength),
-    (steps.wrap_many, ["0123456789abcdef"], {}, TypeError)])
+@pytest.mark.parametrize(
+    "call, text, more, refusal",
+    [
+        (steps.wrap, bytes(15), {}, keywrap.BadLength),
+        (steps.wrap_padded, b"", {}, keywrap.BadLength),
+        (steps.unwrap, bytes(16), {}, keywrap.BadLength),
+        (steps.unwrap_padded, bytes(17), {}, keywrap.BadLength),
+        (steps.wrap, bytes(16), {"iv": IV[1:]}, keywrap.BadInitialValue),
+        (
+            steps.unwrap,
+            bytes(24),
+            {"iv": bytes.fromhex("a65959a600000010")},
+            keywrap.BadInitialValue,
+        ),
+        (steps.wrap_many, [bytes(15)], {}, keywrap.BadLength),
+        (steps.unwrap_many, [bytes(17)], {}, keywrap.BadLength),
+        (steps.wrap_many, ["0123456789abcdef"], {}, TypeError),
+    ],
+)
 def test_refused_without_a_call(call, text, more, refusal):
     with pytest.raises(refusal):
         call(pytest.fail, text, **more)
@@ -89,7 +105,11 @@ def wiped(monkeypatch):
             return getattr(keywrap._lib, name)
 
         def wipe(self, buffer, length):
-            view = keywrap._ffi.ffi.from_buffer(buffer) if type(buffer) is bytes else buffer
+            view = (
+                keywrap._ffi.ffi.from_buffer(buffer)
+                if type(buffer) is bytes
+                else buffer
+            )
             before = bytes(keywrap._ffi.ffi.buffer(view, length))
             keywrap._lib.wipe(buffer, length)
             found.append((before, bytes(keywrap._ffi.ffi.buffer(view, length))))
@@ -113,12 +133,18 @@ def test_no_key_after_a_failed_check(padded, wiped):
     wrapped = bytearray(WRAPS[padded](KEK, key))
     wrapped[-1] ^= 1
     token = Token()
-    with pytest.raises(keywrap.IntegrityFailed, match="integrity check failed: no wrapped key under this KEK"):
+    with pytest.raises(
+        keywrap.IntegrityFailed,
+        match="integrity check failed: no wrapped key under this KEK",
+    ):
         call_of(padded, "unwrap")(token, bytes(wrapped))
     assert len(token.counted()) == 30
     buffers = [before for before, _ in wiped]
     assert sorted(map(len, buffers)) == [16, len(wrapped) + 8]
-    assert not any(any(before[8:48]) for before in buffers if len(before) > 16) and bytes(16) in buffers
+    assert (
+        not any(any(before[8:48]) for before in buffers if len(before) > 16)
+        and bytes(16) in buffers
+    )
     # The fixture would see a key: after a good unwrap it is there.
     wiped.clear()
     assert call_of(padded, "unwrap")(token, WRAPS[padded](KEK, key)) == key
@@ -174,6 +200,7 @@ def test_a_callable_that_fails(callable, error, direction, many, wiped):
     cipher = getattr(token, CIPHERS[direction])
     call = getattr(steps, f"{direction}_many" if many else direction)
     for at in range(12):
+
         def failing(blocks, at=at):
             return callable(blocks) if len(token.calls) == at else cipher(blocks)
 
@@ -182,8 +209,15 @@ def test_a_callable_that_fails(callable, error, direction, many, wiped):
         if error is ValueError:
             assert str(16 * (1 + many)) in str(raised.value)
         assert len(token.counted()) == at
-        assert sorted(len(before) for before, _ in wiped)[:1] == [16 * (1 + many)] and len(wiped) == 2
-        assert are_cleared(wiped, key) if direction == "wrap" and at == 0 else are_cleared(wiped, b"")
+        assert (
+            sorted(len(before) for before, _ in wiped)[:1] == [16 * (1 + many)]
+            and len(wiped) == 2
+        )
+        assert (
+            are_cleared(wiped, key)
+            if direction == "wrap" and at == 0
+            else are_cleared(wiped, b"")
+        )
         wiped.clear()
 
 
@@ -192,10 +226,15 @@ class Liar(bytes):
         return 4096
 
 
-@pytest.mark.parametrize("kind", [bytes, bytearray, memoryview, Liar, lambda answer: memoryview(answer).cast("I")])
+@pytest.mark.parametrize(
+    "kind",
+    [bytes, bytearray, memoryview, Liar, lambda answer: memoryview(answer).cast("I")],
+)
 def test_a_result_of_another_type(kind):
     token = Token()
-    assert steps.wrap(lambda blocks: kind(token.encrypt(blocks)), bytes(16)) == pyca.aes_key_wrap(KEK, bytes(16))
+    assert steps.wrap(
+        lambda blocks: kind(token.encrypt(blocks)), bytes(16)
+    ) == pyca.aes_key_wrap(KEK, bytes(16))
 
 
 @each_form
@@ -204,10 +243,17 @@ def test_many(padded, count):
     """Each of the keys as OpenSSL wraps it, and as many calls as for one key, each with a block of each key."""
     token = Token()
     for length in [1, 8, 9, 16, 31, 40] if padded else [16, 24, 40]:
-        keys = [bytes((at + 7 * byte) % 256 for byte in range(length)) for at in range(count)]
+        keys = [
+            bytes((at + 7 * byte) % 256 for byte in range(length))
+            for at in range(count)
+        ]
         wrapped = [WRAPS[padded](KEK, key) for key in keys]
         due = [count] * (6 * -(-length // 8) if length > 8 else 1)
-        for given, each in (keys, None), (b"".join(keys), length), (map(bytearray, keys), None):
+        for given, each in (
+            (keys, None),
+            (b"".join(keys), length),
+            (map(bytearray, keys), None),
+        ):
             assert steps.wrap_many(token.encrypt, given, each, padded=padded) == wrapped
             assert token.counted() == due
         for given, each in (wrapped, None), (b"".join(wrapped), len(wrapped[0])):
@@ -217,7 +263,9 @@ def test_many(padded, count):
         assert call(pytest.fail, []) == call(pytest.fail, b"", 24) == []
 
 
-@pytest.mark.parametrize("call", [steps.wrap, steps.unwrap, steps.wrap_padded, steps.unwrap_padded])
+@pytest.mark.parametrize(
+    "call", [steps.wrap, steps.unwrap, steps.wrap_padded, steps.unwrap_padded]
+)
 @pytest.mark.parametrize("text", ["0123456789abcdef" * 2, None, 24])
 def test_no_bytes(call, text):
     with pytest.raises(TypeError, match="a contiguous bytes-like object is required"):
@@ -226,7 +274,9 @@ def test_no_bytes(call, text):
 
 def test_no_initial_value():
     for call, text in (steps.wrap, bytes(16)), (steps.unwrap, bytes(24)):
-        with pytest.raises(TypeError, match="a contiguous bytes-like object is required, not 'str'"):
+        with pytest.raises(
+            TypeError, match="a contiguous bytes-like object is required, not 'str'"
+        ):
             call(pytest.fail, text, "01234567")
 
 
@@ -235,14 +285,18 @@ def test_a_step_that_is_refused(monkeypatch):
     token = Token()
 
     class Lib:
-        step_wrap_each = step_unwrap_each = staticmethod(lambda *given: keywrap._lib.KEYWRAP_BAD_LENGTH)
+        step_wrap_each = step_unwrap_each = staticmethod(
+            lambda *given: keywrap._lib.KEYWRAP_BAD_LENGTH
+        )
 
         def __getattr__(self, name):
             return getattr(keywrap._lib, name)
 
     monkeypatch.setattr(steps, "_lib", Lib())
     for call, text in (functools.partial(steps.wrap, token.encrypt), bytes(16)), (
-        functools.partial(steps.unwrap, token.decrypt), bytes(24)):
+        functools.partial(steps.unwrap, token.decrypt),
+        bytes(24),
+    ):
         with pytest.raises(RuntimeError, match="a step was refused"):
             call(text)
         assert token.counted() == [1]
@@ -250,6 +304,7 @@ def test_a_step_that_is_refused(monkeypatch):
 
 def test_rewrap_with_a_callable_that_fails(wiped):
     """It passes through, after the buffers are wiped, and the caller's text is as it was."""
+
     def fails(blocks):
         raise OSError("no token")
 
@@ -257,6 +312,10 @@ def test_rewrap_with_a_callable_that_fails(wiped):
     for ciphers_of in (fails, Token(bytes(24)).encrypt), (Token().decrypt, fails):
         with pytest.raises(OSError, match="no token"):
             steps.rewrap(*ciphers_of, text)
-        assert sorted(len(before) for before, _ in wiped) == [16, 24, 24] and are_cleared(wiped, b"")
+        assert sorted(len(before) for before, _ in wiped) == [
+            16,
+            24,
+            24,
+        ] and are_cleared(wiped, b"")
         wiped.clear()
     assert text == pyca.aes_key_wrap(KEK, bytes(16))

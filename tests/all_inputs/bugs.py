@@ -20,22 +20,41 @@ import lists  # noqa: E402
 import wasm  # noqa: E402
 from terms import Refused  # noqa: E402
 
-ROWS = [[part.strip() for part in line.split(" | ")] for line in (HERE / "bugs.txt").read_text().splitlines()
-        if line.strip() and not line.startswith("#")]
+ROWS = [
+    [part.strip() for part in line.split(" | ")]
+    for line in (HERE / "bugs.txt").read_text().splitlines()
+    if line.strip() and not line.startswith("#")
+]
 BUGS = {name: what for name, *what in ROWS}
-FUNCTION = re.compile(r"  \(func \(;(\d+);\)((?:.*\n)*?)(?=  \((?:func|table|memory|global|export) )")
+FUNCTION = re.compile(
+    r"  \(func \(;(\d+);\)((?:.*\n)*?)(?=  \((?:func|table|memory|global|export) )"
+)
 
 
 class Text:
     """The text of a module. Each function is one line of instructions."""
 
     def __init__(self, file):
-        self.text = subprocess.run(["wasm2wat", file], capture_output=True, text=True, check=True).stdout
-        self.functions = {int(number): re.sub(r"\s+", " ", re.sub(r";; label = @\d+|\(;@\d+;\)", "", body)).strip()
-                          for number, body in FUNCTION.findall(self.text)}
-        self.exports = {name: int(number) for name, number in re.findall(r'\(export "(\w+)" \(func (\d+)\)', self.text)}
-        self.aes, = [number for number, body in self.functions.items() if "i32.const 14 i32.shr_u" in body
-                     and self.reached("wrap") >= {number}]
+        self.text = subprocess.run(
+            ["wasm2wat", file], capture_output=True, text=True, check=True
+        ).stdout
+        self.functions = {
+            int(number): re.sub(
+                r"\s+", " ", re.sub(r";; label = @\d+|\(;@\d+;\)", "", body)
+            ).strip()
+            for number, body in FUNCTION.findall(self.text)
+        }
+        self.exports = {
+            name: int(number)
+            for name, number in re.findall(
+                r'\(export "(\w+)" \(func (\d+)\)', self.text
+            )
+        }
+        (self.aes,) = [
+            number
+            for number, body in self.functions.items()
+            if "i32.const 14 i32.shr_u" in body and self.reached("wrap") >= {number}
+        ]
 
     def reached(self, export):
         waiting, found = [self.exports[f"keywrap_{export}"]], set()
@@ -50,7 +69,9 @@ class Text:
         if not where.startswith("@"):
             return self.reached(where)
         # An export sets the guard, calls the function that computes it, and resets the guard.
-        called = re.findall(r"\bcall (\d+)", self.functions[self.exports[f"keywrap_{where[1:]}"]])
+        called = re.findall(
+            r"\bcall (\d+)", self.functions[self.exports[f"keywrap_{where[1:]}"]]
+        )
         return {max(map(int, called), key=lambda number: len(self.functions[number]))}
 
     def with_bug(self, where, old, new):
@@ -58,9 +79,13 @@ class Text:
         functions = dict(self.functions)
         for number in self.chosen(where):
             body = functions[number]
-            head = re.match(r"\(type \d+\)(?: \((?:param|result|local)[^)]*\))*", body)[0]
-            local = len(re.findall(r"\b[if]\d\d\b", re.sub(r"\(result[^)]*\)", "", head)))
-            code = body[len(head):]
+            head = re.match(r"\(type \d+\)(?: \((?:param|result|local)[^)]*\))*", body)[
+                0
+            ]
+            local = len(
+                re.findall(r"\b[if]\d\d\b", re.sub(r"\(result[^)]*\)", "", head))
+            )
+            code = body[len(head) :]
             if old == "ENTRY":
                 changed = f" {new}{code}"
             else:
@@ -70,7 +95,10 @@ class Text:
             functions[number] = head + changed.replace("NEW", str(local))
         if functions == self.functions:
             raise SystemExit(f"bugs.py: not found: {old}")
-        return FUNCTION.sub(lambda match: f"  (func (;{match[1]};) {functions[int(match[1])]}\n", self.text)
+        return FUNCTION.sub(
+            lambda match: f"  (func (;{match[1]};) {functions[int(match[1])]}\n",
+            self.text,
+        )
 
 
 def planted(file, name, directory):
@@ -81,7 +109,9 @@ def planted(file, name, directory):
         content, before = bytearray(pathlib.Path(file).read_bytes()), bytes.fromhex(old)
         if content.count(before) != 1:
             raise SystemExit(f"bugs.py: {content.count(before)} times: {old}")
-        for at, mask in enumerate(bytes.fromhex(new), content.index(before) + len(before)):
+        for at, mask in enumerate(
+            bytes.fromhex(new), content.index(before) + len(before)
+        ):
             content[at] ^= mask
         result.write_bytes(content)
     else:
@@ -109,7 +139,10 @@ def main(file, *names):
         with tempfile.TemporaryDirectory() as directory:
             reason = refused_by(planted(file, name, directory))
         missed += reason is None
-        print(f"{name}: {reason or 'NOT REFUSED'} ({time.time() - begun:.0f} s)", flush=True)
+        print(
+            f"{name}: {reason or 'NOT REFUSED'} ({time.time() - begun:.0f} s)",
+            flush=True,
+        )
     return int(missed > 0)
 
 

@@ -12,14 +12,42 @@ NO_LIBRARY = pathlib.Path(__file__).with_name("without_a_library")
 
 
 def main(output):
-    headers = "".join((ROOT / "dist" / name).read_text() for name in ("keywrap.h", "keywrap_steps.h"))
+    headers = "".join(
+        (ROOT / "dist" / name).read_text() for name in ("keywrap.h", "keywrap_steps.h")
+    )
     portable = headers.split("#ifndef KEYWRAP_PORTABLE\n/* The calls for many keys")[0]
-    calls = sorted(set(re.findall(r"^(?:u?int32_t|uint64_t|size_t|void) (keywrap_\w+)\(", portable, re.M)))
+    calls = sorted(
+        set(
+            re.findall(
+                r"^(?:u?int32_t|uint64_t|size_t|void) (keywrap_\w+)\(", portable, re.M
+            )
+        )
+    )
     # With -O2 an address depends on the outcome of a check, in rewrap_steps 16 24 16 10: the checker stops there.
-    subprocess.run(["clang", "--target=wasm32", "-Os", "-mbulk-memory", "-mmutable-globals", "-ffreestanding",
-                    "-nostdlib", "-w", f"-I{NO_LIBRARY}", "-DKEYWRAP_TRAP()=__builtin_trap()", "-Wl,--no-entry",
-                    *(f"-Wl,--export={name}" for name in (*calls, "__heap_base", "__stack_pointer")),
-                    ROOT / "dist/keywrap.c", NO_LIBRARY / "memory.c", "-o", output], check=True)
+    subprocess.run(
+        [
+            "clang",
+            "--target=wasm32",
+            "-Os",
+            "-mbulk-memory",
+            "-mmutable-globals",
+            "-ffreestanding",
+            "-nostdlib",
+            "-w",
+            f"-I{NO_LIBRARY}",
+            "-DKEYWRAP_TRAP()=__builtin_trap()",
+            "-Wl,--no-entry",
+            *(
+                f"-Wl,--export={name}"
+                for name in (*calls, "__heap_base", "__stack_pointer")
+            ),
+            ROOT / "dist/keywrap.c",
+            NO_LIBRARY / "memory.c",
+            "-o",
+            output,
+        ],
+        check=True,
+    )
 
 
 if __name__ == "__main__":

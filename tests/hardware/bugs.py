@@ -22,23 +22,38 @@ CALLS = "tests/rows.c c/hardware/*.c proved.a"
 ROWS = "rows"
 # Each program, in this order: its sources and options, how it is run, and what is written if no fault is found.
 PROGRAMS = {
-    "chooses": ("tests/hardware/chosen.c c/hardware/aes.c c/hardware/x86_64.c",
-                "qemu-x86_64 -cpu max ./program && qemu-x86_64 -cpu Nehalem ./program", "instructions\nsoftware\n"),
-    "refuses_wrong_aes": ("tests/hardware/chosen.c tests/hardware/wrong_aes.c c/hardware/aes.c",
-                          "for place in {e,d,E,D,F,C}1{0,2,4}; do "
-                          "WRONG=$place qemu-x86_64 -cpu max ./program || exit; done",
-                          "software\n" * 18),
+    "chooses": (
+        "tests/hardware/chosen.c c/hardware/aes.c c/hardware/x86_64.c",
+        "qemu-x86_64 -cpu max ./program && qemu-x86_64 -cpu Nehalem ./program",
+        "instructions\nsoftware\n",
+    ),
+    "refuses_wrong_aes": (
+        "tests/hardware/chosen.c tests/hardware/wrong_aes.c c/hardware/aes.c",
+        "for place in {e,d,E,D,F,C}1{0,2,4}; do "
+        "WRONG=$place qemu-x86_64 -cpu max ./program || exit; done",
+        "software\n" * 18,
+    ),
     # The AES becomes wrong after its first use.
-    "tests_itself": ("tests/hardware/self_test.c tests/hardware/wrong_aes.c c/hardware/keywrap.c c/hardware/aes.c "
-                     "proved.a",
-                     "qemu-x86_64 -cpu max ./program", "0 5\n"),
+    "tests_itself": (
+        "tests/hardware/self_test.c tests/hardware/wrong_aes.c c/hardware/keywrap.c c/hardware/aes.c "
+        "proved.a",
+        "qemu-x86_64 -cpu max ./program",
+        "0 5\n",
+    ),
     "calls": (CALLS, ROWS, ""),
     # At most 16 bytes below the stack pointer depend on a secret: they are a block of the wrapped key. With -flto the
     # compiler sees that nothing reads what is cleared.
-    "clears": ("tests/secrets/stack.c c/hardware/*.c proved.a -flto -Wl,-z,now",
-               "set -o pipefail; ./program | awk 'NR > 1 && ($4 > 16 || $5 > 16 || $6 > 16)'", ""),
+    "clears": (
+        "tests/secrets/stack.c c/hardware/*.c proved.a -flto -Wl,-z,now",
+        "set -o pipefail; ./program | awk 'NR > 1 && ($4 > 16 || $5 > 16 || $6 > 16)'",
+        "",
+    ),
     # -Os aligns no variable beyond its type.
-    "sanitized": (CALLS + " -Os -g -fsanitize=undefined -fno-sanitize-recover=all", ROWS, ""),
+    "sanitized": (
+        CALLS + " -Os -g -fsanitize=undefined -fno-sanitize-recover=all",
+        ROWS,
+        "",
+    ),
     "addresses": (CALLS + " -g -fsanitize=address", ROWS, ""),
 }
 
@@ -46,9 +61,13 @@ PROGRAMS = {
 def bugs_of(suite):
     """The bugs of SUITE/bugs.txt: {name: (file, old text, new text)}. hardware/bugs.txt has the format."""
     bugs = {}
-    for bug in re.split("^(?=[^-+ #])", (ROOT / "tests" / suite / "bugs.txt").read_text(), flags=re.M)[1:]:
+    for bug in re.split(
+        "^(?=[^-+ #])", (ROOT / "tests" / suite / "bugs.txt").read_text(), flags=re.M
+    )[1:]:
         name, file = re.match("(.*): (.*)", bug).groups()
-        bugs[name] = file, *("\n".join(re.findall(f"^[{mark} ](.*)", bug, re.M)) for mark in "-+")
+        bugs[name] = file, *(
+            "\n".join(re.findall(f"^[{mark} ](.*)", bug, re.M)) for mark in "-+"
+        )
     return bugs
 
 
@@ -65,7 +84,9 @@ def has_fault(directory, command, wanted):
     """Whether the program in the directory finds one, or ends otherwise than it should."""
     if command == ROWS:
         return faces.has_fault("c", [f"{directory}/program"], "rows", "more")
-    ended = subprocess.run(["bash", "-c", command], cwd=directory, capture_output=True, text=True)
+    ended = subprocess.run(
+        ["bash", "-c", command], cwd=directory, capture_output=True, text=True
+    )
     return ended.returncode or not re.fullmatch(wanted, ended.stdout, re.S)
 
 
@@ -75,7 +96,11 @@ def caught_by(archive, bug):
         for name in "c/hardware", "c/include", "tests":
             shutil.copytree(ROOT / name, f"{directory}/{name}")
         os.symlink(ROOT / "dist", f"{directory}/dist")
-        subprocess.run(["objcopy", "--redefine-syms=c/hardware/names", archive, "proved.a"], cwd=directory, check=True)
+        subprocess.run(
+            ["objcopy", "--redefine-syms=c/hardware/names", archive, "proved.a"],
+            cwd=directory,
+            check=True,
+        )
         if bug:
             plant("hardware", bug, directory)
         for name, (sources, command, wanted) in PROGRAMS.items():

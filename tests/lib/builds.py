@@ -20,8 +20,12 @@ ROOT = pathlib.Path(__file__).resolve().parent.parent.parent
 
 def run(*command, **options):
     """The standard output of a command that succeeds."""
-    ended = subprocess.run(list(map(str, command)), capture_output=True, text=True, **options)
-    assert ended.returncode == 0, f"{command[0]}: {ended.returncode}\n{ended.stdout[-2000:]}{ended.stderr[-2000:]}"
+    ended = subprocess.run(
+        list(map(str, command)), capture_output=True, text=True, **options
+    )
+    assert (
+        ended.returncode == 0
+    ), f"{command[0]}: {ended.returncode}\n{ended.stdout[-2000:]}{ended.stderr[-2000:]}"
     return ended.stdout
 
 
@@ -29,7 +33,17 @@ def alone(lines, **env):
     """A command that runs lines of the shell with an empty environment, the system's commands and no network: a test
     that uses it needs "no network"."""
     given = [f"{name}={value}" for name, value in env.items()]
-    return ["unshare", "-rn", "env", "-i", "PATH=/usr/bin:/bin", *given, "bash", "-ec", "\n".join(lines)]
+    return [
+        "unshare",
+        "-rn",
+        "env",
+        "-i",
+        "PATH=/usr/bin:/bin",
+        *given,
+        "bash",
+        "-ec",
+        "\n".join(lines),
+    ]
 
 
 @pytest.fixture(scope="session")
@@ -58,23 +72,41 @@ def once(tmp_path_factory):
 def built(once):
     """built("llvm.a") is a file or directory of tests/library/build.sh. KEYWRAP_BUILT=DIRECTORY: of the scripts' build.
     KEYWRAP_ARCHIVES is a list of paths: the last of them is in the place of llvm.a."""
+
     def find(name):
-        if name == "llvm.a" and (archives := os.environ.get("KEYWRAP_ARCHIVES", "").split()):
+        if name == "llvm.a" and (
+            archives := os.environ.get("KEYWRAP_ARCHIVES", "").split()
+        ):
             return pathlib.Path(archives[-1]).absolute()
 
         given = os.environ.get("KEYWRAP_BUILT")
         directory = pathlib.Path(given) if given else once("built", lambda _: None)
-        if not all((directory / wanted).exists() for wanted in ("llvm.a", "rattle.a", name)):
+        if not all(
+            (directory / wanted).exists() for wanted in ("llvm.a", "rattle.a", name)
+        ):
             need("rt")
         # It builds what is not there, and waits for another process that does.
-        run(ROOT / "tests/library/build.sh", directory, *([] if name.endswith(".a") else [name]))
+        run(
+            ROOT / "tests/library/build.sh",
+            directory,
+            *([] if name.endswith(".a") else [name]),
+        )
         return directory / name
 
     return functools.cache(find)
 
 
 def make_library(directory, archive, *words):
-    run("make", "-s", "-C", ROOT, "library", *words, f"LIBRARY={directory}", f"ARCHIVE={archive}")
+    run(
+        "make",
+        "-s",
+        "-C",
+        ROOT,
+        "library",
+        *words,
+        f"LIBRARY={directory}",
+        f"ARCHIVE={archive}",
+    )
 
 
 @pytest.fixture(scope="session")
@@ -94,7 +126,13 @@ def in_c(once):
     def build(directory):
         shutil.copytree(ROOT / "dist/command", directory / "command")
         shutil.copy(ROOT / "dist/Makefile", directory)
-        run("make", "-C", directory, "keywrap", f"CFLAGS={' '.join(STRICT)} -DKEYWRAP_AES_INSTRUCTIONS_MUST_WORK")
+        run(
+            "make",
+            "-C",
+            directory,
+            "keywrap",
+            f"CFLAGS={' '.join(STRICT)} -DKEYWRAP_AES_INSTRUCTIONS_MUST_WORK",
+        )
 
     return once("program in C", build) / "keywrap"
 
@@ -106,7 +144,11 @@ def portable():
 
 
 VERSION = (ROOT / "VERSION").read_text().strip()
-NAMES = {"VERSION": VERSION, "DEBIAN": VERSION.replace("-", "~"), "PYTHON": VERSION.replace("-dev", ".dev0")}
+NAMES = {
+    "VERSION": VERSION,
+    "DEBIAN": VERSION.replace("-", "~"),
+    "PYTHON": VERSION.replace("-dev", ".dev0"),
+}
 # Libraries and a wheel for this machine only, as Debian's Python builds them.
 MACHINE = "TARGET=x86_64-unknown-linux-gnu"
 
@@ -117,13 +159,20 @@ def copied_tree(directory, program, archive):
     tree = directory / "tree"
     tree.mkdir(parents=True)
     without = ["--exclude=.git", "--exclude=out", "--exclude=__pycache__"]
-    packed = subprocess.Popen(["tar", "-C", ROOT, *without, "-cf", "-", "."], stdout=subprocess.PIPE)
+    packed = subprocess.Popen(
+        ["tar", "-C", ROOT, *without, "-cf", "-", "."], stdout=subprocess.PIPE
+    )
     run("tar", "-C", tree, "-xf", "-", stdin=packed.stdout)
     assert packed.wait() == 0
-    for source, place in [(program, "keywrap/out/keywrap"), (archive, "keywrap_c/out/libkeywrap_c.a")]:
+    for source, place in [
+        (program, "keywrap/out/keywrap"),
+        (archive, "keywrap_c/out/libkeywrap_c.a"),
+    ]:
         (tree / "crates" / place).parent.mkdir()
         shutil.copy(source, tree / "crates" / place)
-    (tree / "crates/keywrap/out/built_from").write_text(run(tree / "scripts/sources.sh"))
+    (tree / "crates/keywrap/out/built_from").write_text(
+        run(tree / "scripts/sources.sh")
+    )
     (directory / "bin").mkdir()
     noted = f'echo "$*" >>{directory}/calls; exec /usr/bin/python3 "$@"'
     for name, script in [("rt", '[ "$1" = lib ]'), ("python3", noted)]:
@@ -135,7 +184,14 @@ def copied_tree(directory, program, archive):
 @pytest.fixture(scope="session")
 def python():
     """The Python that builds the wheel: this one."""
-    need("import build", "import cffi", "import ensurepip", "import setuptools", "import wheel", "Python.h")
+    need(
+        "import build",
+        "import cffi",
+        "import ensurepip",
+        "import setuptools",
+        "import wheel",
+        "Python.h",
+    )
     return sys.executable
 
 
@@ -148,8 +204,12 @@ def words(library, built):
 @pytest.fixture(scope="session")
 def prefix(once, words):
     """The prefix where the library is installed."""
-    return once("library-installed", lambda directory: run(
-        "make", "-s", "-C", ROOT, "install-library", *words, f"PREFIX={directory}"))
+    return once(
+        "library-installed",
+        lambda directory: run(
+            "make", "-s", "-C", ROOT, "install-library", *words, f"PREFIX={directory}"
+        ),
+    )
 
 
 @pytest.fixture(scope="session")
@@ -159,7 +219,19 @@ def dist(once, words, built, python, pytestconfig):
 
     def build(directory):
         made = [f"PROGRAM={pytestconfig.program}", f"JS={directory.parent}/dist.js"]
-        run("make", "-s", "-C", ROOT, "dist", *words, *made, f"DIST={directory}", f"PYTHON={python}", "-o", "build")
+        run(
+            "make",
+            "-s",
+            "-C",
+            ROOT,
+            "dist",
+            *words,
+            *made,
+            f"DIST={directory}",
+            f"PYTHON={python}",
+            "-o",
+            "build",
+        )
 
     return once("dist", build)
 
@@ -168,22 +240,49 @@ def dist(once, words, built, python, pytestconfig):
 def wheel(once, words, python):
     """The wheel of `make wheel` for this machine."""
     need("rt")
-    made, = once("wheel", lambda directory: run(
-        "make", "-s", "-C", ROOT, "wheel", *words, f"DIST={directory}", f"PYTHON={python}")).glob("*.whl")
+    (made,) = once(
+        "wheel",
+        lambda directory: run(
+            "make",
+            "-s",
+            "-C",
+            ROOT,
+            "wheel",
+            *words,
+            f"DIST={directory}",
+            f"PYTHON={python}",
+        ),
+    ).glob("*.whl")
     return made
 
 
 @pytest.fixture(scope="session")
 def debs(once, built, pytestconfig):
     """Debian's packages, built in tree/ over the program and the archive, and log."""
-    need("dpkg-buildpackage", "dh", "dh_python3", "import build", "import cffi", "import setuptools", "import wheel",
-         "<openssl/evp.h>", "Python.h")
+    need(
+        "dpkg-buildpackage",
+        "dh",
+        "dh_python3",
+        "import build",
+        "import cffi",
+        "import setuptools",
+        "import wheel",
+        "<openssl/evp.h>",
+        "Python.h",
+    )
 
     def build(directory):
         tree = copied_tree(directory, pytestconfig.program, built("llvm.a"))
         shutil.copytree(tree / "packaging/debian", tree / "debian")
         path = f"{directory}/bin:/usr/sbin:/usr/bin:/sbin:/bin"
-        log = run("dpkg-buildpackage", "-b", "-us", "-uc", cwd=tree, env={**os.environ, "PATH": path})
+        log = run(
+            "dpkg-buildpackage",
+            "-b",
+            "-us",
+            "-uc",
+            cwd=tree,
+            env={**os.environ, "PATH": path},
+        )
         (directory / "log").write_text(log)
 
     return once("debs", build)
@@ -199,7 +298,11 @@ def unpacked(archive, directory):
     assert pathlib.Path(archive).read_bytes()[4:8] == bytes(4), archive
     with tarfile.open(archive) as packed:
         for member in packed:
-            assert (member.uid, member.gid, member.mtime) == (0, 0, 1767225600), member.name
+            assert (member.uid, member.gid, member.mtime) == (
+                0,
+                0,
+                1767225600,
+            ), member.name
     directory.mkdir()
     run("tar", "-C", directory, "-xpzf", archive)
     return next(directory.iterdir())
@@ -209,18 +312,43 @@ def unpacked(archive, directory):
 def thing(request, once):
     """thing("wheel") is the directory with all of its files, as a user has it. Each test has its own request: pytest
     fails if a request asks twice for a fixture that was skipped."""
+
     def installed(goal, *more):
         def build(directory):
-            run("make", "-s", "-C", ROOT, goal, *request.getfixturevalue("words"), f"DESTDIR={directory}", "prefix=",
-                f"PROGRAM={request.config.program}", "-o", "build", *more)
+            run(
+                "make",
+                "-s",
+                "-C",
+                ROOT,
+                goal,
+                *request.getfixturevalue("words"),
+                f"DESTDIR={directory}",
+                "prefix=",
+                f"PROGRAM={request.config.program}",
+                "-o",
+                "build",
+                *more,
+            )
 
         return build
 
     def hardware(directory):
         """Only what is there beside the library's files."""
         words = [f"LIBRARY={directory}/build", *request.getfixturevalue("words")[1:]]
-        for goal, words in [("one", [*words, "HARDWARE=1"]), ("two", request.getfixturevalue("words"))]:
-            run("make", "-s", "-C", ROOT, "install-library", *words, f"DESTDIR={directory}/{goal}", "prefix=")
+        for goal, words in [
+            ("one", [*words, "HARDWARE=1"]),
+            ("two", request.getfixturevalue("words")),
+        ]:
+            run(
+                "make",
+                "-s",
+                "-C",
+                ROOT,
+                "install-library",
+                *words,
+                f"DESTDIR={directory}/{goal}",
+                "prefix=",
+            )
         for path in (directory / "two").rglob("*"):
             if path.is_symlink() or path.is_file():
                 (directory / "one" / path.relative_to(directory / "two")).unlink()
@@ -232,11 +360,13 @@ def thing(request, once):
         with zipfile.ZipFile(request.getfixturevalue("wheel")) as files:
             files.extractall(directory)
             for member in files.infolist():
-                (directory / member.filename).chmod(stat.S_IMODE(member.external_attr >> 16))
+                (directory / member.filename).chmod(
+                    stat.S_IMODE(member.external_attr >> 16)
+                )
 
     def archive(pattern):
         def build(directory):
-            packed, = request.getfixturevalue("dist").glob(pattern)
+            (packed,) = request.getfixturevalue("dist").glob(pattern)
             for path in unpacked(packed, directory / "packed").iterdir():
                 shutil.move(path, directory / path.name)
             shutil.rmtree(directory / "packed")
@@ -245,22 +375,43 @@ def thing(request, once):
 
     def provider(directory):
         need("<openssl/evp.h>")
-        installed("install-provider", f"PROVIDER={directory}.built", "MODULESDIR=/modules")(directory)
+        installed(
+            "install-provider", f"PROVIDER={directory}.built", "MODULESDIR=/modules"
+        )(directory)
         shutil.rmtree(f"{directory}.built")
 
     def deb(name):
-        return lambda directory: run("dpkg-deb", "-x", package_of(request.getfixturevalue("debs"), name), directory)
+        return lambda directory: run(
+            "dpkg-deb",
+            "-x",
+            package_of(request.getfixturevalue("debs"), name),
+            directory,
+        )
 
     def sdist_built(directory):
         """As pip installs it."""
-        packed, = request.getfixturevalue("dist").glob(f"keywrap-{NAMES['PYTHON']}.tar.gz")
-        options = ["--no-build-isolation", "--no-index", "--no-deps", "--target", directory]
+        (packed,) = request.getfixturevalue("dist").glob(
+            f"keywrap-{NAMES['PYTHON']}.tar.gz"
+        )
+        options = [
+            "--no-build-isolation",
+            "--no-index",
+            "--no-deps",
+            "--target",
+            directory,
+        ]
         run(request.getfixturevalue("python"), "-m", "pip", "install", *options, packed)
 
     makers = {
-        "command": installed("install-command"), "library": installed("install-library"), "hardware": hardware,
-        "provider": provider, "wheel": wheel, "sdist": archive(f"keywrap-{NAMES['PYTHON']}.tar.gz"),
-        "npm": archive("*.tgz"), "portable": archive("keywrap-portable-*"), "sdist built": sdist_built,
+        "command": installed("install-command"),
+        "library": installed("install-library"),
+        "hardware": hardware,
+        "provider": provider,
+        "wheel": wheel,
+        "sdist": archive(f"keywrap-{NAMES['PYTHON']}.tar.gz"),
+        "npm": archive("*.tgz"),
+        "portable": archive("keywrap-portable-*"),
+        "sdist built": sdist_built,
         "go": lambda directory: run("make", "-s", "-C", ROOT, "go", f"GO={directory}"),
         "archive of command": archive("keywrap-[0-9]*-linux.tar.gz"),
         "archive of library": archive("keywrap-library-*"),

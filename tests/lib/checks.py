@@ -34,12 +34,23 @@ def held():
 
 def state(*without):
     """The names, kinds, modes, owners and contents of all files, except these and the files of the tests themselves."""
+
     def of(path):
         found = path.lstat()
-        content = path.read_bytes() if stat.S_ISREG(found.st_mode) else os.readlink(path) if path.is_symlink() else None
+        content = (
+            path.read_bytes()
+            if stat.S_ISREG(found.st_mode)
+            else os.readlink(path)
+            if path.is_symlink()
+            else None
+        )
         return oct(found.st_mode), found.st_uid, found.st_gid, found.st_ino, content
 
-    return {str(path): of(path) for path in pathlib.Path().rglob("*") if str(path) not in {"met", "pipe", *without}}
+    return {
+        str(path): of(path)
+        for path in pathlib.Path().rglob("*")
+        if str(path) not in {"met", "pipe", *without}
+    }
 
 
 def lands(keywrap, args, answer, name="to/file", **options):
@@ -94,4 +105,6 @@ def comes_to(keywrap, args, given, outcomes, keep_going=False, report=""):
     assert keywrap(args, "-i", "in", "-o", "lines/file") == ended._replace(stdout="")
     assert os.listdir("lines") == ["file"]
     assert pathlib.Path("lines/file").read_text() == (written if filed else "old\n")
-    assert os.stat("lines/file").st_mode & 0o777 == (0o600 if args[0] == "unwrap" and filed else 0o644)
+    assert os.stat("lines/file").st_mode & 0o777 == (
+        0o600 if args[0] == "unwrap" and filed else 0o644
+    )

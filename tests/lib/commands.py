@@ -10,7 +10,11 @@ from typing import NamedTuple, Optional
 from vectors import VALUES, VECTOR_LINES, raw, zeros
 
 # The usual command lines.
-WRAP, UNWRAP, CHECK = "wrap --kek kek16.hex", "unwrap --kek kek16.hex", "check --kek kek16.hex"
+WRAP, UNWRAP, CHECK = (
+    "wrap --kek kek16.hex",
+    "unwrap --kek kek16.hex",
+    "check --kek kek16.hex",
+)
 REWRAP = "rewrap --kek kek16.hex --new-kek kek32.hex"
 SAME_KEK = "rewrap --kek kek16.hex --new-kek kek16.hex"
 MAX_FILE = 4194304
@@ -18,10 +22,18 @@ MAX_FILE = 4194304
 
 def table(name, section, **values):
     """The rows of a section of NAME.txt: the fields between bars, with the values of $NAMES. `\\` joins two lines."""
-    text = (pathlib.Path(__file__).parent.parent / f"{name}.txt").read_text().replace("\\\n", "")
+    text = (
+        (pathlib.Path(__file__).parent.parent / f"{name}.txt")
+        .read_text()
+        .replace("\\\n", "")
+    )
     lines = re.search(rf"^\[{section}\]\n((?:.+\n)+)", text, re.M)[1]
     filled = string.Template(lines).substitute({**VALUES, **globals(), **values})
-    return [[field.strip() for field in line.split("|")] for line in filled.splitlines() if line[0] != "#"]
+    return [
+        [field.strip() for field in line.split("|")]
+        for line in filled.splitlines()
+        if line[0] != "#"
+    ]
 
 
 def unescaped(field):
@@ -30,10 +42,16 @@ def unescaped(field):
 
 
 _HEX = dict(table("commands", "files in hex"))
-FILES = {**{f"{name}.hex": f"{digits}\n".encode() for name, digits in _HEX.items()},
-         **{f"{name}.raw": raw(_HEX[name]) for name in "kek16 kek24 kek32 kek5649 key wrapped padded".split()},
-         **{name: f"{text}\n".encode() for name, text in table("commands", "files")}, "nothing": b"",
-         "vectors": VECTOR_LINES.encode()}
+FILES = {
+    **{f"{name}.hex": f"{digits}\n".encode() for name, digits in _HEX.items()},
+    **{
+        f"{name}.raw": raw(_HEX[name])
+        for name in "kek16 kek24 kek32 kek5649 key wrapped padded".split()
+    },
+    **{name: f"{text}\n".encode() for name, text in table("commands", "files")},
+    "nothing": b"",
+    "vectors": VECTOR_LINES.encode(),
+}
 # Files that are too long to be written for each test: links lead to them.
 LARGE = {"long.hex": zeros(MAX_FILE // 2 + 1).encode(), "blank.hex": b" " * MAX_FILE}
 

@@ -23,15 +23,31 @@ class Machine(NamedTuple):
 
 
 # Debian's files for aarch64, as packaging/sysroot.sh unpacks them.
-SYSROOT = pathlib.Path(os.environ.get("SYSROOT") or pathlib.Path(
-    os.environ.get("XDG_CACHE_HOME") or pathlib.Path.home() / ".cache", "keywrap/sysroot-aarch64-unknown-linux-gnu"))
+SYSROOT = pathlib.Path(
+    os.environ.get("SYSROOT")
+    or pathlib.Path(
+        os.environ.get("XDG_CACHE_HOME") or pathlib.Path.home() / ".cache",
+        "keywrap/sysroot-aarch64-unknown-linux-gnu",
+    )
+)
 # Valgrind's launcher would start a program of this machine.
-ARM_MEMCHECK = ["env", f"VALGRIND_LIB={SYSROOT}/usr/libexec/valgrind", "VALGRIND_LAUNCHER=/usr/bin/valgrind",
-                "qemu-aarch64", "-L", SYSROOT, f"{SYSROOT}/usr/libexec/valgrind/memcheck-arm64-linux"]
+ARM_MEMCHECK = [
+    "env",
+    f"VALGRIND_LIB={SYSROOT}/usr/libexec/valgrind",
+    "VALGRIND_LAUNCHER=/usr/bin/valgrind",
+    "qemu-aarch64",
+    "-L",
+    SYSROOT,
+    f"{SYSROOT}/usr/libexec/valgrind/memcheck-arm64-linux",
+]
 MACHINES = {
     "here": Machine("cc", "", [], ["valgrind"]),
-    "aarch64": Machine("aarch64-linux-gnu-gcc", "aarch64-linux-gnu-",
-                       ["qemu-aarch64", "-L", "/usr/aarch64-linux-gnu"], ARM_MEMCHECK),
+    "aarch64": Machine(
+        "aarch64-linux-gnu-gcc",
+        "aarch64-linux-gnu-",
+        ["qemu-aarch64", "-L", "/usr/aarch64-linux-gnu"],
+        ARM_MEMCHECK,
+    ),
 }
 ARM = ["TARGET=aarch64-unknown-linux-gnu", f"SYSROOT={SYSROOT}"]
 # A processor that lacks what the library needs, and one that has only that.
@@ -57,31 +73,52 @@ def declared(pattern, *headers):
 # c/hardware makes.
 EXPORTS = declared("int32_t", "dist/keywrap")
 NAMES = declared(r"(?:u?int[0-9]+_t|size_t|void)", "dist/keywrap", "dist/keywrap_steps")
-ARCHIVED = sorted(NAMES + declared(r"KEYWRAP_CHECK u?int[0-9]+_t", "c/include/keywrap_checks"))
+ARCHIVED = sorted(
+    NAMES + declared(r"KEYWRAP_CHECK u?int[0-9]+_t", "c/include/keywrap_checks")
+)
 
 
 def shown(file, *options, tools=""):
     """The names that the file shows, by nm with these options."""
-    listed = map(str.split, run(f"{tools}nm", *options, "--defined-only", file).splitlines())
+    listed = map(
+        str.split, run(f"{tools}nm", *options, "--defined-only", file).splitlines()
+    )
     return sorted(words[2] for words in listed if len(words) == 3 and words[1] != "A")
 
 
 def nodes(path):
     """The nodes of a linker map, each with its names."""
     text = re.sub(r"/\*.*?\*/", "", path.read_text(), flags=re.S)
-    return {node: re.findall(r"keywrap_\w+", listed)
-            for node, listed in re.findall(r"(KEYWRAP_[\d.]+) \{(.*?)\}", text, re.S)}
+    return {
+        node: re.findall(r"keywrap_\w+", listed)
+        for node, listed in re.findall(r"(KEYWRAP_[\d.]+) \{(.*?)\}", text, re.S)
+    }
 
 
 def check_library(directory, name="libkeywrap", archived=ARCHIVED, tools=""):
     """What the archive and the shared object of this name show and need. Each name of the shared object is under the
-    node of the version that it came with, its tables are read-only once it is loaded, and its own name is right."""
+    node of the version that it came with, its tables are read-only once it is loaded, and its own name is right.
+    """
     archive, shared = directory / f"{name}.a", directory / f"{name}.so.1"
     assert shown(archive, "-g", tools=tools) == archived
-    came = {call: node for node, calls in nodes(ROOT / "c/include/keywrap.map").items() for call in calls}
-    assert shown(shared, "-D", tools=tools) == sorted(f"{call}@@{came[call]}" for call in NAMES)
-    needed = {line.split()[1] for line in run(f"{tools}nm", "-u", archive).splitlines() if len(line.split()) == 2}
-    assert {call for call in needed if not call.startswith("keywrap_")} <= {"memcpy", "memmove", "memset"}
+    came = {
+        call: node
+        for node, calls in nodes(ROOT / "c/include/keywrap.map").items()
+        for call in calls
+    }
+    assert shown(shared, "-D", tools=tools) == sorted(
+        f"{call}@@{came[call]}" for call in NAMES
+    )
+    needed = {
+        line.split()[1]
+        for line in run(f"{tools}nm", "-u", archive).splitlines()
+        if len(line.split()) == 2
+    }
+    assert {call for call in needed if not call.startswith("keywrap_")} <= {
+        "memcpy",
+        "memmove",
+        "memset",
+    }
     elf = run("readelf", "-dlW", shared)
     assert "BIND_NOW" in elf and "GNU_RELRO" in elf and "TEXTREL" not in elf
     assert re.search(rf"SONAME.*\[{re.escape(name)}\.so\.1\]", elf)
@@ -90,4 +127,7 @@ def check_library(directory, name="libkeywrap", archived=ARCHIVED, tools=""):
 def check_glibc(file, tools=""):
     """It needs no symbol of glibc that is newer than 2.17."""
     versions = VERSION.findall(run(f"{tools}objdump", "-T", file))
-    assert versions and max((int(major), int(minor)) for major, minor in versions) <= (2, 17)
+    assert versions and max((int(major), int(minor)) for major, minor in versions) <= (
+        2,
+        17,
+    )

@@ -23,8 +23,12 @@ def all_of(values, few, in_gate=None):
     """The values as parameters. All but these few of them are slow, and all but those in the gate, if these are given,
     are left to `make evidence`."""
     in_gate = values if in_gate is None else in_gate
-    return [value if value in few else pytest.param(value, marks=slow if value in in_gate else evidence)
-            for value in values]
+    return [
+        value
+        if value in few
+        else pytest.param(value, marks=slow if value in in_gate else evidence)
+        for value in values
+    ]
 
 
 class Ended(NamedTuple):
@@ -50,7 +54,9 @@ def answered(text):
 
 def refused(status, message, reason=None):
     """A refusal: one line on standard error, a second one with --verbose, and nothing on standard output."""
-    return Ended(status, "", f"keywrap: {message}\n" + (f"  {reason}\n" if reason else ""))
+    return Ended(
+        status, "", f"keywrap: {message}\n" + (f"  {reason}\n" if reason else "")
+    )
 
 
 def words(args):
@@ -71,7 +77,9 @@ def finish(run, given=None, text=True):
         run.kill()
         raise
     out, err = out or b"", (err or b"").decode(errors="backslashreplace")
-    return Ended(run.returncode, out.decode(errors="backslashreplace") if text else out, err)
+    return Ended(
+        run.returncode, out.decode(errors="backslashreplace") if text else out, err
+    )
 
 
 def wait_for(ready):
@@ -88,7 +96,9 @@ class Program:
     def __init__(self, path):
         self.path = str(path)
 
-    def __call__(self, args=(), *more, stdin=None, stdout=None, stderr=None, text=True, **options):
+    def __call__(
+        self, args=(), *more, stdin=None, stdout=None, stderr=None, text=True, **options
+    ):
         """Runs the program with these arguments, see `words`, and returns an `Ended`. `more` are not split.
 
         stdin: str or bytes through a pipe, a `Path` or an open file, CLOSED; None is an empty input.
@@ -96,13 +106,28 @@ class Program:
         text: if False, the answer is returned as bytes.
         options: see `started`."""
         given = stdin.encode() if isinstance(stdin, str) else stdin
-        streams = [subprocess.PIPE if stream is None else stream for stream in (stdout, stderr)]
+        streams = [
+            subprocess.PIPE if stream is None else stream for stream in (stdout, stderr)
+        ]
         stdin = subprocess.PIPE if isinstance(given, bytes) else given
-        with self.started(args, *more, stdin=stdin, stdout=streams[0], stderr=streams[1], **options) as run:
+        with self.started(
+            args, *more, stdin=stdin, stdout=streams[0], stderr=streams[1], **options
+        ) as run:
             return finish(run, given if isinstance(given, bytes) else None, text)
 
-    def started(self, args=(), *more, stdin=None, stdout=None, stderr=None, limits={}, ignoring=None, env={},
-                prefix=(), **options):
+    def started(
+        self,
+        args=(),
+        *more,
+        stdin=None,
+        stdout=None,
+        stderr=None,
+        limits={},
+        ignoring=None,
+        env={},
+        prefix=(),
+        **options,
+    ):
         """Starts the program and returns the `Popen`. Streams are as above, or subprocess.PIPE.
 
         limits: by name, as {"FSIZE": 1024}; a write beyond FSIZE fails, as on a full disk.
@@ -110,8 +135,14 @@ class Program:
         env: variables beside the environment's own.
         prefix: a command that runs the program, as setpriv.
         options: of `Popen`, as cwd and user."""
-        closed = [number for number, stream in enumerate((stdin, stdout, stderr)) if stream is CLOSED]
-        ignoring = ignoring if ignoring is not None else [signal.SIGXFSZ] * ("FSIZE" in limits)
+        closed = [
+            number
+            for number, stream in enumerate((stdin, stdout, stderr))
+            if stream is CLOSED
+        ]
+        ignoring = (
+            ignoring if ignoring is not None else [signal.SIGXFSZ] * ("FSIZE" in limits)
+        )
 
         def stream(given, flags=os.O_WRONLY | os.O_CREAT | os.O_TRUNC):
             if given is UNREAD:
@@ -134,9 +165,15 @@ class Program:
 
         with contextlib.ExitStack() as opened:
             return subprocess.Popen(
-                [*prefix, self.path, *words(args), *more], stdin=stream(stdin, os.O_RDONLY), stdout=stream(stdout),
-                stderr=stream(stderr), env={**os.environ, **env}, pass_fds=SHARED,
-                preexec_fn=prepare if closed or limits or ignoring else None, **options)
+                [*prefix, self.path, *words(args), *more],
+                stdin=stream(stdin, os.O_RDONLY),
+                stdout=stream(stdout),
+                stderr=stream(stderr),
+                env={**os.environ, **env},
+                pass_fds=SHARED,
+                preexec_fn=prepare if closed or limits or ignoring else None,
+                **options,
+            )
 
 
 @contextlib.contextmanager
@@ -156,12 +193,16 @@ def piped(content, size=1 << 30):
     reading, writing = os.pipe()
 
     def write():
-        with contextlib.suppress(BrokenPipeError), os.fdopen(writing, "wb", buffering=0) as pipe:
+        with contextlib.suppress(BrokenPipeError), os.fdopen(
+            writing, "wb", buffering=0
+        ) as pipe:
             for at in range(0, len(content), size):
-                pipe.write(content[at:at + size])
+                pipe.write(content[at : at + size])
                 time.sleep(0.002)
 
-    with concurrent.futures.ThreadPoolExecutor() as pool, open(reading, "rb"), shared(reading) as name:
+    with concurrent.futures.ThreadPoolExecutor() as pool, open(reading, "rb"), shared(
+        reading
+    ) as name:
         pool.submit(write)
         yield name
 

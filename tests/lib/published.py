@@ -44,7 +44,11 @@ def nist_or_skip():
 @functools.cache
 def nist():
     """All of NIST's cases, in both directions if there is an answer."""
-    found = [case for path in nist_files() for case in files.read(path.read_bytes().decode()).cases]
+    found = [
+        case
+        for path in nist_files()
+        for case in files.read(path.read_bytes().decode()).cases
+    ]
     assert len(found) == 6000
     return [turned for case in found for turned in case.both_ways()]
 
@@ -56,38 +60,64 @@ def foreign_text(name):
 @functools.cache
 def foreign():
     """The cases of Wycheproof and ACVP. RFC 5649 wraps no key of 0 bytes, so there an acceptable one is refused."""
-    found = [case for name in ("kw_test", "kwp_test") for case in files.read(foreign_text(name)).cases]
+    found = [
+        case
+        for name in ("kw_test", "kwp_test")
+        for case in files.read(foreign_text(name)).cases
+    ]
     for name in "ACVP-AES-KW", "ACVP-AES-KWP":
         request = files.read(foreign_text(name))
         request.expect(json.loads(foreign_text(f"{name}.expected")))
         found += [turned for case in request.cases for turned in case.both_ways()]
     # Each of the 416 tests of Wycheproof and 54 of ACVP has an unwrap.
     assert sum(case.call.unwraps for case in found) == 416 + 54
-    return [case._replace(answer=None) if b"" in (case.given, case.answer) else case for case in found]
+    return [
+        case._replace(answer=None) if b"" in (case.given, case.answer) else case
+        for case in found
+    ]
 
 
 # The shortest that each call takes, and what its length is a multiple of.
-LENGTHS = {"wrap": (16, 8), "unwrap": (24, 8), "wrap_padded": (1, 1), "unwrap_padded": (16, 8)}
+LENGTHS = {
+    "wrap": (16, 8),
+    "unwrap": (24, 8),
+    "wrap_padded": (1, 1),
+    "unwrap_padded": (16, 8),
+}
 
 
 def refusal(case):
     """The status of a case without an answer."""
     least, unit = LENGTHS[case.call.value]
-    return rows.BAD_LENGTH if len(case.given) < least or len(case.given) % unit else rows.INTEGRITY
+    return (
+        rows.BAD_LENGTH
+        if len(case.given) < least or len(case.given) % unit
+        else rows.INTEGRITY
+    )
 
 
 def due(case):
     """What a call returns and writes."""
     if case.answer is not None:
         is_padded_key = case.call.value == "unwrap_padded"
-        return {"status": rows.OK, "out": case.answer, **({"len": len(case.answer)} if is_padded_key else {})}
+        return {
+            "status": rows.OK,
+            "out": case.answer,
+            **({"len": len(case.answer)} if is_padded_key else {}),
+        }
     status = refusal(case)
-    return {"status": status, **({"out": bytes(len(case.given) - 8)} if status == rows.INTEGRITY else {})}
+    return {
+        "status": status,
+        **({"out": bytes(len(case.given) - 8)} if status == rows.INTEGRITY else {}),
+    }
 
 
 def rows_of(cases):
     """The cases as rows (see rows.py)."""
-    return [(case.call.value, {"kek": case.kek, "given": case.given}, due(case)) for case in cases]
+    return [
+        (case.call.value, {"kek": case.kek, "given": case.given}, due(case))
+        for case in cases
+    ]
 
 
 def foreign_rows():

@@ -13,8 +13,12 @@ import pytest
 def missing(*tools):
     """The tools that are not here and their packages, as the reason of a skip. Modules are this Python's."""
     script = pathlib.Path(__file__).with_name("tools.sh")
-    looked = subprocess.run(["bash", script, *tools], stdout=subprocess.PIPE, text=True,
-                            env={**os.environ, "python": sys.executable})
+    looked = subprocess.run(
+        ["bash", script, *tools],
+        stdout=subprocess.PIPE,
+        text=True,
+        env={**os.environ, "python": sys.executable},
+    )
     assert looked.returncode == 0, looked.stdout
     return looked.stdout.rstrip()
 

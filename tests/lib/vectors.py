@@ -4,11 +4,19 @@ import base64
 import pathlib
 
 TEXT = (pathlib.Path(__file__).parents[1] / "vectors.txt").read_text()
-VALUES = dict(line.split(" ", 1) for line in TEXT.splitlines()
-              if line and line[0] != "#")
+VALUES = dict(
+    line.split(" ", 1) for line in TEXT.splitlines() if line and line[0] != "#"
+)
 globals().update(VALUES)
-VECTOR_LINES = "".join(f"{source} {number} ok\n" for source, numbers in [
-    ("rfc3394", "4.1 4.2 4.3 4.4 4.5 4.6"), ("rfc5649", "20 7"), ("fips197", "1 2 3 4")] for number in numbers.split())
+VECTOR_LINES = "".join(
+    f"{source} {number} ok\n"
+    for source, numbers in [
+        ("rfc3394", "4.1 4.2 4.3 4.4 4.5 4.6"),
+        ("rfc5649", "20 7"),
+        ("fips197", "1 2 3 4"),
+    ]
+    for number in numbers.split()
+)
 raw = bytes.fromhex
 
 

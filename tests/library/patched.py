@@ -13,12 +13,37 @@ import sys
 import tempfile
 
 sys.path.insert(0, str(pathlib.Path(__file__).resolve().parent.parent / "lib"))
-from vectors import (KEY20, KEY24_UNDER_24, KEY24_UNDER_32, KEY32_UNDER_32, KEY7, WRAPPED16, WRAPPED20, WRAPPED24,
-                     WRAPPED32, WRAPPED7)
+from vectors import (
+    KEY20,
+    KEY24_UNDER_24,
+    KEY24_UNDER_32,
+    KEY32_UNDER_32,
+    KEY7,
+    WRAPPED16,
+    WRAPPED20,
+    WRAPPED24,
+    WRAPPED32,
+    WRAPPED7,
+)
 
 # A part of each vector that no other one has, and of the wrapped key that must be refused, which becomes a right one.
-PARTS = [WRAPPED16[-16:], *(vector[:16] for vector in (WRAPPED24, WRAPPED32, KEY24_UNDER_24, KEY24_UNDER_32,
-                                                       KEY32_UNDER_32, WRAPPED20, WRAPPED7, KEY20, KEY7))]
+PARTS = [
+    WRAPPED16[-16:],
+    *(
+        vector[:16]
+        for vector in (
+            WRAPPED24,
+            WRAPPED32,
+            KEY24_UNDER_24,
+            KEY24_UNDER_32,
+            KEY32_UNDER_32,
+            WRAPPED20,
+            WRAPPED7,
+            KEY20,
+            KEY7,
+        )
+    ),
+]
 DAMAGED = f"{int(WRAPPED16[-16:], 16) ^ 1:016x}"
 
 # The tables of the inverse cipher: the places of InvShiftRows in the AES by byte shuffles, the front of the inverse
@@ -27,6 +52,7 @@ DECRYPTION = ["000d0a0704010e0b0805020f0c090603", "52096ad53036a538bf40a39e81f3d
 
 original = pathlib.Path(sys.argv[1]).read_bytes()
 with tempfile.TemporaryDirectory() as directory:
+
     def self_test(name, library):
         path = pathlib.Path(directory, f"{name}.so")
         path.write_bytes(library)
@@ -36,16 +62,34 @@ with tempfile.TemporaryDirectory() as directory:
         """Whether the library of this name wraps the first vector of RFC 3394."""
         wrapped = ctypes.create_string_buffer(24)
         key = bytes.fromhex("00112233445566778899aabbccddeeff")
-        arguments = [bytes(range(16)), ctypes.c_size_t(16), key, ctypes.c_size_t(16), wrapped, ctypes.c_size_t(24)]
-        status = ctypes.CDLL(str(pathlib.Path(directory, f"{name}.so"))).keywrap_wrap(*arguments)
+        arguments = [
+            bytes(range(16)),
+            ctypes.c_size_t(16),
+            key,
+            ctypes.c_size_t(16),
+            wrapped,
+            ctypes.c_size_t(24),
+        ]
+        status = ctypes.CDLL(str(pathlib.Path(directory, f"{name}.so"))).keywrap_wrap(
+            *arguments
+        )
         return status == 0 and wrapped.raw.hex() == WRAPPED16
 
     assert self_test("original", original) == 0
     for part in map(bytes.fromhex, [*PARTS, DAMAGED]):
         assert part in original, part.hex()
-        assert self_test(part.hex(), original.replace(part, bytes([*part[:-1], part[-1] ^ 1]))) == 5, part.hex()
-    tables = [table for table in map(bytes.fromhex, DECRYPTION) if original.count(table) == 1]
-    assert bool(tables) == ("decryption" in sys.argv[2:]), "the tables of the decryption"
+        assert (
+            self_test(
+                part.hex(), original.replace(part, bytes([*part[:-1], part[-1] ^ 1]))
+            )
+            == 5
+        ), part.hex()
+    tables = [
+        table for table in map(bytes.fromhex, DECRYPTION) if original.count(table) == 1
+    ]
+    assert bool(tables) == (
+        "decryption" in sys.argv[2:]
+    ), "the tables of the decryption"
     for table in tables:
         library = original.replace(table, bytes(reversed(table)))
         assert self_test(table.hex(), library) == 5, table.hex()

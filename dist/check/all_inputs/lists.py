@@ -23,9 +23,23 @@ unwrap 16 352
 """
 FLAGS = (0, 1, 2, 3, 4, 8, 9, 10, 11, 12)
 NO_FLAGS = (5, 6, 7, 13, 14, 15, 16, 32, 256, 1 << 31)
-IN_PLACE = 'wrap_in_place', 'unwrap_in_place', 'wrap_padded_in_place', 'unwrap_padded_in_place'
-FOR_ONE_KEY = (*IN_PLACE, 'wrap', 'unwrap', 'wrap_with', 'unwrap_with', 'wrap_padded', 'unwrap_padded', 'unwrap_any',
-               'kind')
+IN_PLACE = (
+    "wrap_in_place",
+    "unwrap_in_place",
+    "wrap_padded_in_place",
+    "unwrap_padded_in_place",
+)
+FOR_ONE_KEY = (
+    *IN_PLACE,
+    "wrap",
+    "unwrap",
+    "wrap_with",
+    "unwrap_with",
+    "wrap_padded",
+    "unwrap_padded",
+    "unwrap_any",
+    "kind",
+)
 
 
 # Numbers of steps of two bytes, in calls that count them themselves. Lanes of libkeywrap_hw.
@@ -50,7 +64,7 @@ end_unwrap_any 1048584 0,rewrap 16 24 1048592 0
 
 
 def parsed(text):
-    for line in text.replace('\n', ',').split(','):
+    for line in text.replace("\n", ",").split(","):
         if line:
             name, *numbers = line.split()
             yield name, *map(int, numbers)
@@ -64,40 +78,42 @@ def lengths_list(keks, most, most_in_place):
     """Every call for one key, at each length to `most`."""
     for kek in keks:
         for n in range(16, most + 1, 8):
-            for name in 'wrap', 'unwrap', 'wrap_with', 'unwrap_with':
+            for name in "wrap", "unwrap", "wrap_with", "unwrap_with":
                 yield name, kek, n
         for n in range(1, most + 1):
-            yield 'wrap_padded', kek, n
+            yield "wrap_padded", kek, n
         for n in range(8, most + 1, 8):
-            for name in 'unwrap_padded', 'unwrap_any', 'kind':
+            for name in "unwrap_padded", "unwrap_any", "kind":
                 yield name, kek, n
         for n in range(1, most_in_place + 1):
-            yield 'wrap_padded_in_place', kek, n
+            yield "wrap_padded_in_place", kek, n
             if n % 8 == 0:
-                yield 'unwrap_padded_in_place', kek, n
+                yield "unwrap_padded_in_place", kek, n
             if is_plain_key(n):
-                yield from parsed(f'wrap_in_place {kek} {n},unwrap_in_place {kek} {n}')
+                yield from parsed(f"wrap_in_place {kek} {n},unwrap_in_place {kek} {n}")
 
 
 def kept_list():
-    for kek, kept in itertools.product((0, 8, 15, *KEKS, 33, *KEPT), (0, 183, 185, *KEPT, 384)):
-        yield 'kek_init', kek, kept
+    for kek, kept in itertools.product(
+        (0, 8, 15, *KEKS, 33, *KEPT), (0, 183, 185, *KEPT, 384)
+    ):
+        yield "kek_init", kek, kept
     for n in 0, 1, 16, 183, *KEPT, 1000:
-        yield 'kek_clear', n
-    yield from parsed('unmarked 184,unmarked 216,unmarked 248')
+        yield "kek_clear", n
+    yield from parsed("unmarked 184,unmarked 216,unmarked 248")
 
 
 def rewraps_list(pairs, texts, flags=FLAGS):
     for flag, text, (old, new) in itertools.product(flags, texts, pairs):
-        yield 'rewrap', old, new, text, flag
+        yield "rewrap", old, new, text, flag
         if flag < 4 and text <= 32:
-            yield 'rewrap_in_place', old, new, text, flag
+            yield "rewrap_in_place", old, new, text, flag
 
 
 def rewrap_steps_list(texts):
     """These calls have no KEK."""
     for flags, text, from_copy in itertools.product(FLAGS, texts, (0, 1)):
-        yield 'rewrap_steps', 16, 24, text, flags, from_copy
+        yield "rewrap_steps", 16, 24, text, flags, from_copy
 
 
 def middle_list():
@@ -108,39 +124,54 @@ def middle_list():
 
 def many_list(keks, slots, places):
     for kek, count in itertools.product(keks, (1, 2)):
-        yield from parsed(f'wrap_many {kek} 16 0 {count},wrap_many {kek} 11 2 {count},wrap_many {kek} 5 2 {count},'
-                          f'unwrap_many {kek} 24 0 {count},unwrap_many {kek} 16 1 {count},kind_many {kek} 16 {count},'
-                          f'kind_many {kek} 24 {count},rewrap_many {kek} 24 16 11 {count},'
-                          f'rewrap_many {kek} 24 24 0 {count}')
+        yield from parsed(
+            f"wrap_many {kek} 16 0 {count},wrap_many {kek} 11 2 {count},wrap_many {kek} 5 2 {count},"
+            f"unwrap_many {kek} 24 0 {count},unwrap_many {kek} 16 1 {count},kind_many {kek} 16 {count},"
+            f"kind_many {kek} 24 {count},rewrap_many {kek} 24 16 11 {count},"
+            f"rewrap_many {kek} 24 24 0 {count}"
+        )
     for flags in FLAGS:
-        yield 'rewrap_many', 184, 216, 24, flags, 1
-    yield from parsed('wrap_many 184 16 0 48,wrap_many 184 16 0 49,rewrap_many 184 216 24 9 2,unwrap_many 16 24 0 9 -1,'
-                      'kind_many 16 24 9 -1,rewrap_many 16 24 24 0 9 -1')
+        yield "rewrap_many", 184, 216, 24, flags, 1
+    yield from parsed(
+        "wrap_many 184 16 0 48,wrap_many 184 16 0 49,rewrap_many 184 216 24 9 2,unwrap_many 16 24 0 9 -1,"
+        "kind_many 16 24 9 -1,rewrap_many 16 24 24 0 9 -1"
+    )
     for only in places:
-        yield 'unwrap_many', 16, 24, 0, slots, only
-        yield 'kind_many', 16, 24, slots, only
-        yield 'rewrap_many', 16, 32, 24, 12, slots, only
+        yield "unwrap_many", 16, 24, 0, slots, only
+        yield "kind_many", 16, 24, slots, only
+        yield "rewrap_many", 16, 32, 24, 12, slots, only
     for only in 0, slots - 1:
-        yield 'unwrap_many', 32, 24, 1, slots, only
-        yield from parsed(f'rewrap_many 16 32 24 8 {slots} {only},rewrap_many 16 32 24 9 {slots} {only}')
+        yield "unwrap_many", 32, 24, 1, slots, only
+        yield from parsed(
+            f"rewrap_many 16 32 24 8 {slots} {only},rewrap_many 16 32 24 9 {slots} {only}"
+        )
 
 
 def steps_list(most):
     for n in range(most + 2):
         for iv in 0, 7, 8, 9:
-            yield 'begin_wrap', n, iv
-        yield from parsed(f'begin_unwrap {n} 0,begin_unwrap {n} 1')
-        for left, name in itertools.product((0, 1), ('end_unwrap', 'end_unwrap_padded', 'end_unwrap_any')):
+            yield "begin_wrap", n, iv
+        yield from parsed(f"begin_unwrap {n} 0,begin_unwrap {n} 1")
+        for left, name in itertools.product(
+            (0, 1), ("end_unwrap", "end_unwrap_padded", "end_unwrap_any")
+        ):
             yield name, n, left
         for key in range(n + 2):
-            yield 'begin_wrap_padded', key, n
+            yield "begin_wrap_padded", key, n
         for done in range(6 * n // 8 + 2):
-            for name in 'step_wrap', 'step_unwrap', 'end_wrap':
+            for name in "step_wrap", "step_unwrap", "end_wrap":
                 yield name, n, done
     for n, count, lanes in itertools.product((8, 16, 17, 24), (1, 2), (1, 2)):
-        yield from parsed(f'begin_wrap_many {n} {count} {lanes},begin_unwrap_many {n} {count} {lanes}')
+        yield from parsed(
+            f"begin_wrap_many {n} {count} {lanes},begin_unwrap_many {n} {count} {lanes}"
+        )
         for number in range(6 * n // 8 + 2):
-            for name in 'step_wrap_many', 'step_unwrap_many', 'end_wrap_many', 'end_unwrap_many':
+            for name in (
+                "step_wrap_many",
+                "step_unwrap_many",
+                "end_wrap_many",
+                "end_unwrap_many",
+            ):
                 yield name, n, number, count, lanes
 
 
@@ -148,40 +179,58 @@ def refusals_list():
     """Lengths that are refused, and their neighbours."""
     for kek, n in itertools.product((0, 15, 16, 17, 24, 32, 33), (0, 1, 8, 15, 16, 17)):
         for out, name in itertools.product((0, 8, 16, 23, 24, 25), FOR_ONE_KEY):
-            if name not in IN_PLACE and 'with' not in name:
+            if name not in IN_PLACE and "with" not in name:
                 yield name, kek, n, out
         for name in IN_PLACE:
             yield name, kek, n
         for text, flags in itertools.product((0, 8, 15, 16, 23), (0, 1, 4, 5, 8, 16)):
             if (kek, n) in ((17, 16), (16, 17)) or n == 16 and text != 16:
-                yield from parsed(f'rewrap {kek} {n} {text} {flags},rewrap_in_place {kek} {n} {text} {flags}')
+                yield from parsed(
+                    f"rewrap {kek} {n} {text} {flags},rewrap_in_place {kek} {n} {text} {flags}"
+                )
     for kek, n, name in itertools.product(KEKS, range(34), FOR_ONE_KEY):
-        if n % 8 and not name.startswith('wrap_padded'):
+        if n % 8 and not name.startswith("wrap_padded"):
             yield name, kek, n
-    for name, iv in itertools.product(('wrap_with', 'unwrap_with'), (0, 7, 9)):
+    for name, iv in itertools.product(("wrap_with", "unwrap_with"), (0, 7, 9)):
         yield name, 16, 16, iv
-    for name, kek, n, flags in itertools.product(('wrap_many', 'unwrap_many'), (16, 17), (0, 8, 23, 24), (0, 1, 2, 4)):
-        if (kek, n) != (16, 24) and (name, flags) != ('unwrap_many', 1) or flags == 4:
+    for name, kek, n, flags in itertools.product(
+        ("wrap_many", "unwrap_many"), (16, 17), (0, 8, 23, 24), (0, 1, 2, 4)
+    ):
+        if (kek, n) != (16, 24) and (name, flags) != ("unwrap_many", 1) or flags == 4:
             yield name, kek, n, flags, 2
     yield from parsed(TOO_LONG)
     for kek in 8, 20, 28, 40, 176, 208, 272:
         for name in FOR_ONE_KEY:
             yield name, kek, 16
-        for pair in f'{kek} 16', f'16 {kek}':
-            yield from parsed(f'rewrap {pair} 24 0,rewrap_in_place {pair} 24 0,rewrap_many {pair} 24 0 2')
-        yield from parsed(f'wrap_many {kek} 16 0 2,unwrap_many {kek} 24 0 2,kind_many {kek} 24 2')
+        for pair in f"{kek} 16", f"16 {kek}":
+            yield from parsed(
+                f"rewrap {pair} 24 0,rewrap_in_place {pair} 24 0,rewrap_many {pair} 24 0 2"
+            )
+        yield from parsed(
+            f"wrap_many {kek} 16 0 2,unwrap_many {kek} 24 0 2,kind_many {kek} 24 2"
+        )
     for n, count in (0, 0), (48, 0), (0, 2), (47, 2), (49, 2), (24, 2), (48, 3):
-        yield from parsed(f'uneven_wrap_many {n} {count},uneven_rewrap_many {n} {count},'
-                          f'uneven_unwrap_many {n} {count} {count},uneven_kind_many {n} {count} {count} {count}')
+        yield from parsed(
+            f"uneven_wrap_many {n} {count},uneven_rewrap_many {n} {count},"
+            f"uneven_unwrap_many {n} {count} {count},uneven_kind_many {n} {count} {count} {count}"
+        )
     for n in 0, 1, 3:
-        yield from parsed(f'uneven_unwrap_many 48 {n} 2,uneven_kind_many 48 {n} 2 2,uneven_kind_many 48 2 {n} 2')
+        yield from parsed(
+            f"uneven_unwrap_many 48 {n} 2,uneven_kind_many 48 {n} 2 2,uneven_kind_many 48 2 {n} 2"
+        )
     for flags in NO_FLAGS:
-        yield from parsed(f'rewrap 16 24 24 {flags},rewrap_steps 16 24 24 {flags},rewrap_many 16 24 24 {flags} 2')
+        yield from parsed(
+            f"rewrap 16 24 24 {flags},rewrap_steps 16 24 24 {flags},rewrap_many 16 24 24 {flags} 2"
+        )
     for flags in *NO_FLAGS, 4, 8, 12:
-        yield from parsed(f'rewrap_in_place 16 24 24 {flags},wrap_many 16 16 {flags ^ 1} 2,'
-                          f'unwrap_many 16 24 {flags ^ 2} 2')
+        yield from parsed(
+            f"rewrap_in_place 16 24 24 {flags},wrap_many 16 16 {flags ^ 1} 2,"
+            f"unwrap_many 16 24 {flags ^ 2} 2"
+        )
     for kek, n in (17, 24), (16, 0), (16, 23):
-        yield from parsed(f'kind_many {kek} {n} 2,rewrap_many {kek} 16 {n} 0 2,rewrap_many 16 {kek} {n} 12 2')
+        yield from parsed(
+            f"kind_many {kek} {n} 2,rewrap_many {kek} 16 {n} 0 2,rewrap_many 16 {kek} {n} 12 2"
+        )
 
 
 def long_list():
@@ -195,7 +244,7 @@ def long_list():
     yield from many_list((16, 216), 7, (0, 3))
     yield from steps_list(24)
     yield from refusals_list()
-    yield 'self_test',
+    yield "self_test",
 
 
 def full_list():
@@ -205,20 +254,24 @@ def full_list():
     yield from lengths_list(KEKS, 64, 24)
     yield from lengths_list(KEPT, 24, 16)
     yield from rewraps_list(itertools.product(KEKS, KEKS), (16, 24))
-    yield from rewraps_list((*zip(KEKS, KEPT), *zip(KEPT, KEKS), (184, 248)), (24,), (0, 12))
+    yield from rewraps_list(
+        (*zip(KEKS, KEPT), *zip(KEPT, KEKS), (184, 248)), (24,), (0, 12)
+    )
     yield from rewraps_list(((184, 216),), range(32, 80, 8))
     yield from rewrap_steps_list((16, 24, 32))
     yield from many_list((*KEKS, *KEPT), 7, range(7))
     yield from steps_list(64)
     yield from refusals_list()
-    yield 'self_test',
+    yield "self_test",
 
 
 def lanes_list():
     """For libkeywrap_hw, which works on 48 keys at once. It copies slots of at most 264 bytes."""
-    yield from parsed('rewrap_many 16 24 264 0 48 0,rewrap_many 16 24 272 8 48 0,rewrap_many 16 24 24 0 49 -1,'
-                      'kind_many 16 264 48 0,kind_many 16 272 48 0,kind_many 16 24 49 -1,unwrap_many 16 24 0 49 -1')
+    yield from parsed(
+        "rewrap_many 16 24 264 0 48 0,rewrap_many 16 24 272 8 48 0,rewrap_many 16 24 24 0 49 -1,"
+        "kind_many 16 264 48 0,kind_many 16 272 48 0,kind_many 16 24 49 -1,unwrap_many 16 24 0 49 -1"
+    )
     yield from many_list((16,), 49, range(49))
 
 
-LISTS = {'short': short_list, 'long': long_list, 'full': full_list, 'lanes': lanes_list}
+LISTS = {"short": short_list, "long": long_list, "full": full_list, "lanes": lanes_list}

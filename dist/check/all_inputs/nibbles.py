@@ -14,7 +14,9 @@ class Nibbles:
     """One or two nibbles, and their sums: (which of them, form)."""
 
     def __init__(self, *items):
-        self.items, self.sums = items, [(1 + i, nibble) for i, nibble in enumerate(items)]
+        self.items, self.sums = items, [
+            (1 + i, nibble) for i, nibble in enumerate(items)
+        ]
         if len(items) == 2:
             self.sums.append((3, xor(*items)))
 
@@ -29,12 +31,12 @@ class Nibbles:
         if isinstance(v, int) or self.sum_of(v) is not None:
             return self
         if len(self.items) == 2 or bits(v) > 15:
-            raise Refused('a byte that depends on more than two halves of bytes')
+            raise Refused("a byte that depends on more than two halves of bytes")
         return Nibbles(*self.items, v)
 
 
 class F:
-    __slots__ = ('nibbles', 'table', 'rest')
+    __slots__ = ("nibbles", "table", "rest")
 
     def __init__(self, nibbles, table, rest=0):
         self.nibbles, self.table, self.rest = nibbles, table, rest
@@ -47,7 +49,7 @@ def look(table, at):
         inside = xor_tables(over(at, nibbles), over(at.rest, nibbles))
         return settled(F(nibbles, inside.translate(shuffle(table))))
     if not isinstance(at, V) or bits(at) > 15:
-        raise Refused('a shuffle by a byte that is not half a byte')
+        raise Refused("a shuffle by a byte that is not half a byte")
     return settled(F(Nibbles(at), table))
 
 
@@ -66,28 +68,37 @@ def xor_bytes(a, b):
     nibbles = a.nibbles
     for nibble in b.nibbles.items:
         nibbles = nibbles.with_(nibble)
-    return settled(F(nibbles, xor_tables(over(a, nibbles), over(b, nibbles)), xor(a.rest, b.rest)))
+    return settled(
+        F(nibbles, xor_tables(over(a, nibbles), over(b, nibbles)), xor(a.rest, b.rest))
+    )
 
 
 def xor_tables(a, b):
-    return (int.from_bytes(a, 'big') ^ int.from_bytes(b, 'big')).to_bytes(len(a), 'big')
+    return (int.from_bytes(a, "big") ^ int.from_bytes(b, "big")).to_bytes(len(a), "big")
 
 
 def over(v, nibbles):
     """Returns the values of v, without its rest, for all values of the nibbles."""
     count = len(nibbles.items)
     if isinstance(v, int):
-        return bytes([v]) * 16 ** count
+        return bytes([v]) * 16**count
     if isinstance(v, F):
-        return v.table if v.nibbles is nibbles else spread(
-            v.table, tuple(nibbles.sum_of(nibble) for nibble in v.nibbles.items), count)
+        return (
+            v.table
+            if v.nibbles is nibbles
+            else spread(
+                v.table,
+                tuple(nibbles.sum_of(nibble) for nibble in v.nibbles.items),
+                count,
+            )
+        )
     return spread(bytes(range(256)), (nibbles.sum_of(v),), count)
 
 
 @cache
 def spread(table, sums, count):
     values = []
-    for x in range(16 ** count):
+    for x in range(16**count):
         at = 0
         for i, (c, which) in enumerate(sums):
             total = c
@@ -103,7 +114,7 @@ def recognised(table):
     """Returns the table as (an affine map, a hint or None), or None."""
     whole = tuple(table) if len(table) == 256 else tuple(table) * 16
     try:
-        return Table(whole, [('', range(256))]), None
+        return Table(whole, [("", range(256))]), None
     except Refused:
         pass
     hint = HINTS.get(bytes(v ^ table[0] for v in table))

@@ -6,7 +6,22 @@ code takes it."""
 
 from functools import reduce
 
-from terms import N, V, Known, Refused, and_, bits, flips, input_byte, or_, picked, shl, shr, table_of, zero_cases
+from terms import (
+    N,
+    V,
+    Known,
+    Refused,
+    and_,
+    bits,
+    flips,
+    input_byte,
+    or_,
+    picked,
+    shl,
+    shr,
+    table_of,
+    zero_cases,
+)
 
 
 def byte_of(cell):
@@ -14,7 +29,13 @@ def byte_of(cell):
         return cell
     v, k = cell
     is_byte = not isinstance(v, (V, N)) or k == 0 and bits(v) < 256
-    return v if is_byte else picked(v, 255 << 8 * k, 8 * k) if type(v) is V else and_(shr(v, 8 * k, 64), 255)
+    return (
+        v
+        if is_byte
+        else picked(v, 255 << 8 * k, 8 * k)
+        if type(v) is V
+        else and_(shr(v, 8 * k, 64), 255)
+    )
 
 
 def cell_of(v):
@@ -23,15 +44,19 @@ def cell_of(v):
 
 def cells_of(v, n):
     """Returns the lowest n bytes of a value."""
-    return [v >> 8 * i & 255 for i in range(n)] if isinstance(v, int) else [(v, i) for i in range(n)]
+    return (
+        [v >> 8 * i & 255 for i in range(n)]
+        if isinstance(v, int)
+        else [(v, i) for i in range(n)]
+    )
 
 
 def joined(cells):
     """Returns the little-endian value of these bytes."""
     if type(cells[0]) is int:
         try:
-            return int.from_bytes(cells, 'little')
-        except TypeError:       # not all of them are numbers
+            return int.from_bytes(cells, "little")
+        except TypeError:  # not all of them are numbers
             pass
     parts, i = [], 0
     while i < len(cells):
@@ -41,10 +66,21 @@ def joined(cells):
         else:
             v, k = cell
             if not isinstance(v, (V, N)):
-                raise Refused('a byte that is not an affine map of a byte, its S-box or its inverse S-box')
-            while i + n < len(cells) and isinstance(cell := cells[i + n], tuple) and cell[0] is v and cell[1] == k + n:
+                raise Refused(
+                    "a byte that is not an affine map of a byte, its S-box or its inverse S-box"
+                )
+            while (
+                i + n < len(cells)
+                and isinstance(cell := cells[i + n], tuple)
+                and cell[0] is v
+                and cell[1] == k + n
+            ):
                 n += 1
-            part = v if k == 0 and bits(v) >> 8 * n == 0 else and_(shr(v, 8 * k, 64), (1 << 8 * n) - 1)
+            part = (
+                v
+                if k == 0 and bits(v) >> 8 * n == 0
+                else and_(shr(v, 8 * k, 64), (1 << 8 * n) - 1)
+            )
         parts.append((part, 8 * i))
         i += n
     if i == n:
@@ -70,7 +106,10 @@ class Path:
     def __init__(self, memory, state, before=None):
         self.memory, self.state = memory, state
         self.known, self.excluded, self.forks = (
-            (before.known, before.excluded, before.forks) if before else (Known(), [], []))
+            (before.known, before.excluded, before.forks)
+            if before
+            else (Known(), [], [])
+        )
 
     def fork(self, known, excluded, place):
         other = Path(dict(self.memory), self.state.copy())
@@ -88,22 +127,30 @@ class Path:
             return True
         if any(known.implies(other) for other in self.excluded):
             return False
-        raise Refused('the code did not decide what the standard decides')
+        raise Refused("the code did not decide what the standard decides")
 
     def cases(self, v):
         """Returns (what is known, what is excluded, whether v is not 0) for each way to go on."""
         wanted = True
-        while isinstance(v, N) and (v.op == 'nz' or v.op == 'eqz' and not (
-                isinstance(v.args[0], N) and v.args[0].op == 'ltu')):
-            wanted ^= v.op == 'eqz'
+        while isinstance(v, N) and (
+            v.op == "nz"
+            or v.op == "eqz"
+            and not (isinstance(v.args[0], N) and v.args[0].op == "ltu")
+        ):
+            wanted ^= v.op == "eqz"
             v = v.args[0]
-        zeros = [case for case in zero_cases(v, self.known) if not any(case.implies(other) for other in self.excluded)]
+        zeros = [
+            case
+            for case in zero_cases(v, self.known)
+            if not any(case.implies(other) for other in self.excluded)
+        ]
         if not zeros:
             return [(self.known, self.excluded, wanted)]
         if any(case is self.known for case in zeros):
             return [(self.known, self.excluded, not wanted)]
         return [(self.known, self.excluded + zeros, wanted)] + [
-            (case.closed(), self.excluded, not wanted) for case in reversed(zeros)]
+            (case.closed(), self.excluded, not wanted) for case in reversed(zeros)
+        ]
 
 
 class Machine:
@@ -122,8 +169,8 @@ class Machine:
             cell = memory[i] if i in memory else unwritten.get(i)
             if cell is None:
                 if i not in self.stack:
-                    raise Refused(f'a load at {i:#x}')
-                cell = input_byte('stack', i - self.stack.start), 0
+                    raise Refused(f"a load at {i:#x}")
+                cell = input_byte("stack", i - self.stack.start), 0
             found.append(cell)
         return found
 
@@ -131,7 +178,7 @@ class Machine:
         """Returns the value of n bytes."""
         if not isinstance(address, int):
             found = self.lookup(address, offset, n)
-            if found is not None:       # even if the address is known, since S(T(v)) is v
+            if found is not None:  # even if the address is known, since S(T(v)) is v
                 return found
             address = self.place(path, address)
         return joined(self.cells(path, address + offset, n))
@@ -139,7 +186,11 @@ class Machine:
     def lookup(self, address, offset, n):
         """Returns what is loaded from a table of constants at an index of any value, or None if it is not that."""
         more, w = 0, 64
-        if isinstance(address, N) and address.op == 'add' and isinstance(address.args[1], int):
+        if (
+            isinstance(address, N)
+            and address.op == "add"
+            and isinstance(address.args[1], int)
+        ):
             address, more, w = address.args
         if not isinstance(address, V):
             return None
@@ -148,31 +199,40 @@ class Machine:
         base = (address.c & ~free) + more
         if base >> w != (address.c | free) + more >> w:
             return None
-        base = offset + (base & 2 ** w - 1)
+        base = offset + (base & 2**w - 1)
         if (free >> shift).bit_length() > 8:
             return None
         entries = self.tables.get((base, shift, n))
         if entries is None:
-            constants, places = self.module.constants, [base + (x << shift) for x in range(256)]
+            constants, places = self.module.constants, [
+                base + (x << shift) for x in range(256)
+            ]
             if not all(at + i in constants for at in places for i in range(n)):
                 return None
-            entries = self.tables[base, shift, n] = table_of(tuple(
-                sum(constants[at + i] << 8 * i for i in range(n)) for at in places))
+            entries = self.tables[base, shift, n] = table_of(
+                tuple(
+                    sum(constants[at + i] << 8 * i for i in range(n)) for at in places
+                )
+            )
         self.lookups += 1
         return entries.of(picked(address, 255 << shift & free, shift))
 
     def store(self, path, at, cells):
         memory = path.memory
         for i, cell in enumerate(cells, at):
-            if i not in memory and i not in self.stack and i not in self.module.variables:
-                raise Refused(f'a store at {i:#x}')
+            if (
+                i not in memory
+                and i not in self.stack
+                and i not in self.module.variables
+            ):
+                raise Refused(f"a store at {i:#x}")
             memory[i] = cell
 
     def place(self, path, v):
         """Returns an address or a length, which no input may change."""
         v = path.known.reduced(v)
         if not isinstance(v, int):
-            raise Refused('a secret address or length')
+            raise Refused("a secret address or length")
         return v
 
     def paths(self, path):
@@ -187,4 +247,6 @@ class Machine:
 
     def reached(self, path):
         """Returns the bytes of the stack that the path wrote."""
-        return self.stack.stop - min((at for at in path.memory if at in self.stack), default=self.stack.stop)
+        return self.stack.stop - min(
+            (at for at in path.memory if at in self.stack), default=self.stack.stop
+        )

@@ -21,14 +21,24 @@ def s_box(a):
     b = next((c for c in range(256) if multiply(a, c) == 1), 0)
     result = 0
     for i in range(8):
-        bit = (b >> i) ^ (b >> (i + 4) % 8) ^ (b >> (i + 5) % 8) ^ (b >> (i + 6) % 8) ^ (b >> (i + 7) % 8) ^ (0x63 >> i)
+        bit = (
+            (b >> i)
+            ^ (b >> (i + 4) % 8)
+            ^ (b >> (i + 5) % 8)
+            ^ (b >> (i + 6) % 8)
+            ^ (b >> (i + 7) % 8)
+            ^ (0x63 >> i)
+        )
         result |= (bit & 1) << i
     return result
 
 
 S_BOX = table_of(tuple(s_box(a) for a in range(256)))
 INVERSE_S_BOX = table_of(tuple(S_BOX.entries.index(a) for a in range(256)))
-MULTIPLES = {c: table_of(tuple(multiply(c, a) for a in range(256))) for c in (1, 2, 3, 9, 11, 13, 14)}
+MULTIPLES = {
+    c: table_of(tuple(multiply(c, a) for a in range(256)))
+    for c in (1, 2, 3, 9, 11, 13, 14)
+}
 
 
 def xor_all(first, second):
@@ -37,16 +47,17 @@ def xor_all(first, second):
 
 
 def number(value, size):
-    return list(value.to_bytes(size, 'big'))
+    return list(value.to_bytes(size, "big"))
 
 
 # FIPS 197
+
 
 def key_expansion(key):
     """5.2, algorithm 2: the words w[0] to w[4 Nr + 3]."""
     nk = len(key) // 4
     rounds = {4: 10, 6: 12, 8: 14}[nk]
-    words = [list(key[4 * i:4 * i + 4]) for i in range(nk)]
+    words = [list(key[4 * i : 4 * i + 4]) for i in range(nk)]
     round_constant = 1
     for i in range(nk, 4 * rounds + 4):
         temp = words[i - 1]
@@ -62,6 +73,7 @@ def key_expansion(key):
 
 # 3.4: the state is s[r][c] = in[r + 4c].
 
+
 def add_round_key(state, words):
     return [[xor(state[r][c], words[c][r]) for c in range(4)] for r in range(4)]
 
@@ -72,7 +84,9 @@ def mix(state, coefficients):
     for r in range(4):
         for c in range(4):
             for k in range(4):
-                mixed[r][c] = xor(mixed[r][c], MULTIPLES[coefficients[(k - r) % 4]].of(state[k][c]))
+                mixed[r][c] = xor(
+                    mixed[r][c], MULTIPLES[coefficients[(k - r) % 4]].of(state[k][c])
+                )
     return mixed
 
 
@@ -87,7 +101,7 @@ def cipher(key, block):
         state = [[state[r][(c + r) % 4] for c in range(4)] for r in range(4)]
         if turn < rounds:
             state = mix(state, (2, 3, 1, 1))
-        state = add_round_key(state, words[4 * turn:4 * turn + 4])
+        state = add_round_key(state, words[4 * turn : 4 * turn + 4])
     return [state[i % 4][i // 4] for i in range(16)]
 
 
@@ -96,11 +110,11 @@ def inverse_cipher(key, block):
     words = key_expansion(key)
     rounds = len(words) // 4 - 1
     state = [[block[r + 4 * c] for c in range(4)] for r in range(4)]
-    state = add_round_key(state, words[4 * rounds:])
+    state = add_round_key(state, words[4 * rounds :])
     for turn in range(rounds - 1, -1, -1):
         state = [[state[r][(c - r) % 4] for c in range(4)] for r in range(4)]
         state = [[INVERSE_S_BOX.of(a) for a in row] for row in state]
-        state = add_round_key(state, words[4 * turn:4 * turn + 4])
+        state = add_round_key(state, words[4 * turn : 4 * turn + 4])
         if turn:
             state = mix(state, (14, 11, 13, 9))
     return [state[i % 4][i // 4] for i in range(16)]
@@ -108,9 +122,12 @@ def inverse_cipher(key, block):
 
 # RFC 3394: the first of the two descriptions, where the registers are shifted
 
+
 def wrap(kek, initial_value, key):
     """2.2.1: A[s] | R[s][1] | ... | R[s][n]."""
-    a, registers = list(initial_value), [list(key[i:i + 8]) for i in range(0, len(key), 8)]
+    a, registers = list(initial_value), [
+        list(key[i : i + 8]) for i in range(0, len(key), 8)
+    ]
     for t in range(1, 6 * len(registers) + 1):
         block = cipher(kek, a + registers[0])
         a = xor_all(block[:8], number(t, 8))
@@ -120,7 +137,9 @@ def wrap(kek, initial_value, key):
 
 def unwrap(kek, text):
     """2.2.2: A[0], and R[0][1] | ... | R[0][n]."""
-    a, registers = list(text[:8]), [list(text[i:i + 8]) for i in range(8, len(text), 8)]
+    a, registers = list(text[:8]), [
+        list(text[i : i + 8]) for i in range(8, len(text), 8)
+    ]
     for t in range(6 * len(registers), 0, -1):
         block = inverse_cipher(kek, xor_all(a, number(t, 8)) + registers[-1])
         a, registers = block[:8], [block[8:]] + registers[:-1]
@@ -128,6 +147,7 @@ def unwrap(kek, text):
 
 
 # RFC 5649
+
 
 def alternative_iv(length):
     """3."""
@@ -152,5 +172,7 @@ def unwrap_padded(kek, text):
 
 def accepted(a, padded):
     """3: for each length that the key may have, what must be zero if it has this length."""
-    return {length: xor_all(a, alternative_iv(length)) + padded[length:]
-            for length in range(len(padded) - 7, len(padded) + 1)}
+    return {
+        length: xor_all(a, alternative_iv(length)) + padded[length:]
+        for length in range(len(padded) - 7, len(padded) + 1)
+    }

@@ -14,17 +14,21 @@ that the checker uses is S(T(v)) = T(S(v)) = v.
 from functools import cache, reduce
 from itertools import count
 
-M64 = 2 ** 64 - 1
+M64 = 2**64 - 1
 EACH = sum(1 << 64 * i for i in range(8))
-MASKS = {}                                      # (bits, k): these bits of each column, k bits lower
+MASKS = {}  # (bits, k): these bits of each column, k bits lower
 IDENTITY = sum(1 << 65 * i for i in range(8))
 
 
 class V:
-    __slots__ = ('c', 't', 's')
+    __slots__ = ("c", "t", "s")
 
     def __init__(self, c, t, s=None):
-        self.c, self.t, self.s = c, t, s        # s: flips(self), or None if this was not computed
+        self.c, self.t, self.s = (
+            c,
+            t,
+            s,
+        )  # s: flips(self), or None if this was not computed
 
     def __eq__(self, other):
         return isinstance(other, V) and self.c == other.c and self.t == other.t
@@ -35,14 +39,19 @@ class V:
 
 class N:
     """op(*args). It has no bit above those of `top`."""
-    __slots__ = ('op', 'args', 'top', 'h')
+
+    __slots__ = ("op", "args", "top", "h")
 
     def __init__(self, op, *args, top):
         self.op, self.args, self.top, self.h = op, args, top, None
 
     def __eq__(self, other):
-        return self is other or isinstance(other, N) and hash(self) == hash(other) and (
-            self.op == other.op and self.args == other.args)
+        return (
+            self is other
+            or isinstance(other, N)
+            and hash(self) == hash(other)
+            and (self.op == other.op and self.args == other.args)
+        )
 
     def __hash__(self):
         if self.h is None:
@@ -54,7 +63,13 @@ class N:
 
 
 def show(v):
-    return hex(v) if isinstance(v, int) else f'<{len(v.t)} atoms>' if isinstance(v, V) else repr(v)
+    return (
+        hex(v)
+        if isinstance(v, int)
+        else f"<{len(v.t)} atoms>"
+        if isinstance(v, V)
+        else repr(v)
+    )
 
 
 def form(c, t, s=None):
@@ -83,18 +98,18 @@ def bits(v):
 def least(v):
     """Returns bits that are always 1."""
     if isinstance(v, N):
-        return least(v.args[0]) | least(v.args[1]) if v.op == 'or' else 0
+        return least(v.args[0]) | least(v.args[1]) if v.op == "or" else 0
     return v if isinstance(v, int) else v.c & ~flips(v)
 
 
 # Atoms
 
-ATOMS = {}                      # number: (name, place) of an input byte, or ('S' or 'T', form)
+ATOMS = {}  # number: (name, place) of an input byte, or ('S' or 'T', form)
 _number = count()
-_made = {'S': {}, 'T': {}}      # form: V of the atom
-_inputs = {}                    # (name, place): V
-_shared = {}                    # one object for each matrix
-turns = None                    # the Turns of a call that forgets atoms while it runs
+_made = {"S": {}, "T": {}}  # form: V of the atom
+_inputs = {}  # (name, place): V
+_shared = {}  # one object for each matrix
+turns = None  # the Turns of a call that forgets atoms while it runs
 
 
 def new_atom(kind, what):
@@ -139,13 +154,19 @@ def _field_inverse():
 
 
 def _affine(x):
-    return 0x63 ^ x ^ (x << 1 | x >> 7) & 255 ^ (x << 2 | x >> 6) & 255 ^ (x << 3 | x >> 5) & 255 \
+    return (
+        0x63
+        ^ x
+        ^ (x << 1 | x >> 7) & 255
+        ^ (x << 2 | x >> 6) & 255
+        ^ (x << 3 | x >> 5) & 255
         ^ (x << 4 | x >> 4) & 255
+    )
 
 
 S = [_affine(x) for x in _field_inverse()]
 T = [S.index(x) for x in range(256)]
-TABLES = {'S': S, 'T': T}
+TABLES = {"S": S, "T": T}
 
 
 def substituted(kind, v):
@@ -155,9 +176,9 @@ def substituted(kind, v):
         if isinstance(v, int):
             return TABLES[kind][v]
         if v.c == 0 and len(v.t) == 1:
-            (atom, x), = v.t.items()
+            ((atom, x),) = v.t.items()
             other, argument = ATOMS.get(atom, (None, None))
-            if x == IDENTITY and other == ('T' if kind == 'S' else 'S'):
+            if x == IDENTITY and other == ("T" if kind == "S" else "S"):
                 return argument
     argument = known.argument(kind, v) if known.rows else None
     if argument is not None:
@@ -177,7 +198,7 @@ def substituted(kind, v):
 class Table:
     """A function of a byte: an affine map of the byte, its S or its T. Another function is refused."""
 
-    def __init__(self, entries, kinds=(('', range(256)), ('S', T), ('T', S))):
+    def __init__(self, entries, kinds=(("", range(256)), ("S", T), ("T", S))):
         self.entries = entries
         for self.kind, order in kinds:
             f = [entries[x] for x in order]
@@ -189,7 +210,9 @@ class Table:
             if all(f[x] == self.linear[x] ^ self.c for x in range(256)):
                 self.image = cache(self.image_of)
                 return
-        raise Refused('a table that is not an affine map of a byte, its S-box or its inverse S-box')
+        raise Refused(
+            "a table that is not an affine map of a byte, its S-box or its inverse S-box"
+        )
 
     def of(self, v):
         if isinstance(v, int):
@@ -198,7 +221,9 @@ class Table:
         if isinstance(v, int):
             return self.c ^ self.linear[v]
         image = self.image
-        return form(self.c ^ self.linear[v.c], {a: y for a, x in v.t.items() if (y := image(x))})
+        return form(
+            self.c ^ self.linear[v.c], {a: y for a, x in v.t.items() if (y := image(x))}
+        )
 
     def image_of(self, matrix):
         return sum(self.linear[matrix >> 64 * i & 255] << 64 * i for i in range(8))
@@ -213,6 +238,7 @@ class Refused(Exception):
 
 # Operations
 
+
 def xor(a, b):
     if type(a) is V and type(b) is V:
         return total((b, a) if len(a.t) < len(b.t) else (a, b))
@@ -225,7 +251,7 @@ def xor(a, b):
             return a
         if b == 1 and a.top == 1:
             return eqz(a)
-        return N('xor', a, b, top=(1 << (bits(a) | bits(b)).bit_length()) - 1)
+        return N("xor", a, b, top=(1 << (bits(a) | bits(b)).bit_length()) - 1)
     return V(a.c ^ b, a.t, a.s)
 
 
@@ -264,22 +290,30 @@ def and_(a, b):
             return a
         if bits(a) & b == 0:
             return 0
-        if a.op == 'and' and isinstance(a.args[1], int):
+        if a.op == "and" and isinstance(a.args[1], int):
             return and_(a.args[0], a.args[1] & b)
-        if a.op == 'xor' and isinstance(a.args[1], int) and b == 1:
+        if a.op == "xor" and isinstance(a.args[1], int) and b == 1:
             return xor(and_(a.args[0], 1), a.args[1] & 1)
-        if a.op == 'or' and (0 in (parts := [and_(part, b) for part in a.args]) or b == 1):
+        if a.op == "or" and (
+            0 in (parts := [and_(part, b) for part in a.args]) or b == 1
+        ):
             return or_(*parts)
-    elif bits(a) == 1 < bits(b) or bits(b) == 1 < bits(a):      # the other bits of a register may be anything
+    elif bits(a) == 1 < bits(b) or bits(b) == 1 < bits(
+        a
+    ):  # the other bits of a register may be anything
         return and_(and_(a, 1), and_(b, 1))
-    return a if a == b else N('and', a, b, top=min(bits(a), bits(b)))
+    return a if a == b else N("and", a, b, top=min(bits(a), bits(b)))
 
 
 def picked(v, wanted, k):
     """Returns these bits of an affine form, k bits lower. They have none of the lowest k bits."""
     mask = MASKS.get((wanted, k)) or MASKS.setdefault((wanted, k), wanted * EACH >> k)
     t = {atom: y for atom, x in v.t.items() if (y := x >> k & mask)}
-    return V((v.c & wanted) >> k, t, None if v.s is None else (v.s & wanted) >> k) if t else (v.c & wanted) >> k
+    return (
+        V((v.c & wanted) >> k, t, None if v.s is None else (v.s & wanted) >> k)
+        if t
+        else (v.c & wanted) >> k
+    )
 
 
 def or_(a, b):
@@ -295,44 +329,50 @@ def or_(a, b):
     for one, other in (a, b), (b, a):
         if bits(one) & ~least(other) == 0:
             return other
-    return a if a == b else N('or', a, b, top=bits(a) | bits(b))
+    return a if a == b else N("or", a, b, top=bits(a) | bits(b))
 
 
 def shl(a, k, w):
     if not isinstance(k, int):
-        return N('shl', a, k, w, top=2 ** w - 1)
+        return N("shl", a, k, w, top=2**w - 1)
     k %= w
     if isinstance(a, int):
-        return a << k & 2 ** w - 1
+        return a << k & 2**w - 1
     a = and_(a, (1 << w - k) - 1)
     if isinstance(a, N):
-        return a if k == 0 else N('shl', a, k, w, top=a.top << k)
+        return a if k == 0 else N("shl", a, k, w, top=a.top << k)
     if k == 0 or isinstance(a, int):
         return a << k if k else a
-    return V(a.c << k, {atom: x << k for atom, x in a.t.items()}, None if a.s is None else a.s << k)
+    return V(
+        a.c << k,
+        {atom: x << k for atom, x in a.t.items()},
+        None if a.s is None else a.s << k,
+    )
 
 
 def shr(a, k, w):
     if not isinstance(k, int):
-        return N('shr', a, k, w, top=bits(a))
+        return N("shr", a, k, w, top=bits(a))
     k %= w
     if isinstance(a, int):
         return a >> k
     if isinstance(a, N):
-        if a.op == 'or' and 0 in (parts := [shr(part, k, w) for part in a.args]):
+        if a.op == "or" and 0 in (parts := [shr(part, k, w) for part in a.args]):
             return or_(*parts)
-        return 0 if a.top >> k == 0 else a if k == 0 else N('shr', a, k, w, top=a.top >> k)
+        return (
+            0 if a.top >> k == 0 else a if k == 0 else N("shr", a, k, w, top=a.top >> k)
+        )
     return picked(a, (1 << w) - (1 << k), k) if k else and_(a, (1 << w) - 1)
 
 
 def rotl(a, k, w):
     if not isinstance(k, int):
-        raise Refused('a rotation by a secret')
+        raise Refused("a rotation by a secret")
     k %= w
     if type(a) is not V or k == 0:
         return or_(shl(a, k, w), shr(a, -k, w)) if k else a
     high, low = ((1 << w) - (1 << k)) * EACH, ((1 << k) - 1) * EACH
-    c = (a.c << k | a.c >> w - k) & 2 ** w - 1
+    c = (a.c << k | a.c >> w - k) & 2**w - 1
     return V(c, {atom: x << k & high | x >> w - k & low for atom, x in a.t.items()})
 
 
@@ -343,13 +383,18 @@ def rotr(a, k, w):
 def bswap(a, w):
     """Returns the bytes in reverse order."""
     if isinstance(a, N):
-        if a.op == 'bswap' and a.args[1] == w:
+        if a.op == "bswap" and a.args[1] == w:
             return a.args[0]
-        if a.op == 'or':
+        if a.op == "or":
             return or_(*(bswap(part, w) for part in a.args))
-        if a.op == 'shl' and isinstance(k := a.args[1], int) and k % 8 == 0 and bits(a.args[0]) >> w - k == 0:
+        if (
+            a.op == "shl"
+            and isinstance(k := a.args[1], int)
+            and k % 8 == 0
+            and bits(a.args[0]) >> w - k == 0
+        ):
             return bswap(a.args[0], w - k)
-        return N('bswap', a, w, top=2 ** w - 1)
+        return N("bswap", a, w, top=2**w - 1)
     total = 0
     for k in range(0, w, 8):
         total = or_(total, shl(and_(shr(a, k, 64), 255), w - 8 - k, 64))
@@ -358,49 +403,56 @@ def bswap(a, w):
 
 def add(a, b, w):
     if isinstance(a, int) and isinstance(b, int):
-        return a + b & 2 ** w - 1
+        return a + b & 2**w - 1
     a, b = (b, a) if isinstance(a, int) else (a, b)
-    if isinstance(b, int) and isinstance(a, N) and a.op == 'add' and isinstance(a.args[1], int):
+    if (
+        isinstance(b, int)
+        and isinstance(a, N)
+        and a.op == "add"
+        and isinstance(a.args[1], int)
+    ):
         inner, c, v = a.args
-        if v == w or bits(inner) + c < 2 ** v:
-            return add(inner, b + c & 2 ** w - 1, w)
+        if v == w or bits(inner) + c < 2**v:
+            return add(inner, b + c & 2**w - 1, w)
     if bits(a) & bits(b) == 0:
         return or_(a, b)
-    return N('add', a, b, w, top=min(bits(a) + bits(b), 2 ** w - 1))
+    return N("add", a, b, w, top=min(bits(a) + bits(b), 2**w - 1))
 
 
 def sub(a, b, w):
     if isinstance(a, int) and isinstance(b, int):
-        return a - b & 2 ** w - 1
+        return a - b & 2**w - 1
     if isinstance(b, int):
-        return add(a, -b & 2 ** w - 1, w)
-    return 0 if a == b else N('sub', a, b, w, top=2 ** w - 1)
+        return add(a, -b & 2**w - 1, w)
+    return 0 if a == b else N("sub", a, b, w, top=2**w - 1)
 
 
 def mul(a, b, w):
     if isinstance(a, int) and isinstance(b, int):
-        return a * b & 2 ** w - 1
+        return a * b & 2**w - 1
     if isinstance(a, int):
         a, b = b, a
     if isinstance(b, int) and b & b - 1 == 0:
         return shl(a, b.bit_length() - 1, w) if b else 0
-    return N('mul', a, b, w, top=2 ** w - 1)
+    return N("mul", a, b, w, top=2**w - 1)
 
 
 def nz(a):
     if isinstance(a, int):
         return int(a != 0)
-    return 1 if least(a) else a if isinstance(a, N) and a.top == 1 else N('nz', a, top=1)
+    return (
+        1 if least(a) else a if isinstance(a, N) and a.top == 1 else N("nz", a, top=1)
+    )
 
 
 def eqz(a):
     if isinstance(a, int):
         return int(a == 0)
-    if isinstance(a, N) and a.op == 'eqz':
+    if isinstance(a, N) and a.op == "eqz":
         return nz(a.args[0])
-    if isinstance(a, N) and a.op == 'nz':
+    if isinstance(a, N) and a.op == "nz":
         return eqz(a.args[0])
-    return 0 if least(a) else N('eqz', a, top=1)
+    return 0 if least(a) else N("eqz", a, top=1)
 
 
 def ne(a, b):
@@ -414,26 +466,42 @@ def eq(a, b):
 def ltu(a, b):
     if bits(a) < least(b):
         return 1
-    return 0 if least(a) >= bits(b) else N('ltu', a, b, top=1)
+    return 0 if least(a) >= bits(b) else N("ltu", a, b, top=1)
 
 
 def ite(c, a, b):
     if isinstance(c, int):
         return a if c else b
-    return a if a == b else N('ite', c, a, b, top=bits(a) | bits(b))
+    return a if a == b else N("ite", c, a, b, top=bits(a) | bits(b))
 
 
-OPS = {'xor': xor, 'and': and_, 'or': or_, 'shl': shl, 'shr': shr, 'add': add, 'sub': sub, 'mul': mul,
-       'bswap': bswap, 'nz': nz, 'eqz': eqz, 'ltu': ltu, 'ite': ite}
+OPS = {
+    "xor": xor,
+    "and": and_,
+    "or": or_,
+    "shl": shl,
+    "shr": shr,
+    "add": add,
+    "sub": sub,
+    "mul": mul,
+    "bswap": bswap,
+    "nz": nz,
+    "eqz": eqz,
+    "ltu": ltu,
+    "ite": ite,
+}
 
 
 # What is known on a path
+
 
 class Known:
     """Solved linear equations over the bits of atoms: each pivot bit is a sum of other bits. The form is canonical."""
 
     def __init__(self, rows=()):
-        self.rows = dict(rows)      # pivot: (frozenset of other bits, constant); a bit is (atom, number)
+        self.rows = dict(
+            rows
+        )  # pivot: (frozenset of other bits, constant); a bit is (atom, number)
         self.pivots = {}
         for atom, i in self.rows:
             self.pivots.setdefault(atom, []).append(i)
@@ -441,7 +509,7 @@ class Known:
 
     def closed(self):
         """Returns the equations with those that follow for existing atoms: if T(x) = v, then S(v) = x."""
-        self.argument('S', 0)
+        self.argument("S", 0)
         for (kind, v), x in self.arguments.items():
             made = None if isinstance(v, int) else _made[kind].get(v)
             if made is not None and (*made.t, 0) not in self.rows:
@@ -457,7 +525,10 @@ class Known:
             for atom in self.pivots:
                 other, x = ATOMS.get(atom, (None, None))
                 if other in TABLES:
-                    self.arguments['T' if other == 'S' else 'S', self.reduced(V(0, {atom: IDENTITY}))] = x
+                    self.arguments[
+                        "T" if other == "S" else "S",
+                        self.reduced(V(0, {atom: IDENTITY})),
+                    ] = x
         return self.arguments.get((kind, v)) if self.arguments else None
 
     def reduced(self, v):
@@ -485,14 +556,15 @@ class Known:
 
     def rewritten(self, v):
         """Returns the value with arguments of S and T that are reduced, too. An atom that is older than an equation has
-        its argument as it was before. This is what is known now, and `self` is Known.now."""
+        its argument as it was before. This is what is known now, and `self` is Known.now.
+        """
         waiting, met = list(v.t) if isinstance(v, V) else [], {}
         while waiting:
             atom = waiting.pop()
             if atom not in self.images and atom not in met:
                 kind, x = met[atom] = ATOMS.get(atom, (None, 0))
                 waiting += x.t if kind in TABLES else ()
-        for atom in sorted(met):                # the argument of an atom is older
+        for atom in sorted(met):  # the argument of an atom is older
             kind, x = met[atom]
             image = substituted(kind, self.replaced(x)) if kind in TABLES else None
             self.images[atom] = None if image == V(0, {atom: IDENTITY}) else image
@@ -500,9 +572,15 @@ class Known:
 
     def replaced(self, v):
         """Returns the value with the images of its atoms."""
-        changed = [atom for atom in v.t if self.images[atom] is not None] if isinstance(v, V) else ()
+        changed = (
+            [atom for atom in v.t if self.images[atom] is not None]
+            if isinstance(v, V)
+            else ()
+        )
         for atom in changed:
-            v = xor(v, xor(V(0, {atom: v.t[atom]}), product(v.t[atom], self.images[atom])))
+            v = xor(
+                v, xor(V(0, {atom: v.t[atom]}), product(v.t[atom], self.images[atom]))
+            )
         return v
 
     def with_zero(self, v):
@@ -539,23 +617,30 @@ class Known:
         return Known(rows)
 
     def implies(self, other):
-        return all(self.reduced(V(c, _columns([pivot, *others]))) == 0
-                   for pivot, (others, c) in other.rows.items())
+        return all(
+            self.reduced(V(c, _columns([pivot, *others]))) == 0
+            for pivot, (others, c) in other.rows.items()
+        )
 
 
-Known.now = Known()     # what is known on the path that is followed now
+Known.now = Known()  # what is known on the path that is followed now
 
 
 def product(matrix, v):
     """Returns a matrix times a byte."""
+
     def times(byte):
         total = 0
         for i in range(8):
             total ^= matrix >> 64 * i & M64 if byte >> i & 1 else 0
         return total
+
     if isinstance(v, int):
         return times(v)
-    columns = {atom: sum(times(x >> 64 * i & 255) << 64 * i for i in range(8)) for atom, x in v.t.items()}
+    columns = {
+        atom: sum(times(x >> 64 * i & 255) << 64 * i for i in range(8))
+        for atom, x in v.t.items()
+    }
     return form(times(v.c), {atom: y for atom, y in columns.items() if y})
 
 
@@ -569,7 +654,7 @@ def _columns(ones):
 def fits(v, w):
     """Returns v, which must have at most w bits."""
     if bits(v) >> w:
-        raise Refused(f'a number of more than {w} bits: {show(v)[:200]}')
+        raise Refused(f"a number of more than {w} bits: {show(v)[:200]}")
     return v
 
 
@@ -582,37 +667,57 @@ def zero_cases(v, known):
         more = known.with_zero(v)
         return [more] if more else []
     a, *rest = v.args
-    if v.op == 'nz' or v.op == 'shl' and isinstance(rest[0], int):     # no bit is shifted out
+    if (
+        v.op == "nz" or v.op == "shl" and isinstance(rest[0], int)
+    ):  # no bit is shifted out
         return zero_cases(a, known)
-    if v.op == 'eqz' and isinstance(a, N) and a.op == 'ltu':
+    if v.op == "eqz" and isinstance(a, N) and a.op == "ltu":
         return less_cases(*a.args, known)
-    if v.op == 'or':
+    if v.op == "or":
         try:
-            return [two for one in zero_cases(a, known) for two in zero_cases(rest[0], one)]
+            return [
+                two for one in zero_cases(a, known) for two in zero_cases(rest[0], one)
+            ]
         except Refused:
-            return [two for one in zero_cases(rest[0], known) for two in zero_cases(a, one)]
-    if v.op == 'xor' and isinstance(rest[0], int) and isinstance(a, N) and a.op == 'add' and isinstance(a.args[1], int):
+            return [
+                two for one in zero_cases(rest[0], known) for two in zero_cases(a, one)
+            ]
+    if (
+        v.op == "xor"
+        and isinstance(rest[0], int)
+        and isinstance(a, N)
+        and a.op == "add"
+        and isinstance(a.args[1], int)
+    ):
         x, c, w = a.args
-        return zero_cases(xor(fits(x, w), rest[0] - c & 2 ** w - 1), known) if rest[0] >> w == 0 else []
-    if v.op == 'and' and bits(a) | bits(rest[0]) == 1:
+        return (
+            zero_cases(xor(fits(x, w), rest[0] - c & 2**w - 1), known)
+            if rest[0] >> w == 0
+            else []
+        )
+    if v.op == "and" and bits(a) | bits(rest[0]) == 1:
         return zero_cases(a, known) + zero_cases(rest[0], known)
-    if v.op == 'shr' and isinstance(rest[0], int) and rest[0] < 8:
+    if v.op == "shr" and isinstance(rest[0], int) and rest[0] < 8:
         return less_cases(a, 1 << rest[0], known)
-    if v.op in ('add', 'sub'):
+    if v.op in ("add", "sub"):
         return less_cases(v, 1, known)
-    raise Refused(f'a decision over {show(v)[:200]}')
+    raise Refused(f"a decision over {show(v)[:200]}")
 
 
 def less_cases(v, limit, known):
     """Returns systems of equations. For an input for which `known` holds, v < limit if and only if one holds."""
     if isinstance(v, N) and isinstance(limit, int) and limit <= 256:
         a, b, *w = v.args
-        if v.op == 'sub' and isinstance(a, int):
+        if v.op == "sub" and isinstance(a, int):
             values = [(b, a - i & 2 ** w[0] - 1) for i in range(limit)]
-        elif v.op == 'add' and (isinstance(a, int) or isinstance(b, int)):
+        elif v.op == "add" and (isinstance(a, int) or isinstance(b, int)):
             a, b = (b, a) if isinstance(a, int) else (a, b)
             values = [(a, i - b & 2 ** w[0] - 1) for i in range(limit)]
         else:
-            raise Refused(f'a decision over {show(v)[:200]}')
-        return [case for x, value in values for case in zero_cases(xor(fits(x, w[0]), value), known)]
-    raise Refused(f'a decision over {show(v)[:200]} < {limit}')
+            raise Refused(f"a decision over {show(v)[:200]}")
+        return [
+            case
+            for x, value in values
+            for case in zero_cases(xor(fits(x, w[0]), value), known)
+        ]
+    raise Refused(f"a decision over {show(v)[:200]} < {limit}")

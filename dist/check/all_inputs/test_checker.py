@@ -44,8 +44,11 @@ def at(numbers):
     def atom(a):
         if a not in known:
             kind, v = ATOMS[a]
-            known[a] = TABLES[kind][value(v, atom)] if kind in TABLES else numbers[kind, v]
+            known[a] = (
+                TABLES[kind][value(v, atom)] if kind in TABLES else numbers[kind, v]
+            )
         return known[a]
+
     return atom
 
 
@@ -53,31 +56,71 @@ def operations(count):
     random.seed(1)
     for _ in range(count):
         terms.forget()
-        pool = [fresh('x', i) for i in range(4)] + [random.getrandbits(64), 255, 0xFF00, 1, 8, 0]
+        pool = [fresh("x", i) for i in range(4)] + [
+            random.getrandbits(64),
+            255,
+            0xFF00,
+            1,
+            8,
+            0,
+        ]
         for _ in range(30):
-            op = random.choice(['xor', 'and', 'or', 'shl', 'shr', 'add', 'sub', 'mul', 'nz', 'eqz', 'ltu', 'ite',
-                                'rotl', 'sbox'])
+            op = random.choice(
+                [
+                    "xor",
+                    "and",
+                    "or",
+                    "shl",
+                    "shr",
+                    "add",
+                    "sub",
+                    "mul",
+                    "nz",
+                    "eqz",
+                    "ltu",
+                    "ite",
+                    "rotl",
+                    "sbox",
+                ]
+            )
             a, b, c = (random.choice(pool) for _ in range(3))
             k = random.randrange(64)
             width = 64
-            points = [at({('x', i): random.randrange(256) for i in range(4)}) for _ in range(3)]
-            if op == 'sbox':
+            points = [
+                at({("x", i): random.randrange(256) for i in range(4)})
+                for _ in range(3)
+            ]
+            if op == "sbox":
                 a = terms.and_(a, 255)
                 if isinstance(a, N):
                     continue
-                kind = random.choice('ST')
+                kind = random.choice("ST")
                 got = terms.substituted(kind, a)
                 want = [TABLES[kind][value(a, p)] for p in points]
             else:
-                args = {'xor': (a, b), 'and': (a, b), 'or': (a, b), 'shl': (a, k, width), 'shr': (a, k, width),
-                        'add': (a, b, width), 'sub': (a, b, width), 'mul': (a, b, width), 'nz': (a,),
-                        'eqz': (a,), 'ltu': (a, b), 'ite': (terms.nz(c), a, b), 'rotl': (a, k, width)}[op]
-                function = terms.rotl if op == 'rotl' else terms.OPS[op]
+                args = {
+                    "xor": (a, b),
+                    "and": (a, b),
+                    "or": (a, b),
+                    "shl": (a, k, width),
+                    "shr": (a, k, width),
+                    "add": (a, b, width),
+                    "sub": (a, b, width),
+                    "mul": (a, b, width),
+                    "nz": (a,),
+                    "eqz": (a,),
+                    "ltu": (a, b),
+                    "ite": (terms.nz(c), a, b),
+                    "rotl": (a, k, width),
+                }[op]
+                function = terms.rotl if op == "rotl" else terms.OPS[op]
                 got = function(*args)
                 want = [function(*(value(v, p) for v in args)) for p in points]
             assert [value(got, p) for p in points] == want, (op, a, b, k)
             for p in points:
-                assert value(got, p) & ~terms.bits(got) == 0 and value(got, p) & terms.least(got) == terms.least(got)
+                assert value(got, p) & ~terms.bits(got) == 0 and value(
+                    got, p
+                ) & terms.least(got) == terms.least(got)
             pool.append(got)
 
 
@@ -86,44 +129,74 @@ def systems(count):
     random.seed(2)
     for _ in range(count):
         terms.forget()
-        pool = [fresh('x', i) for i in range(2)]
+        pool = [fresh("x", i) for i in range(2)]
         for _ in range(8):
             a, b = random.choice(pool), random.choice(pool)
-            pool.append(random.choice([terms.xor(a, b), terms.xor(a, random.randrange(256)),
-                                       terms.substituted(random.choice('ST'), a),
-                                       terms.and_(terms.shr(a, 1, 8), 0x7F), terms.shl(a, 1, 8)]))
+            pool.append(
+                random.choice(
+                    [
+                        terms.xor(a, b),
+                        terms.xor(a, random.randrange(256)),
+                        terms.substituted(random.choice("ST"), a),
+                        terms.and_(terms.shr(a, 1, 8), 0x7F),
+                        terms.shl(a, 1, 8),
+                    ]
+                )
+            )
         known, zeros = terms.Known(), []
         for _ in range(2):
             zero = terms.and_(random.choice(pool), random.choice([1, 3, 0x81]))
             more = known.with_zero(zero)
             zeros.append(zero)
-            holds = [p for p in (at({('x', 0): x, ('x', 1): y}) for x in range(0, 256, 5) for y in range(0, 256, 3))
-                     if all(value(z, p) == 0 for z in zeros)]
+            holds = [
+                p
+                for p in (
+                    at({("x", 0): x, ("x", 1): y})
+                    for x in range(0, 256, 5)
+                    for y in range(0, 256, 3)
+                )
+                if all(value(z, p) == 0 for z in zeros)
+            ]
             if more is None:
                 assert not holds
                 break
             known = more
             Known.now, some = known, holds[::25]
             for v in pool:
-                assert all(value(w, p) == value(v, p) for w in (known.reduced(v), known.rewritten(v)) for p in some)
+                assert all(
+                    value(w, p) == value(v, p)
+                    for w in (known.reduced(v), known.rewritten(v))
+                    for p in some
+                )
             Known.now = Known()
 
 
 def vectors():
     h = lambda text: list(bytes.fromhex(text))
-    block = h('00112233445566778899aabbccddeeff')
-    for n, text in ((16, '69c4e0d86a7b0430d8cdb78070b4c55a'), (24, 'dda97ca4864cdfe06eaf70a0ec0d7191'),
-                    (32, '8ea2b7ca516745bfeafc49904b496089')):
+    block = h("00112233445566778899aabbccddeeff")
+    for n, text in (
+        (16, "69c4e0d86a7b0430d8cdb78070b4c55a"),
+        (24, "dda97ca4864cdfe06eaf70a0ec0d7191"),
+        (32, "8ea2b7ca516745bfeafc49904b496089"),
+    ):
         w = standard.key_expansion(list(range(n)))
-        assert standard.cipher(w, block) == h(text) and standard.inv_cipher(w, h(text)) == block
-    key = h('00112233445566778899AABBCCDDEEFF000102030405060708090A0B0C0D0E0F')
-    text = h('28C9F404C4B810F4CBCCB35CFB87F8263F5786E2D80ED326CBC7F0E71A99F43BFB988B9B7A02DD21')
+        assert (
+            standard.cipher(w, block) == h(text)
+            and standard.inv_cipher(w, h(text)) == block
+        )
+    key = h("00112233445566778899AABBCCDDEEFF000102030405060708090A0B0C0D0E0F")
+    text = h(
+        "28C9F404C4B810F4CBCCB35CFB87F8263F5786E2D80ED326CBC7F0E71A99F43BFB988B9B7A02DD21"
+    )
     assert standard.wrapped(list(range(32)), key) == text
     assert standard.unwrap_process(list(range(32)), text) == (standard.DEFAULT_IV, key)
-    kek = h('5840df6e29b02af1ab493b705bf16ea1ae8338f4dcc176a8')
-    assert standard.wrapped_padded(kek, h('c37b7e6492584340bed12207808941155068f738')) == h(
-        '138bdeaa9b8fa7fc61f97742e72248ee5ae6ae5360d1ae6a5f54f373fa543b6a')
-    assert standard.wrapped_padded(kek, h('466f7250617369')) == h('afbeb0f07dfbf5419200f2ccb50bb24f')
+    kek = h("5840df6e29b02af1ab493b705bf16ea1ae8338f4dcc176a8")
+    assert standard.wrapped_padded(
+        kek, h("c37b7e6492584340bed12207808941155068f738")
+    ) == h("138bdeaa9b8fa7fc61f97742e72248ee5ae6ae5360d1ae6a5f54f373fa543b6a")
+    assert standard.wrapped_padded(kek, h("466f7250617369")) == h(
+        "afbeb0f07dfbf5419200f2ccb50bb24f"
+    )
 
 
 def decisions(count):
@@ -132,16 +205,33 @@ def decisions(count):
     decided = 0
     for _ in range(count):
         terms.forget()
-        x, y = fresh('x'), fresh('y')
+        x, y = fresh("x"), fresh("y")
         wide = terms.or_(x, terms.shl(y, 8, 64))
-        pool = [x, y, wide, terms.xor(x, y), terms.substituted('S', x)]
+        pool = [x, y, wide, terms.xor(x, y), terms.substituted("S", x)]
         for _ in range(4):
-            a, b, k = random.choice(pool), random.choice(pool), random.choice([0, 1, 7, 8, 255, 256, 2 ** 32 - 8])
+            a, b, k = (
+                random.choice(pool),
+                random.choice(pool),
+                random.choice([0, 1, 7, 8, 255, 256, 2**32 - 8]),
+            )
             w = random.choice([32, 64])
-            pool.append(random.choice([
-                lambda: terms.sub(k, a, w), lambda: terms.add(a, k, w), lambda: terms.or_(a, b), lambda: terms.nz(a),
-                lambda: terms.eqz(a), lambda: terms.and_(a, b), lambda: terms.xor(a, k), lambda: terms.shr(a, 3, w),
-                lambda: terms.ltu(a, k), lambda: terms.shl(a, 8, w), lambda: terms.sub(a, b, w)])())
+            pool.append(
+                random.choice(
+                    [
+                        lambda: terms.sub(k, a, w),
+                        lambda: terms.add(a, k, w),
+                        lambda: terms.or_(a, b),
+                        lambda: terms.nz(a),
+                        lambda: terms.eqz(a),
+                        lambda: terms.and_(a, b),
+                        lambda: terms.xor(a, k),
+                        lambda: terms.shr(a, 3, w),
+                        lambda: terms.ltu(a, k),
+                        lambda: terms.shl(a, 8, w),
+                        lambda: terms.sub(a, b, w),
+                    ]
+                )()
+            )
         for v in pool[5:]:
             try:
                 cases = terms.zero_cases(v, Known())
@@ -149,9 +239,15 @@ def decisions(count):
                 continue
             decided += 1
             for i, j in itertools.product(range(0, 256, 15), range(0, 256, 17)):
-                p = at({('x', 0): i, ('y', 0): j})
-                holds = any(all(sum(p(atom) >> bit & 1 for atom, bit in (pivot, *others)) % 2 == c
-                                for pivot, (others, c) in case.rows.items()) for case in cases)
+                p = at({("x", 0): i, ("y", 0): j})
+                holds = any(
+                    all(
+                        sum(p(atom) >> bit & 1 for atom, bit in (pivot, *others)) % 2
+                        == c
+                        for pivot, (others, c) in case.rows.items()
+                    )
+                    for case in cases
+                )
                 assert holds == (value(v, p) == 0), (v, i, j)
     assert decided > count
 
@@ -160,15 +256,21 @@ def two_standards():
     """standard.py and second.py are equal for bytes of any value."""
     for kek_len, n in itertools.product((16, 24, 32), (1, 7, 8, 9, 16, 24)):
         terms.forget()
-        kek, key, iv, text = (any_bytes(name, k) for name, k in zip(
-            ('kek', 'key', 'iv', 'text'), (kek_len, n, 8, -(-n // 8) * 8 + 8)))
+        kek, key, iv, text = (
+            any_bytes(name, k)
+            for name, k in zip(
+                ("kek", "key", "iv", "text"), (kek_len, n, 8, -(-n // 8) * 8 + 8)
+            )
+        )
         assert standard.wrapped_padded(kek, key) == second.wrap_padded(kek, key)
         if n % 8:
             continue
         a, padded = opened = standard.unwrap_process(kek, text)
         assert opened == second.unwrap_padded(kek, text)
         asked = []
-        standard.padded_length(a, padded, asked.append)     # None is returned, so it asks for every length
+        standard.padded_length(
+            a, padded, asked.append
+        )  # None is returned, so it asks for every length
         assert asked == list(second.accepted(a, padded).values())
         if n > 8:
             assert standard.wrapped(kek, key, iv) == second.wrap(kek, iv, key)
@@ -182,147 +284,274 @@ def two_standards():
 def older_atoms():
     """A value that was made before an equation was known is rewritten to the one that is made afterwards."""
     terms.forget()
-    x, y, z = (fresh(name) for name in 'xyz')
-    before = terms.substituted('T', terms.xor(terms.substituted('S', terms.xor(terms.substituted('S', x), y)), z))
+    x, y, z = (fresh(name) for name in "xyz")
+    before = terms.substituted(
+        "T",
+        terms.xor(terms.substituted("S", terms.xor(terms.substituted("S", x), y)), z),
+    )
     Known.now = Known().with_zero(terms.xor(x, terms.xor(z, 7)))
-    after = terms.substituted('T', terms.xor(terms.substituted('S', terms.xor(
-        terms.substituted('S', terms.xor(z, 7)), y)), z))
-    assert Known.now.reduced(before) != after == Known.now.rewritten(before) == Known.now.rewritten(after)
-    p = at({('x', 0): 1 ^ 7, ('y', 0): 2, ('z', 0): 1})
+    after = terms.substituted(
+        "T",
+        terms.xor(
+            terms.substituted(
+                "S", terms.xor(terms.substituted("S", terms.xor(z, 7)), y)
+            ),
+            z,
+        ),
+    )
+    assert (
+        Known.now.reduced(before)
+        != after
+        == Known.now.rewritten(before)
+        == Known.now.rewritten(after)
+    )
+    p = at({("x", 0): 1 ^ 7, ("y", 0): 2, ("z", 0): 1})
     assert value(before, p) == value(after, p)
-    assert Known.now.rewritten(terms.xor(before, x)) == terms.xor(after, Known.now.reduced(x))
+    assert Known.now.rewritten(terms.xor(before, x)) == terms.xor(
+        after, Known.now.reduced(x)
+    )
     # If T(x + 5) = z + 3, then S(z + 3) = x + 5.
     Known.now = Known()
-    before = terms.substituted('T', terms.xor(terms.substituted('S', terms.xor(z, 3)), y))
-    Known.now = Known().with_zero(terms.xor(terms.substituted('T', terms.xor(x, 5)), terms.xor(z, 3)))
-    assert Known.now.rewritten(before) == terms.substituted('T', terms.xor(terms.xor(x, 5), y))
+    before = terms.substituted(
+        "T", terms.xor(terms.substituted("S", terms.xor(z, 3)), y)
+    )
+    Known.now = Known().with_zero(
+        terms.xor(terms.substituted("T", terms.xor(x, 5)), terms.xor(z, 3))
+    )
+    assert Known.now.rewritten(before) == terms.substituted(
+        "T", terms.xor(terms.xor(x, 5), y)
+    )
     Known.now = Known()
     # Two equations imply each of them, and one does not imply both.
-    one, both = Known().with_zero(x), Known().with_zero(terms.or_(x, terms.shl(y, 8, 64)))
+    one, both = Known().with_zero(x), Known().with_zero(
+        terms.or_(x, terms.shl(y, 8, 64))
+    )
     assert both.implies(one) and not one.implies(both)
 
 
-GENERAL = ['rax', 'rcx', 'rdx', 'rbx', 'rbp', 'rsi', 'rdi', *(f'r{n}' for n in range(8, 16))]
-FLAGS = {'b': 1 << 0, 'e': 1 << 6, 's': 1 << 7, 'o': 1 << 11}
-USES_FLAGS = re.compile('set|cmov|adc|sbb')
+GENERAL = [
+    "rax",
+    "rcx",
+    "rdx",
+    "rbx",
+    "rbp",
+    "rsi",
+    "rdi",
+    *(f"r{n}" for n in range(8, 16)),
+]
+FLAGS = {"b": 1 << 0, "e": 1 << 6, "s": 1 << 7, "o": 1 << 11}
+USES_FLAGS = re.compile("set|cmov|adc|sbb")
 
 
 class State(ctypes.Structure):
-    _fields_ = [('general', ctypes.c_uint64 * 15), ('flags', ctypes.c_uint64), ('xmm', ctypes.c_uint8 * 256)]
+    _fields_ = [
+        ("general", ctypes.c_uint64 * 15),
+        ("flags", ctypes.c_uint64),
+        ("xmm", ctypes.c_uint8 * 256),
+    ]
 
 
 def stub(i, lines):
     """Returns a function that loads all registers, runs these lines, and stores all registers and the flags."""
-    load = [f'mov {name},[rdi+{8 * k}]' for k, name in enumerate(GENERAL) if name != 'rdi']
-    store = [f'mov [rdi+{8 * k}],{name}' for k, name in enumerate(GENERAL) if name != 'rdi']
-    saved = ['rbx', 'rbp', 'r12', 'r13', 'r14', 'r15']
-    return '\n'.join([f'.globl f{i}', f'f{i}:', *(f'push {name}' for name in saved), 'push rdi',
-                      *(f'movups xmm{k},[rdi+{128 + 16 * k}]' for k in range(16)), *load, 'mov rdi,[rdi+48]',
-                      *lines, 'xchg rdi,[rsp]', *store, 'pushfq', 'pop rax', 'mov [rdi+120],rax', 'pop rax',
-                      'mov [rdi+48],rax', *(f'movups [rdi+{128 + 16 * k}],xmm{k}' for k in range(16)),
-                      *(f'pop {name}' for name in saved[::-1]), 'ret', ''])
+    load = [
+        f"mov {name},[rdi+{8 * k}]" for k, name in enumerate(GENERAL) if name != "rdi"
+    ]
+    store = [
+        f"mov [rdi+{8 * k}],{name}" for k, name in enumerate(GENERAL) if name != "rdi"
+    ]
+    saved = ["rbx", "rbp", "r12", "r13", "r14", "r15"]
+    return "\n".join(
+        [
+            f".globl f{i}",
+            f"f{i}:",
+            *(f"push {name}" for name in saved),
+            "push rdi",
+            *(f"movups xmm{k},[rdi+{128 + 16 * k}]" for k in range(16)),
+            *load,
+            "mov rdi,[rdi+48]",
+            *lines,
+            "xchg rdi,[rsp]",
+            *store,
+            "pushfq",
+            "pop rax",
+            "mov [rdi+120],rax",
+            "pop rax",
+            "mov [rdi+48],rax",
+            *(f"movups [rdi+{128 + 16 * k}],xmm{k}" for k in range(16)),
+            *(f"pop {name}" for name in saved[::-1]),
+            "ret",
+            "",
+        ]
+    )
 
 
 def aimed(operand, state, middle):
     """Sets registers so that the operand is in the middle of the room. Returns False if this is not possible."""
     base, index = ([*operand.parts, None, None])[:2]
-    if base is None or base[1] != 1 or index and index[0] == base[0] or abs(operand.offset) > 1 << 40:
+    if (
+        base is None
+        or base[1] != 1
+        or index
+        and index[0] == base[0]
+        or abs(operand.offset) > 1 << 40
+    ):
         return False
     inside = 0
     if index:
         state.general[GENERAL.index(index[0])] &= 7
         inside = (state.general[GENERAL.index(index[0])]) * index[1]
-    state.general[GENERAL.index(base[0])] = middle - inside - operand.offset & (1 << 64) - 1
+    state.general[GENERAL.index(base[0])] = (
+        middle - inside - operand.offset & (1 << 64) - 1
+    )
     return True
 
 
 def instructions(module, file, directory):
     """Compares each distinct instruction that uses only registers and memory at registers, with random numbers."""
-    with open(file, 'rb') as opened:
-        data = opened.read()            # the code is at the same places in the file and in memory
+    with open(file, "rb") as opened:
+        data = opened.read()  # the code is at the same places in the file and in memory
     texts = {}
-    for line in subprocess.run(['objdump', '-d', '-w', '-M', 'intel', '--no-show-raw-insn', file], capture_output=True,
-                               text=True, check=True).stdout.splitlines():
-        if ':\t' in line:
-            op, operands, following, place = module.code[int(line.split(':')[0], 16)]
-            text = line.split('\t', 1)[1]
-            if op != 'nop' and op in x86.SCALAR | x86.VECTOR or USES_FLAGS.match(op):
-                if not re.search(r'rip|[er]?sp\b|spl\b|rep|push|pop|cpuid', text):
+    for line in subprocess.run(
+        ["objdump", "-d", "-w", "-M", "intel", "--no-show-raw-insn", file],
+        capture_output=True,
+        text=True,
+        check=True,
+    ).stdout.splitlines():
+        if ":\t" in line:
+            op, operands, following, place = module.code[int(line.split(":")[0], 16)]
+            text = line.split("\t", 1)[1]
+            if op != "nop" and op in x86.SCALAR | x86.VECTOR or USES_FLAGS.match(op):
+                if not re.search(r"rip|[er]?sp\b|spl\b|rep|push|pop|cpuid", text):
                     texts[text] = op, operands, data[place:following]
     cases = [(text, *what) for text, what in texts.items()]
-    first = [x86.Operand(name, 0) for name in ('rax', 'rcx')]
-    with open(f'{directory}/test.s', 'w') as file:
-        file.write('.intel_syntax noprefix\n' + ''.join(
-            stub(i, ['cmp rax,rcx'] * bool(USES_FLAGS.match(op)) + ['.byte ' + ','.join(map(str, code))])
-            for i, (_, op, _, code) in enumerate(cases)))
-    subprocess.run(['as', '-o', f'{directory}/test.o', f'{directory}/test.s'], check=True)
-    subprocess.run(['ld', '-shared', '-o', f'{directory}/test.so', f'{directory}/test.o'], check=True)
-    library, rng, done, refused = ctypes.CDLL(f'{directory}/test.so'), random.Random(5), set(), 0
+    first = [x86.Operand(name, 0) for name in ("rax", "rcx")]
+    with open(f"{directory}/test.s", "w") as file:
+        file.write(
+            ".intel_syntax noprefix\n"
+            + "".join(
+                stub(
+                    i,
+                    ["cmp rax,rcx"] * bool(USES_FLAGS.match(op))
+                    + [".byte " + ",".join(map(str, code))],
+                )
+                for i, (_, op, _, code) in enumerate(cases)
+            )
+        )
+    subprocess.run(
+        ["as", "-o", f"{directory}/test.o", f"{directory}/test.s"], check=True
+    )
+    subprocess.run(
+        ["ld", "-shared", "-o", f"{directory}/test.so", f"{directory}/test.o"],
+        check=True,
+    )
+    library, rng, done, refused = (
+        ctypes.CDLL(f"{directory}/test.so"),
+        random.Random(5),
+        set(),
+        0,
+    )
     room = (ctypes.c_uint8 * 512)()
     middle = ctypes.addressof(room) // 64 * 64 + 256
     for i, (text, op, operands, _) in enumerate(cases):
         for _ in range(8):
             state = State()
-            small = op == 'div' or rng.random() < 0.3
+            small = op == "div" or rng.random() < 0.3
             sizes = [3, 8, 16, 31] if small else [8, 32, 63, 64]
             state.general[:] = [rng.getrandbits(rng.choice(sizes)) for _ in GENERAL]
-            if op == 'div':
+            if op == "div":
                 state.general[2] = 0
                 state.general[GENERAL.index(operands[0].name)] |= 1
-            state.xmm[:] = [rng.getrandbits(4 if rng.random() < 0.2 else 8) for _ in range(256)]
-            if not all(aimed(operand, state, middle) for operand in operands if operand.kind == 'm'):
+            state.xmm[:] = [
+                rng.getrandbits(4 if rng.random() < 0.2 else 8) for _ in range(256)
+            ]
+            if not all(
+                aimed(operand, state, middle)
+                for operand in operands
+                if operand.kind == "m"
+            ):
                 continue
             room[:] = rng.randbytes(512)
-            path = Path(dict(enumerate(room, ctypes.addressof(room))), x86.State(
-                dict(zip(GENERAL, state.general)), {k: list(state.xmm[16 * k:16 * k + 16]) for k in range(16)}))
+            path = Path(
+                dict(enumerate(room, ctypes.addressof(room))),
+                x86.State(
+                    dict(zip(GENERAL, state.general)),
+                    {k: list(state.xmm[16 * k : 16 * k + 16]) for k in range(16)},
+                ),
+            )
             run = x86.Run(module, {}, 0)
             if USES_FLAGS.match(op):
-                run.one(path, 'cmp', first)
+                run.one(path, "cmp", first)
             try:
                 run.one(path, op, operands)
             except Refused as why:
                 refused += 1
-                assert 'secret' in str(why) or 'flag' in str(why) or 'trap' in str(why), (text, why)
-                if 'trap' in str(why):
+                assert (
+                    "secret" in str(why) or "flag" in str(why) or "trap" in str(why)
+                ), (text, why)
+                if "trap" in str(why):
                     continue
-            getattr(library, f'f{i}')(ctypes.byref(state))
+            getattr(library, f"f{i}")(ctypes.byref(state))
             got = [run.register(path, name, 64) for name in GENERAL]
-            assert got == list(state.general), (text, [hex(v) for v in got], [hex(v) for v in state.general])
+            assert got == list(state.general), (
+                text,
+                [hex(v) for v in got],
+                [hex(v) for v in state.general],
+            )
             assert bytes(byte_of(c) for c in path.memory.values()) == bytes(room), text
-            assert sum((path.state.xmm[k] for k in range(16)), []) == list(state.xmm), text
+            assert sum((path.state.xmm[k] for k in range(16)), []) == list(
+                state.xmm
+            ), text
             if path.state.flags:
                 for name, bit in FLAGS.items():
                     try:
                         flag = x86.CONDITIONS[name](path.state.flags)
                     except (Refused, KeyError):
                         continue
-                    assert flag == int(state.flags & bit != 0), (text, name, path.state.flags)
+                    assert flag == int(state.flags & bit != 0), (
+                        text,
+                        name,
+                        path.state.flags,
+                    )
             done.add(op)
-    print(f'{len(cases)} instructions of {len(done)} kinds: as the processor has them; {refused} runs refused')
+    print(
+        f"{len(cases)} instructions of {len(done)} kinds: as the processor has them; {refused} runs refused"
+    )
 
 
 def whole_calls(module):
     """The forms that a call writes, at random inputs, are what it writes for these numbers. Returns the numbers."""
     random.seed(3)
-    numbers = {(name, i): random.randrange(256) for name in ('kek', 'key', 'old', 'stack', 'register')
-               for i in range(STACK)}
+    numbers = {
+        (name, i): random.randrange(256)
+        for name in ("kek", "key", "old", "stack", "register")
+        for i in range(STACK)
+    }
     machine, lengths = wasm if isinstance(module, wasm.Module) else x86, (24, 21, 32)
 
     def written(bytes_of):
-        buffers, place, args = [bytes_of(name, n) for name, n in zip(('kek', 'key', 'old'), lengths)], module.heap, []
+        buffers, place, args = (
+            [bytes_of(name, n) for name, n in zip(("kek", "key", "old"), lengths)],
+            module.heap,
+            [],
+        )
         memory = {}
         for buffer in buffers:
             memory |= enumerate(map(cell_of, buffer), place)
             args += [place, len(buffer)]
             place += 64
-        (path, status), = machine.Run(module, {}, STACK).call('keywrap_wrap_padded', args, memory)
+        ((path, status),) = machine.Run(module, {}, STACK).call(
+            "keywrap_wrap_padded", args, memory
+        )
         assert status == 0
         return [byte_of(path.memory[place - 64 + i]) for i in range(lengths[2])]
+
     terms.forget()
     p = at(numbers)
     found = [value(v, p) for v in written(any_bytes)]
     assert found == written(lambda name, n: [numbers[name, i] for i in range(n)])
-    kek, key = ([numbers[name, i] for i in range(n)] for name, n in zip(('kek', 'key'), lengths))
+    kek, key = (
+        [numbers[name, i] for i in range(n)] for name, n in zip(("kek", "key"), lengths)
+    )
     assert found == standard.wrapped_padded(kek, key)
     return kek, key, found
 
@@ -331,8 +560,17 @@ def is_what_runs(file, kek, key, found):
     """The library, called by ctypes, writes what the forms of the call are for these numbers."""
     out = ctypes.create_string_buffer(len(found))
     wrap = ctypes.CDLL(os.path.abspath(file)).keywrap_wrap_padded
-    assert wrap(bytes(kek), ctypes.c_size_t(len(kek)), bytes(key), ctypes.c_size_t(len(key)), out,
-                ctypes.c_size_t(len(found))) == 0
+    assert (
+        wrap(
+            bytes(kek),
+            ctypes.c_size_t(len(kek)),
+            bytes(key),
+            ctypes.c_size_t(len(key)),
+            out,
+            ctypes.c_size_t(len(found)),
+        )
+        == 0
+    )
     assert list(out.raw) == found
 
 
@@ -343,16 +581,16 @@ def main(file):
     older_atoms()
     vectors()
     two_standards()
-    with open(file, 'rb') as opened:
-        is_module = opened.read(4) == b'\0asm'
+    with open(file, "rb") as opened:
+        is_module = opened.read(4) == b"\0asm"
     module = wasm.Module(file) if is_module else x86.Module(file)
     made = whole_calls(module)
     if not is_module:
         is_what_runs(file, *made)
         with tempfile.TemporaryDirectory() as directory:
             instructions(module, file, directory)
-    print('the checker passes its tests')
+    print("the checker passes its tests")
 
 
-if __name__ == '__main__':
+if __name__ == "__main__":
     sys.exit(main(*sys.argv[1:]) if len(sys.argv) == 2 else __doc__)

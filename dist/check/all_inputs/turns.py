@@ -6,7 +6,7 @@ import threading
 import terms
 from terms import Known
 
-AHEAD, BEHIND = 8192, 4096          # atoms, of which a block has at most 224
+AHEAD, BEHIND = 8192, 4096  # atoms, of which a block has at most 224
 
 
 class Turns:
@@ -15,7 +15,9 @@ class Turns:
         self.has_ended = self.is_given_up = False
         self.answer = self.fault = None
         self.to_code, self.to_standard = threading.Semaphore(0), threading.Semaphore(0)
-        self.standard = threading.Thread(target=self.run, args=(function, *args), daemon=True)
+        self.standard = threading.Thread(
+            target=self.run, args=(function, *args), daemon=True
+        )
         terms.turns = self
         self.standard.start()
 
@@ -23,7 +25,7 @@ class Turns:
         self.to_standard.acquire()
         try:
             self.answer = function(*args)
-        except BaseException as fault:      # raised again where the result is asked for
+        except BaseException as fault:  # raised again where the result is asked for
             self.fault = fault
         self.has_ended = True
         self.to_code.release()

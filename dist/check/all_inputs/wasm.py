@@ -3,9 +3,28 @@
 from functools import partial
 
 from paths import Machine, Path, cells_of
-from terms import V, Refused, add, and_, eq, eqz, ite, ltu, mul, ne, nz, or_, rotl, rotr, shl, shr, sub, xor
+from terms import (
+    V,
+    Refused,
+    add,
+    and_,
+    eq,
+    eqz,
+    ite,
+    ltu,
+    mul,
+    ne,
+    nz,
+    or_,
+    rotl,
+    rotr,
+    shl,
+    shr,
+    sub,
+    xor,
+)
 
-STEPS = 1_000_000_000                   # more instructions than any call needs
+STEPS = 1_000_000_000  # more instructions than any call needs
 LOADS = {0x28: 4, 0x29: 8, 0x2D: 1, 0x2F: 2, 0x31: 1, 0x33: 2, 0x35: 4}
 STORES = {0x36: 4, 0x37: 8, 0x3A: 1, 0x3B: 2, 0x3C: 1, 0x3D: 2, 0x3E: 4}
 
@@ -20,7 +39,7 @@ class Reader:
 
     def take(self, n):
         self.at += n
-        return self.data[self.at - n:self.at]
+        return self.data[self.at - n : self.at]
 
     def u(self):
         value = shift = 0
@@ -35,7 +54,7 @@ class Reader:
         start = self.at
         value = self.u()
         n = 7 * (self.at - start)
-        return (value - (value >> n - 1 << n)) & 2 ** width - 1
+        return (value - (value >> n - 1 << n)) & 2**width - 1
 
     def list(self, item):
         return [item() for _ in range(self.u())]
@@ -43,26 +62,36 @@ class Reader:
 
 class Module:
     def __init__(self, path):
-        with open(path, 'rb') as file:
+        with open(path, "rb") as file:
             data = file.read()
-        if data[:8] != b'\0asm\1\0\0\0':
-            raise Refused('not a WebAssembly module')
+        if data[:8] != b"\0asm\1\0\0\0":
+            raise Refused("not a WebAssembly module")
         r = Reader(data, 8)
-        self.types, self.exports, self.globals, self.constants, self.variables = [], {}, [], {}, {}
+        self.types, self.exports, self.globals, self.constants, self.variables = (
+            [],
+            {},
+            [],
+            {},
+            {},
+        )
         self.functions, self.code, self.table, self.names = [], [], {}, {}
         while r.at < len(data):
             kind, size = r.byte(), r.u()
             end = r.at + size
-            if kind == 0 and r.take(r.u()) == b'name':
+            if kind == 0 and r.take(r.u()) == b"name":
                 self.read_names(r, end)
             elif kind == 1:
-                self.types = r.list(lambda: (r.byte(), r.list(r.byte), r.list(r.byte))[1:])
+                self.types = r.list(
+                    lambda: (r.byte(), r.list(r.byte), r.list(r.byte))[1:]
+                )
             elif kind == 3:
                 self.functions = r.list(r.u)
             elif kind == 6:
                 self.globals = r.list(lambda: (r.take(2), self.constant(r))[1])
             elif kind == 7:
-                self.exports = dict(r.list(lambda: (r.take(r.u()).decode(), (r.byte(), r.u()))))
+                self.exports = dict(
+                    r.list(lambda: (r.take(r.u()).decode(), (r.byte(), r.u())))
+                )
             elif kind == 9:
                 for _ in range(r.u()):
                     assert r.u() == 0
@@ -71,16 +100,21 @@ class Module:
             elif kind == 10:
                 self.code = r.list(lambda: self.body(r))
             elif kind == 11:
-                for at, found in r.list(lambda: (r.u(), self.constant(r), r.take(r.u()))[1:]):
+                for at, found in r.list(
+                    lambda: (r.u(), self.constant(r), r.take(r.u()))[1:]
+                ):
                     self.constants |= enumerate(found, at)
             elif kind not in (0, 4, 5, 12):
-                raise Refused(f'section {kind}')
+                raise Refused(f"section {kind}")
             r.at = end
         # Memory is zero where no segment is. A linker leaves zeros out.
-        self.constants = dict.fromkeys(range(min(self.constants), max(self.constants)), 0) | self.constants
-        self.heap = self.globals[self.exports['__heap_base'][1]]
+        self.constants = (
+            dict.fromkeys(range(min(self.constants), max(self.constants)), 0)
+            | self.constants
+        )
+        self.heap = self.globals[self.exports["__heap_base"][1]]
         # Only the module of the JavaScript package exports its guard. It has 64-bit numbers, keywrap.c has 32-bit ones.
-        self.size_bytes = 8 if '__in_call' in self.exports else 4
+        self.size_bytes = 8 if "__in_call" in self.exports else 4
         for name, (kind, index) in self.exports.items():
             if kind == 0:
                 self.names.setdefault(index, name)
@@ -108,7 +142,9 @@ class Module:
             op = r.byte()
             if op in (2, 3, 4):
                 opened.append(len(code))
-                code.append([op, {0x40: 0, 0x7E: 1, 0x7F: 1}[r.byte()], None, None])   # arity, end, else
+                code.append(
+                    [op, {0x40: 0, 0x7E: 1, 0x7F: 1}[r.byte()], None, None]
+                )  # arity, end, else
             elif op == 5:
                 code[opened[-1]][3] = len(code)
                 code.append([op, opened[-1]])
@@ -128,7 +164,11 @@ class Module:
                 code.append([0x41, r.s(64)])
             elif op in LOADS or op in STORES:
                 r.u()
-                code.append([0x28, r.u(), LOADS[op]] if op in LOADS else [0x36, r.u(), STORES[op]])
+                code.append(
+                    [0x28, r.u(), LOADS[op]]
+                    if op in LOADS
+                    else [0x36, r.u(), STORES[op]]
+                )
             elif op == 0xFC:
                 sub_op = r.u()
                 r.take({10: 2, 11: 1}[sub_op])
@@ -139,36 +179,54 @@ class Module:
                 code.append([0x45, UNARY[op]])
             elif op in (0, 1, 0x0F, 0x1A, 0x1B):
                 code.append([op])
-            elif op != 0xAD:        # a number of 32 bits becomes one of 64 bits
-                raise Refused(f'opcode {op:#x}')
+            elif op != 0xAD:  # a number of 32 bits becomes one of 64 bits
+                raise Refused(f"opcode {op:#x}")
         return local_count, code
 
 
 def signed(v, w):
     if not isinstance(v, int):
-        raise Refused('a signed comparison of a secret')
+        raise Refused("a signed comparison of a secret")
     return v - (v >> w - 1 << w)
 
 
 def divided(a, b):
     if not isinstance(a, int) or not isinstance(b, int):
-        raise Refused('a division of a secret')
+        raise Refused("a division of a secret")
     if b == 0:
-        raise Refused('a division by 0')
+        raise Refused("a division by 0")
     return a // b
 
 
 UNARY = {0x45: eqz, 0x50: eqz, 0xA7: lambda a: and_(a, 0xFFFFFFFF)}
 BINARY = {
-    0x46: eq, 0x47: ne, 0x51: eq, 0x52: ne,
-    0x49: ltu, 0x54: ltu, 0x4B: lambda a, b: ltu(b, a), 0x56: lambda a, b: ltu(b, a),
-    0x4D: lambda a, b: eqz(ltu(b, a)), 0x58: lambda a, b: eqz(ltu(b, a)),
-    0x4F: lambda a, b: eqz(ltu(a, b)), 0x5A: lambda a, b: eqz(ltu(a, b)),
-    0x80: divided, 0x6E: divided,
-    0x82: lambda a, b: a - divided(a, b) * b, 0x70: lambda a, b: a - divided(a, b) * b,
+    0x46: eq,
+    0x47: ne,
+    0x51: eq,
+    0x52: ne,
+    0x49: ltu,
+    0x54: ltu,
+    0x4B: lambda a, b: ltu(b, a),
+    0x56: lambda a, b: ltu(b, a),
+    0x4D: lambda a, b: eqz(ltu(b, a)),
+    0x58: lambda a, b: eqz(ltu(b, a)),
+    0x4F: lambda a, b: eqz(ltu(a, b)),
+    0x5A: lambda a, b: eqz(ltu(a, b)),
+    0x80: divided,
+    0x6E: divided,
+    0x82: lambda a, b: a - divided(a, b) * b,
+    0x70: lambda a, b: a - divided(a, b) * b,
 }
 for start, w in (0x6A, 32), (0x7C, 64):
-    for place, operation in (0, add), (1, sub), (2, mul), (10, shl), (12, shr), (13, rotl), (14, rotr):
+    for place, operation in (
+        (0, add),
+        (1, sub),
+        (2, mul),
+        (10, shl),
+        (12, shr),
+        (13, rotl),
+        (14, rotr),
+    ):
         BINARY[start + place] = partial(operation, w=w)
     for place, operation in (7, and_), (8, or_), (9, xor):
         BINARY[start + place] = operation
@@ -187,12 +245,15 @@ class State:
         self.frames, self.globals = frames, globals_
 
     def copy(self):
-        return State([[*frame[:3], *map(list, frame[3:])] for frame in self.frames], list(self.globals))
+        return State(
+            [[*frame[:3], *map(list, frame[3:])] for frame in self.frames],
+            list(self.globals),
+        )
 
 
 class Run(Machine):
     def __init__(self, module, inputs, stack):
-        top = module.globals[module.exports['__stack_pointer'][1]]
+        top = module.globals[module.exports["__stack_pointer"][1]]
         super().__init__(module, inputs, range(top - stack, top))
 
     def call(self, name, args, memory, before=None):
@@ -201,13 +262,15 @@ class Run(Machine):
         self.enter(path, self.module.exports[name][1], args)
         for path in self.paths(path):
             if path.state.globals != self.module.globals:
-                raise Refused('the globals are not what they were')
+                raise Refused("the globals are not what they were")
             yield path, path.results[0] if path.results else None
 
     def enter(self, path, index, args):
         params, results = self.module.types[self.module.functions[index]]
         local_count, code = self.module.code[index]
-        path.state.frames.append([index, code, len(results), [0], args + [0] * local_count, []])
+        path.state.frames.append(
+            [index, code, len(results), [0], args + [0] * local_count, []]
+        )
 
     def decided(self, path, frame, pc, waiting):
         """Whether the condition on the stack is known on this path. If it is not, several paths wait instead."""
@@ -217,7 +280,11 @@ class Run(Machine):
             stack[-1] = int(cases[0][2])
             return True
         for known, excluded, holds in cases:
-            other = path.fork(known, excluded, self.module.names.get(frame[0], f'function {frame[0]}') + f', {pc}')
+            other = path.fork(
+                known,
+                excluded,
+                self.module.names.get(frame[0], f"function {frame[0]}") + f", {pc}",
+            )
             other.state.frames[-1][3][-1] = int(holds)
             other.state.frames[-1][3][0] = pc
             waiting.append(other)
@@ -229,7 +296,10 @@ class Run(Machine):
         while True:
             frame = state.frames[-1]
             _, code, result_count, stack, local, labels = frame
-            pc, stack[0] = stack[0], None       # a frame that is not on top keeps its place there
+            pc, stack[0] = (
+                stack[0],
+                None,
+            )  # a frame that is not on top keeps its place there
             push, pop, steps = stack.append, stack.pop, 0
             while True:
                 instruction = code[pc]
@@ -249,22 +319,32 @@ class Run(Machine):
                 elif op == 0x22:
                     local[instruction[1]] = stack[-1]
                 elif op == 0x28:
-                    stack[-1] = self.load(path, stack[-1], instruction[1], instruction[2])
+                    stack[-1] = self.load(
+                        path, stack[-1], instruction[1], instruction[2]
+                    )
                 elif op == 0x36:
                     v, n = pop(), instruction[2]
-                    self.store(path, self.place(path, pop()) + instruction[1], cells_of(and_(v, 2 ** (8 * n) - 1), n))
+                    self.store(
+                        path,
+                        self.place(path, pop()) + instruction[1],
+                        cells_of(and_(v, 2 ** (8 * n) - 1), n),
+                    )
                 elif op in (2, 3):
                     labels.append((op, pc, instruction[2], len(stack), instruction[1]))
                 elif op in (0x0C, 0x0D, 0x0E, 4):
                     if op == 0x0E:
                         v = self.place(path, pop())
                     elif op != 0x0C:
-                        if not isinstance(stack[-1], int) and not self.decided(path, frame, pc, waiting):
+                        if not isinstance(stack[-1], int) and not self.decided(
+                            path, frame, pc, waiting
+                        ):
                             self.steps += steps
                             return False
                         v = pop()
                     if op == 4:
-                        labels.append((op, pc, instruction[2], len(stack), instruction[1]))
+                        labels.append(
+                            (op, pc, instruction[2], len(stack), instruction[1])
+                        )
                         if not v:
                             if instruction[3] is None:
                                 labels.pop()
@@ -284,7 +364,7 @@ class Run(Machine):
                     kind, start, end, height, arity = labels[-1 - depth]
                     if kind == 3:
                         if self.steps + steps > STEPS:
-                            raise Refused('so many instructions that it may not end')
+                            raise Refused("so many instructions that it may not end")
                         del stack[height:]
                         if depth:
                             del labels[-depth:]
@@ -294,7 +374,7 @@ class Run(Machine):
                             stack[height:] = [stack[-1]]
                         else:
                             del stack[height:]
-                        del labels[-1 - depth:]
+                        del labels[-1 - depth :]
                         pc = end
                 elif op == 0x0B:
                     if not labels:
@@ -309,11 +389,14 @@ class Run(Machine):
                     callee = instruction[1]
                     if op == 0x11:
                         callee = module.table[self.place(path, pop())]
-                        if module.types[module.functions[callee]] != module.types[instruction[1]]:
-                            raise Refused('a call of a function of another type')
+                        if (
+                            module.types[module.functions[callee]]
+                            != module.types[instruction[1]]
+                        ):
+                            raise Refused("a call of a function of another type")
                     params, _ = module.types[module.functions[callee]]
-                    args = stack[len(stack) - len(params):]
-                    del stack[len(stack) - len(params):]
+                    args = stack[len(stack) - len(params) :]
+                    del stack[len(stack) - len(params) :]
                     stack[0] = pc + 1
                     self.enter(path, callee, args)
                     break
@@ -333,12 +416,12 @@ class Run(Machine):
                     n, v, to = self.place(path, pop()), pop(), self.place(path, pop())
                     self.store(path, to, cells_of(and_(v, 255), 1) * n)
                 elif op == 0:
-                    raise Refused('unreachable')
+                    raise Refused("unreachable")
                 pc += 1
             self.steps += steps
             if state.frames[-1] is frame:
                 state.frames.pop()
-                results = stack[len(stack) - result_count:] if result_count else []
+                results = stack[len(stack) - result_count :] if result_count else []
                 if not state.frames:
                     path.results = results
                     return True

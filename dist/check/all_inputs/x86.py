@@ -8,53 +8,79 @@ from operator import and_ as iand, or_ as ior, xor as ixor
 from nibbles import F, look, xor_bytes
 from paths import Machine, Path, byte_of, cell_of, cells_of, joined
 from standard import mix_columns
-from terms import (M64, Refused, add, and_, bswap, eq, eqz, fresh, ite, ltu, mul, or_, rotl, rotr, shl, shr, sub,
-                   substituted, xor)
+from terms import (
+    M64,
+    Refused,
+    add,
+    and_,
+    bswap,
+    eq,
+    eqz,
+    fresh,
+    ite,
+    ltu,
+    mul,
+    or_,
+    rotl,
+    rotr,
+    shl,
+    shr,
+    sub,
+    substituted,
+    xor,
+)
 
-STEPS = 100_000_000                     # more instructions than any call needs
-RETURNED = 0x7FFF_7EA1_D1B5             # the address of the caller
+STEPS = 100_000_000  # more instructions than any call needs
+RETURNED = 0x7FFF_7EA1_D1B5  # the address of the caller
 STACK = 0x7FFE_0000_0000
-NAMES = 'rax rcx rdx rbx rsp rbp rsi rdi'.split()
-ARGUMENTS = ['rdi', 'rsi', 'rdx', 'rcx', 'r8', 'r9']
-PRESERVED = ['rbx', 'rbp', 'rsp', 'r12', 'r13', 'r14', 'r15']
-OTHERS = ['rax', 'r10', 'r11']
-SIZES = {'BYTE': 8, 'WORD': 16, 'DWORD': 32, 'QWORD': 64, 'XMMWORD': 128}
+NAMES = "rax rcx rdx rbx rsp rbp rsi rdi".split()
+ARGUMENTS = ["rdi", "rsi", "rdx", "rcx", "r8", "r9"]
+PRESERVED = ["rbx", "rbp", "rsp", "r12", "r13", "r14", "r15"]
+OTHERS = ["rax", "r10", "r11"]
+SIZES = {"BYTE": 8, "WORD": 16, "DWORD": 32, "QWORD": 64, "XMMWORD": 128}
 
 REGISTERS = {name: (name, 64) for name in NAMES}
-REGISTERS |= {'e' + name[1:]: (name, 32) for name in NAMES} | {name[1:]: (name, 16) for name in NAMES}
-REGISTERS |= {name[1] + 'l': (name, 8) for name in NAMES[:4]} | {name[1:] + 'l': (name, 8) for name in NAMES[4:]}
+REGISTERS |= {"e" + name[1:]: (name, 32) for name in NAMES} | {
+    name[1:]: (name, 16) for name in NAMES
+}
+REGISTERS |= {name[1] + "l": (name, 8) for name in NAMES[:4]} | {
+    name[1:] + "l": (name, 8) for name in NAMES[4:]
+}
 for n in range(8, 16):
-    REGISTERS |= {f'r{n}{suffix}': (f'r{n}', w) for suffix, w in (('', 64), ('d', 32), ('w', 16), ('b', 8))}
+    REGISTERS |= {
+        f"r{n}{suffix}": (f"r{n}", w)
+        for suffix, w in (("", 64), ("d", 32), ("w", 16), ("b", 8))
+    }
 
 
 class Operand:
     """A register of w bits, the second byte of one (h), a constant, or memory of w bits (0: unknown)."""
 
     def __init__(self, text, note):
-        self.kind, self.w, self.text = 'i', 0, text
+        self.kind, self.w, self.text = "i", 0, text
         if text in REGISTERS:
-            self.kind, (self.name, self.w) = 'r', REGISTERS[text]
-        elif re.fullmatch('[abcd]h', text):
-            self.kind, self.name, self.w = 'h', f'r{text[0]}x', 8
-        elif re.fullmatch(r'xmm\d+', text):
-            self.kind, self.name, self.w = 'x', int(text[3:]), 128
-        elif '[' in text:
-            self.kind, self.parts, self.offset = 'm', [], 0
-            size, inside = re.fullmatch(r'(?:(\w+) PTR )?\[(.*)\]', text).groups()
+            self.kind, (self.name, self.w) = "r", REGISTERS[text]
+        elif re.fullmatch("[abcd]h", text):
+            self.kind, self.name, self.w = "h", f"r{text[0]}x", 8
+        elif re.fullmatch(r"xmm\d+", text):
+            self.kind, self.name, self.w = "x", int(text[3:]), 128
+        elif "[" in text:
+            self.kind, self.parts, self.offset = "m", [], 0
+            size, inside = re.fullmatch(r"(?:(\w+) PTR )?\[(.*)\]", text).groups()
             self.w = SIZES.get(size, 0)
-            if inside.startswith('rip'):
+            if inside.startswith("rip"):
                 self.offset = note
                 return
-            for sign, part in re.findall(r'([+-]?)([^+-]+)', inside):
-                if part[:2] == '0x' or part.isdigit():
+            for sign, part in re.findall(r"([+-]?)([^+-]+)", inside):
+                if part[:2] == "0x" or part.isdigit():
                     self.offset += int(sign + part, 0)
                 else:
-                    name, _, scale = part.partition('*')
+                    name, _, scale = part.partition("*")
                     if REGISTERS[name][1] != 64:
-                        raise Refused(f'an address of less than 64 bits: {text}')
+                        raise Refused(f"an address of less than 64 bits: {text}")
                     self.parts.append((name, int(scale or 1)))
         else:
-            self.value = int(text.split()[0], 0 if '0x' in text else 16)
+            self.value = int(text.split()[0], 0 if "0x" in text else 16)
 
 
 class Module:
@@ -62,48 +88,85 @@ class Module:
 
     def __init__(self, path):
         def objdump(*options):
-            return subprocess.run(['objdump', '-w', '-M', 'intel', *options, path],
-                                  capture_output=True, text=True, check=True).stdout
+            return subprocess.run(
+                ["objdump", "-w", "-M", "intel", *options, path],
+                capture_output=True,
+                text=True,
+                check=True,
+            ).stdout
+
         self.code, self.exports, self.names = {}, {}, {}
         last = None
-        for line in objdump('-d', '--no-show-raw-insn').splitlines():
-            if found := re.fullmatch(r'([0-9a-f]{16}) <(.*)>:', line):
+        for line in objdump("-d", "--no-show-raw-insn").splitlines():
+            if found := re.fullmatch(r"([0-9a-f]{16}) <(.*)>:", line):
                 self.names[int(found[1], 16)] = found[2]
                 self.exports[found[2]] = int(found[1], 16)
-            elif found := re.fullmatch(r' *([0-9a-f]+):\t(\S+)\s*(.*?)\s*(?: # ([0-9a-f]+) <.*)?', line):
-                at, note = int(found[1], 16), int(found[4] or '0', 16)
-                target = re.fullmatch(r'([0-9a-f]+) <.*>', found[3])
-                if found[2] == 'rep':
-                    found = [None, None, f'rep {found[3]}', '']
-                op = 'nop' if re.match('(data16 |cs )*nop|xchg +ax,ax|endbr64', f'{found[2]} {found[3]}') else found[2]
-                operands = [] if op == 'nop' else [int(target[1], 16)] if target else [
-                    Operand(text, note) for text in re.findall(r'[^,]+', found[3])]
+            elif found := re.fullmatch(
+                r" *([0-9a-f]+):\t(\S+)\s*(.*?)\s*(?: # ([0-9a-f]+) <.*)?", line
+            ):
+                at, note = int(found[1], 16), int(found[4] or "0", 16)
+                target = re.fullmatch(r"([0-9a-f]+) <.*>", found[3])
+                if found[2] == "rep":
+                    found = [None, None, f"rep {found[3]}", ""]
+                op = (
+                    "nop"
+                    if re.match(
+                        "(data16 |cs )*nop|xchg +ax,ax|endbr64",
+                        f"{found[2]} {found[3]}",
+                    )
+                    else found[2]
+                )
+                operands = (
+                    []
+                    if op == "nop"
+                    else [int(target[1], 16)]
+                    if target
+                    else [
+                        Operand(text, note) for text in re.findall(r"[^,]+", found[3])
+                    ]
+                )
                 self.code[at] = [op, operands, None, at]
                 if last is not None:
                     self.code[last][2] = at
                 last = at
-            elif ':\t' in line:
-                raise Refused(f'a line of objdump: {line}')
+            elif ":\t" in line:
+                raise Refused(f"a line of objdump: {line}")
         for at, name in self.names.items():
-            if name.endswith('@plt') and name[:-4] in self.exports:
-                self.code[at] = ['jmp', [self.exports[name[:-4]]], None, at]
-        self.built_in = {at: name[:-4] for at, name in self.names.items() if name[:-4] in BUILT_IN}
-        lines = re.findall(r'^ ([0-9a-f]+) ((?:[0-9a-f]+ ){1,4})', objdump('-s', '-j', '.rodata'), re.M)
-        self.constants = {at: b for text, content in lines
-                          for at, b in enumerate(bytes.fromhex(content.replace(' ', '')), int(text, 16))}
+            if name.endswith("@plt") and name[:-4] in self.exports:
+                self.code[at] = ["jmp", [self.exports[name[:-4]]], None, at]
+        self.built_in = {
+            at: name[:-4] for at, name in self.names.items() if name[:-4] in BUILT_IN
+        }
+        lines = re.findall(
+            r"^ ([0-9a-f]+) ((?:[0-9a-f]+ ){1,4})", objdump("-s", "-j", ".rodata"), re.M
+        )
+        self.constants = {
+            at: b
+            for text, content in lines
+            for at, b in enumerate(
+                bytes.fromhex(content.replace(" ", "")), int(text, 16)
+            )
+        }
         # The loader writes the addresses of functions.
-        for at, kind, name in re.findall(r'^([0-9a-f]{16}) R_X86_64_(\w+) +(\S+)', objdump('-R'), re.M):
-            to = self.exports.get(name.split('@')[0]) if kind == 'GLOB_DAT' else (
-                int(name.partition('+')[2], 16) if kind == 'RELATIVE' else None)
+        for at, kind, name in re.findall(
+            r"^([0-9a-f]{16}) R_X86_64_(\w+) +(\S+)", objdump("-R"), re.M
+        ):
+            to = (
+                self.exports.get(name.split("@")[0])
+                if kind == "GLOB_DAT"
+                else (int(name.partition("+")[2], 16) if kind == "RELATIVE" else None)
+            )
             if to is not None:
-                self.constants |= enumerate(to.to_bytes(8, 'little'), int(at, 16))
-        bss = re.search(r' \.bss +([0-9a-f]+) +([0-9a-f]+)', objdump('-h'))
-        self.variables = dict.fromkeys(range(int(bss[2], 16), int(bss[2], 16) + int(bss[1], 16)), 0)
+                self.constants |= enumerate(to.to_bytes(8, "little"), int(at, 16))
+        bss = re.search(r" \.bss +([0-9a-f]+) +([0-9a-f]+)", objdump("-h"))
+        self.variables = dict.fromkeys(
+            range(int(bss[2], 16), int(bss[2], 16) + int(bss[1], 16)), 0
+        )
         self.heap = max(self.constants) + 0x10000
 
     def place_of(self, at):
         name = max(a for a in self.names if a <= at)
-        return f'{self.names[name]}+{at - name:#x}'
+        return f"{self.names[name]}+{at - name:#x}"
 
 
 class State:
@@ -114,7 +177,11 @@ class State:
         self.registers, self.xmm, self.at, self.flags = registers, xmm, at, None
 
     def copy(self):
-        other = State(dict(self.registers), {n: list(cells) for n, cells in self.xmm.items()}, self.at)
+        other = State(
+            dict(self.registers),
+            {n: list(cells) for n, cells in self.xmm.items()},
+            self.at,
+        )
         other.flags = self.flags
         return other
 
@@ -125,7 +192,7 @@ def mask(w):
 
 def number(v, what):
     if not isinstance(v, int):
-        raise Refused(f'{what} of a secret')
+        raise Refused(f"{what} of a secret")
     return v
 
 
@@ -135,52 +202,74 @@ def signed(v, w):
 
 # Flags are what made them: (operation, a, b, result, width, the flags before). What they are is found when asked for.
 
+
 def carry(flags):
     if flags is None:
-        raise Refused('flags that are not known')
+        raise Refused("flags that are not known")
     op, a, b, r, w, before = flags
-    if op in ('inc', 'dec'):
+    if op in ("inc", "dec"):
         return carry(before)
-    if op == 'logic':
+    if op == "logic":
         return 0
-    if op == 'sub':
+    if op == "sub":
         return ltu(a, b)
-    if op == 'add':
-        return number(a, 'a carry') + number(b, 'a carry') >> w
-    return b if op in ('product', 'bit') else not_defined(op)
+    if op == "add":
+        return number(a, "a carry") + number(b, "a carry") >> w
+    return b if op in ("product", "bit") else not_defined(op)
 
 
 def zero(flags):
     op, a, b, r, w, _ = flags
-    return eq(a, b) if op == 'sub' else not_defined(op) if op in ('product', 'bit') else eqz(r)
+    return (
+        eq(a, b)
+        if op == "sub"
+        else not_defined(op)
+        if op in ("product", "bit")
+        else eqz(r)
+    )
 
 
 def sign(flags):
-    return not_defined(flags[0]) if flags[0] in ('product', 'bit', 'ptest') else shr(flags[3], flags[4] - 1, 64)
+    return (
+        not_defined(flags[0])
+        if flags[0] in ("product", "bit", "ptest")
+        else shr(flags[3], flags[4] - 1, 64)
+    )
 
 
 def overflow(flags):
     op, a, b, r, w, _ = flags
-    if op in ('product', 'logic'):
-        return b if op == 'product' else 0
-    if op in ('bit', 'shift', 'ptest'):
+    if op in ("product", "logic"):
+        return b if op == "product" else 0
+    if op in ("bit", "shift", "ptest"):
         return not_defined(op)
-    a, b = (signed(number(x, 'an overflow'), w) for x in (a, b))
-    total = a + b if op in ('add', 'inc') else a - b
+    a, b = (signed(number(x, "an overflow"), w) for x in (a, b))
+    total = a + b if op in ("add", "inc") else a - b
     return int(not -(1 << w - 1) <= total < 1 << w - 1)
 
 
 def not_defined(op):
-    raise Refused(f'a flag that {op} does not define')
+    raise Refused(f"a flag that {op} does not define")
 
 
 CONDITIONS = {
-    'e': zero, 'b': carry, 's': sign, 'o': overflow,
-    'be': lambda f: or_(carry(f), zero(f)) if f[0] != 'sub' else eqz(ltu(f[2], f[1])),
-    'l': lambda f: xor(sign(f), overflow(f)),
-    'le': lambda f: or_(zero(f), xor(sign(f), overflow(f))),
+    "e": zero,
+    "b": carry,
+    "s": sign,
+    "o": overflow,
+    "be": lambda f: or_(carry(f), zero(f)) if f[0] != "sub" else eqz(ltu(f[2], f[1])),
+    "l": lambda f: xor(sign(f), overflow(f)),
+    "le": lambda f: or_(zero(f), xor(sign(f), overflow(f))),
 }
-for name, other in ('ne', 'e'), ('ae', 'b'), ('ns', 's'), ('no', 'o'), ('a', 'be'), ('ge', 'l'), ('g', 'le'):
+for name, other in (
+    ("ne", "e"),
+    ("ae", "b"),
+    ("ns", "s"),
+    ("no", "o"),
+    ("a", "be"),
+    ("ge", "l"),
+    ("g", "le"),
+):
     CONDITIONS[name] = lambda f, other=CONDITIONS[other]: eqz(other(f))
 
 
@@ -203,7 +292,9 @@ class Run(Machine):
     def register(self, path, name, w):
         v = path.state.registers[name]
         if v is None:
-            v = path.state.registers[name] = joined([(fresh('register'), 0) for _ in range(8)])
+            v = path.state.registers[name] = joined(
+                [(fresh("register"), 0) for _ in range(8)]
+            )
         if isinstance(v, tuple):
             if w == 8:
                 return v[1]
@@ -211,90 +302,108 @@ class Run(Machine):
         return v if w == 64 else and_(v, mask(w))
 
     def get(self, path, operand, w):
-        if operand.kind == 'r':
+        if operand.kind == "r":
             return self.register(path, operand.name, operand.w)
-        if operand.kind == 'i':
+        if operand.kind == "i":
             return operand.value & mask(w)
-        if operand.kind == 'h':
+        if operand.kind == "h":
             return and_(shr(self.register(path, operand.name, 64), 8, 64), 255)
         return self.load(path, self.address(path, operand), 0, w // 8)
 
     def put(self, path, operand, v, w):
-        if operand.kind == 'm':
-            self.store(path, self.place(path, self.address(path, operand)), cells_of(v, w // 8))
-        elif w == 8 and operand.kind == 'r':
+        if operand.kind == "m":
+            self.store(
+                path, self.place(path, self.address(path, operand)), cells_of(v, w // 8)
+            )
+        elif w == 8 and operand.kind == "r":
             old = path.state.registers[operand.name]
-            old = old[0] if isinstance(old, tuple) else and_(self.register(path, operand.name, 64), mask(64) - 255)
+            old = (
+                old[0]
+                if isinstance(old, tuple)
+                else and_(self.register(path, operand.name, 64), mask(64) - 255)
+            )
             are_known = isinstance(v, int) and isinstance(old, int)
             path.state.registers[operand.name] = old | v if are_known else (old, v)
-        elif w == 16 or operand.kind == 'h':
-            raise Refused('a part of a register is written')
+        elif w == 16 or operand.kind == "h":
+            raise Refused("a part of a register is written")
         else:
             path.state.registers[operand.name] = v
 
     def vector(self, path, operand, n=16, aligned=True):
         """The first n bytes of a register, or n of memory."""
-        if operand.kind == 'x':
+        if operand.kind == "x":
             if operand.name not in path.state.xmm:
-                path.state.xmm[operand.name] = [(fresh('register'), 0) for _ in range(16)]
+                path.state.xmm[operand.name] = [
+                    (fresh("register"), 0) for _ in range(16)
+                ]
             return path.state.xmm[operand.name][:n]
         at = self.place(path, self.address(path, operand))
         if aligned and n == 16 and at % 16:
-            raise Refused(f'an access at {at:#x}, which is not aligned')
+            raise Refused(f"an access at {at:#x}, which is not aligned")
         return self.cells(path, at, n)
 
     def put_vector(self, path, operand, cells, aligned=True):
-        if operand.kind == 'x':
+        if operand.kind == "x":
             path.state.xmm[operand.name] = cells + [0] * (16 - len(cells))
         else:
             at = self.place(path, self.address(path, operand))
             if aligned and len(cells) == 16 and at % 16:
-                raise Refused(f'an access at {at:#x}, which is not aligned')
+                raise Refused(f"an access at {at:#x}, which is not aligned")
             self.store(path, at, cells)
 
     def push(self, path, v):
-        path.state.registers['rsp'] -= 8
-        self.store(path, path.state.registers['rsp'], cells_of(v, 8))
+        path.state.registers["rsp"] -= 8
+        self.store(path, path.state.registers["rsp"], cells_of(v, 8))
 
     def pop(self, path):
-        v = joined(self.cells(path, path.state.registers['rsp'], 8))
-        path.state.registers['rsp'] += 8
+        v = joined(self.cells(path, path.state.registers["rsp"], 8))
+        path.state.registers["rsp"] += 8
         return v
 
     # Calls
 
     def call(self, name, args, memory, before=None):
         """Yields each path at the end of the call, with its status."""
-        path = Path(dict(memory), State({name: None for name in [*ARGUMENTS, *OTHERS, *PRESERVED]}, {}), before)
+        path = Path(
+            dict(memory),
+            State({name: None for name in [*ARGUMENTS, *OTHERS, *PRESERVED]}, {}),
+            before,
+        )
         path.state.registers |= dict(zip(ARGUMENTS, args))
         for register in PRESERVED:
             self.register(path, register, 64)
-        on_stack = args[len(ARGUMENTS):]
-        path.state.registers['rsp'] = self.stack.stop - 16 * -(-len(on_stack) // 2)
+        on_stack = args[len(ARGUMENTS) :]
+        path.state.registers["rsp"] = self.stack.stop - 16 * -(-len(on_stack) // 2)
         for i, v in enumerate(on_stack):
-            self.store(path, path.state.registers['rsp'] + 8 * i, cells_of(v, 8))
-        begun_with = {register: path.state.registers[register] for register in PRESERVED}
+            self.store(path, path.state.registers["rsp"] + 8 * i, cells_of(v, 8))
+        begun_with = {
+            register: path.state.registers[register] for register in PRESERVED
+        }
         self.push(path, RETURNED)
         path.state.at = self.module.exports[name]
         for path in self.paths(path):
             for register, v in begun_with.items():
                 if path.state.registers[register] != v:
-                    raise Refused(f'{register} is not what it was')
-            yield path, self.register(path, 'rax', 32)
+                    raise Refused(f"{register} is not what it was")
+            yield path, self.register(path, "rax", 32)
 
     def built_in(self, path, name):
-        if name == 'abort':
-            raise Refused('a call of abort')
-        to, source, n = (self.register(path, register, 64) for register in ARGUMENTS[:3])
+        if name == "abort":
+            raise Refused("a call of abort")
+        to, source, n = (
+            self.register(path, register, 64) for register in ARGUMENTS[:3]
+        )
         to, n = self.place(path, to), self.place(path, n)
-        if name == 'memset':
+        if name == "memset":
             self.store(path, to, [cell_of(and_(source, 255))] * n)
         else:
             source = self.place(path, source)
-            if name == 'memcpy' and abs(to - source) < n:
-                raise Refused('memcpy of bytes that overlap')
+            if name == "memcpy" and abs(to - source) < n:
+                raise Refused("memcpy of bytes that overlap")
             self.store(path, to, self.cells(path, source, n))
-        path.state.registers |= {name: None for name in [*ARGUMENTS, *OTHERS]} | {'rax': to}
+        path.state.registers |= {name: None for name in [*ARGUMENTS, *OTHERS]} | {
+            "rax": to
+        }
         path.state.xmm, path.state.flags = {}, None
 
     # Execution
@@ -304,48 +413,55 @@ class Run(Machine):
         code, module = self.module.code, self.module
         while path.state.at != RETURNED:
             if path.state.at not in code:
-                raise Refused(f'a jump to {path.state.at:#x}')
+                raise Refused(f"a jump to {path.state.at:#x}")
             op, operands, following, _ = instruction = code[path.state.at]
             self.steps += 1
             if self.steps > STEPS:
-                raise Refused('so many instructions that it may not end')
-            if op == 'call':
+                raise Refused("so many instructions that it may not end")
+            if op == "call":
                 target = operands[0]
                 if not isinstance(target, int):
                     target = self.place(path, self.get(path, target, 64))
                 if target in module.built_in:
-                    if path.state.registers['rsp'] % 16:
-                        raise Refused('a call with a stack that is not aligned')
+                    if path.state.registers["rsp"] % 16:
+                        raise Refused("a call with a stack that is not aligned")
                     self.built_in(path, module.built_in[target])
                     path.state.at = following
                 else:
                     self.push(path, following)
                     path.state.at = target
-            elif op == 'ret':
+            elif op == "ret":
                 path.state.at = self.pop(path)
                 if not isinstance(path.state.at, int):
-                    raise Refused('a return to a secret address')
-            elif op == 'jmp':
-                target = operands[0] if isinstance(operands[0], int) else self.place(
-                    path, self.get(path, operands[0], 64))
-                if target in module.built_in:       # the last call of a function
+                    raise Refused("a return to a secret address")
+            elif op == "jmp":
+                target = (
+                    operands[0]
+                    if isinstance(operands[0], int)
+                    else self.place(path, self.get(path, operands[0], 64))
+                )
+                if target in module.built_in:  # the last call of a function
                     self.built_in(path, module.built_in[target])
                     target = self.pop(path)
                 path.state.at = target
-            elif op[0] == 'j':
-                if not self.branch(path, self.condition(path, op[1:]), operands[0], following, waiting):
+            elif op[0] == "j":
+                if not self.branch(
+                    path, self.condition(path, op[1:]), operands[0], following, waiting
+                ):
                     return False
             else:
                 path.state.at = following
                 try:
                     self.one(path, op, operands)
                 except Refused as refused:
-                    raise Refused(f'{refused}, at {module.place_of(instruction[3])}: {op}')
+                    raise Refused(
+                        f"{refused}, at {module.place_of(instruction[3])}: {op}"
+                    )
         return True
 
     def condition(self, path, name):
         if path.state.flags is None:
-            raise Refused('flags that a call destroyed')
+            raise Refused("flags that a call destroyed")
         return CONDITIONS[name](path.state.flags)
 
     def branch(self, path, v, target, following, waiting):
@@ -366,31 +482,43 @@ class Run(Machine):
         elif op in SCALAR:
             w = operands[0].w or operands[-1].w if operands else 0
             SCALAR[op](self, path, *operands, w=w)
-        elif op.startswith('set'):
+        elif op.startswith("set"):
             self.put(path, operands[0], self.condition(path, op[3:]), 8)
-        elif op.startswith('cmov'):
+        elif op.startswith("cmov"):
             to, source = operands
-            v = ite(self.condition(path, op[4:]), self.get(path, source, to.w), self.get(path, to, to.w))
+            v = ite(
+                self.condition(path, op[4:]),
+                self.get(path, source, to.w),
+                self.get(path, to, to.w),
+            )
             self.put(path, to, v, to.w)
-        elif op != 'nop':
-            raise Refused(f'an instruction {op}')
+        elif op != "nop":
+            raise Refused(f"an instruction {op}")
 
 
-BUILT_IN = 'memcpy', 'memmove', 'memset', 'abort'
+BUILT_IN = "memcpy", "memmove", "memset", "abort"
 
 
 # Instructions on registers and memory
 
+
 def arithmetic(kind, function, keeps=True):
     def do(run, path, to, source, w):
-        if to.kind == 'r' and source.kind == 'r' and to.text == source.text and kind == 'logic' and function is xor:
+        if (
+            to.kind == "r"
+            and source.kind == "r"
+            and to.text == source.text
+            and kind == "logic"
+            and function is xor
+        ):
             a = b = 0
         else:
             a, b = run.get(path, to, w), run.get(path, source, w)
-        r = function(a, b, w) if kind != 'logic' else function(a, b)
+        r = function(a, b, w) if kind != "logic" else function(a, b)
         path.state.flags = kind, a, b, r, w, None
         if keeps:
             run.put(path, to, r, w)
+
     return do
 
 
@@ -400,14 +528,20 @@ def one_more(kind, function):
         r = function(a, 1, w)
         path.state.flags = kind, a, 1, r, w, path.state.flags
         run.put(path, to, r, w)
+
     return do
 
 
 def with_carry(function):
     def do(run, path, to, source, w):
-        a, b, c = run.get(path, to, w), run.get(path, source, w), carry(path.state.flags)
+        a, b, c = (
+            run.get(path, to, w),
+            run.get(path, source, w),
+            carry(path.state.flags),
+        )
         run.put(path, to, function(function(a, b, w), c, w), w)
         path.state.flags = None
+
     return do
 
 
@@ -420,7 +554,13 @@ def movzx(run, path, to, source, w):
 
 
 def movsxd(run, path, to, source, w):
-    run.put(path, to, signed(number(run.get(path, source, source.w), 'a sign'), source.w) & mask(to.w), to.w)
+    run.put(
+        path,
+        to,
+        signed(number(run.get(path, source, source.w), "a sign"), source.w)
+        & mask(to.w),
+        to.w,
+    )
 
 
 def lea(run, path, to, source, w):
@@ -431,108 +571,170 @@ def shift(function):
     def do(run, path, to, count=None, w=0):
         k = 1 if count is None else and_(run.get(path, count, 8), 63 if w == 64 else 31)
         if isinstance(k, int) and k >= w:
-            raise Refused('a shift by more bits than there are')
+            raise Refused("a shift by more bits than there are")
         r = function(run.get(path, to, w), k, w)
-        if k != 0:      # a count of 0 keeps the flags, and a rotation keeps some
+        if k != 0:  # a count of 0 keeps the flags, and a rotation keeps some
             is_shift = isinstance(k, int) and function not in (rotl, rotr)
-            path.state.flags = ('shift', None, None, r, w, None) if is_shift else None
+            path.state.flags = ("shift", None, None, r, w, None) if is_shift else None
         run.put(path, to, r, w)
+
     return do
 
 
 def sar(a, k, w):
-    return signed(number(a, 'a sign'), w) >> k & mask(w)
+    return signed(number(a, "a sign"), w) >> k & mask(w)
 
 
 def shld(run, path, to, source, count, w):
     k = count.value & (63 if w == 64 else 31)
     a, b = run.get(path, to, w), run.get(path, source, w)
-    run.put(path, to, rotl(a, k, w) if a == b else or_(shl(a, k, w), shr(b, w - k, w)), w)
+    run.put(
+        path, to, rotl(a, k, w) if a == b else or_(shl(a, k, w), shr(b, w - k, w)), w
+    )
     path.state.flags = None
 
 
 def product(run, path, source, w):
-    total = number(run.get(path, source, w), 'a product') * number(run.register(path, 'rax', w), 'a product')
-    path.state.registers |= {'rax': total & mask(w), 'rdx': total >> w}
-    path.state.flags = 'product', None, int(total >> w != 0), None, w, None
+    total = number(run.get(path, source, w), "a product") * number(
+        run.register(path, "rax", w), "a product"
+    )
+    path.state.registers |= {"rax": total & mask(w), "rdx": total >> w}
+    path.state.flags = "product", None, int(total >> w != 0), None, w, None
 
 
 def imul(run, path, to, a, b=None, w=0):
-    x, y = (run.get(path, to, w), run.get(path, a, w)) if b is None else (run.get(path, a, w), run.get(path, b, w))
+    x, y = (
+        (run.get(path, to, w), run.get(path, a, w))
+        if b is None
+        else (run.get(path, a, w), run.get(path, b, w))
+    )
     run.put(path, to, mul(x, y, w), w)
     path.state.flags = None
 
 
 def div(run, path, source, w):
-    b = number(run.get(path, source, w), 'a division')
-    a = number(run.register(path, 'rdx', w), 'a division') << w | number(run.register(path, 'rax', w), 'a division')
+    b = number(run.get(path, source, w), "a division")
+    a = number(run.register(path, "rdx", w), "a division") << w | number(
+        run.register(path, "rax", w), "a division"
+    )
     if b == 0 or a // b >> w:
-        raise Refused('a division that traps')
-    path.state.registers |= {'rax': a // b, 'rdx': a % b}
+        raise Refused("a division that traps")
+    path.state.registers |= {"rax": a // b, "rdx": a % b}
     path.state.flags = None
 
 
 def bt(run, path, a, b, w):
-    k = number(run.get(path, b, w), 'a place') % w
-    path.state.flags = 'bit', None, number(run.get(path, a, w), 'a bit') >> k & 1, None, w, None
+    k = number(run.get(path, b, w), "a place") % w
+    path.state.flags = (
+        "bit",
+        None,
+        number(run.get(path, a, w), "a bit") >> k & 1,
+        None,
+        w,
+        None,
+    )
 
 
 def repeated(run, path, w):
     """rep movs or rep stos of 8 bytes, in the order of the processor."""
-    count, to = (run.place(path, run.register(path, name, 64)) for name in ('rcx', 'rdi'))
+    count, to = (
+        run.place(path, run.register(path, name, 64)) for name in ("rcx", "rdi")
+    )
     for at in range(to, to + 8 * count, 8):
-        if w == 'movs':
-            cells = run.cells(path, run.place(path, path.state.registers['rsi']), 8)
-            path.state.registers['rsi'] += 8
+        if w == "movs":
+            cells = run.cells(path, run.place(path, path.state.registers["rsi"]), 8)
+            path.state.registers["rsi"] += 8
         else:
-            cells = cells_of(run.register(path, 'rax', 64), 8)
+            cells = cells_of(run.register(path, "rax", 64), 8)
         run.store(path, at, cells)
-    path.state.registers |= {'rcx': 0, 'rdi': to + 8 * count}
+    path.state.registers |= {"rcx": 0, "rdi": to + 8 * count}
 
 
 def cpuid(run, path, w):
     """Of a processor that has all that these bits can say."""
-    path.state.registers |= {'rax': 1, 'rbx': mask(32), 'rcx': mask(32), 'rdx': mask(32)}
+    path.state.registers |= {
+        "rax": 1,
+        "rbx": mask(32),
+        "rcx": mask(32),
+        "rdx": mask(32),
+    }
 
 
 SCALAR = {
-    'rep movs QWORD PTR es:[rdi],QWORD PTR ds:[rsi]': lambda run, path, w: repeated(run, path, 'movs'),
-    'rep stos QWORD PTR es:[rdi],rax': lambda run, path, w: repeated(run, path, 'stos'), 'cpuid': cpuid,
-    'mov': mov, 'movabs': mov, 'movzx': movzx, 'movsxd': movsxd, 'lea': lea,
-    'add': arithmetic('add', add), 'sub': arithmetic('sub', sub), 'cmp': arithmetic('sub', sub, False),
-    'and': arithmetic('logic', and_), 'or': arithmetic('logic', or_), 'xor': arithmetic('logic', xor),
-    'test': arithmetic('logic', and_, False), 'inc': one_more('inc', add), 'dec': one_more('dec', sub),
-    'sbb': with_carry(sub), 'mul': product, 'imul': imul, 'div': div, 'bt': bt,
-    'shl': shift(shl), 'shr': shift(shr), 'sar': shift(sar), 'shld': shld, 'rol': shift(rotl), 'ror': shift(rotr),
-    'not': lambda run, path, to, w: run.put(path, to, xor(run.get(path, to, w), mask(w)), w),
-    'bswap': lambda run, path, to, w: run.put(path, to, bswap(run.get(path, to, w), w), w),
-    'push': lambda run, path, source, w: run.push(path, run.get(path, source, 64)),
-    'pop': lambda run, path, to, w: run.put(path, to, run.pop(path), 64),
+    "rep movs QWORD PTR es:[rdi],QWORD PTR ds:[rsi]": lambda run, path, w: repeated(
+        run, path, "movs"
+    ),
+    "rep stos QWORD PTR es:[rdi],rax": lambda run, path, w: repeated(run, path, "stos"),
+    "cpuid": cpuid,
+    "mov": mov,
+    "movabs": mov,
+    "movzx": movzx,
+    "movsxd": movsxd,
+    "lea": lea,
+    "add": arithmetic("add", add),
+    "sub": arithmetic("sub", sub),
+    "cmp": arithmetic("sub", sub, False),
+    "and": arithmetic("logic", and_),
+    "or": arithmetic("logic", or_),
+    "xor": arithmetic("logic", xor),
+    "test": arithmetic("logic", and_, False),
+    "inc": one_more("inc", add),
+    "dec": one_more("dec", sub),
+    "sbb": with_carry(sub),
+    "mul": product,
+    "imul": imul,
+    "div": div,
+    "bt": bt,
+    "shl": shift(shl),
+    "shr": shift(shr),
+    "sar": shift(sar),
+    "shld": shld,
+    "rol": shift(rotl),
+    "ror": shift(rotr),
+    "not": lambda run, path, to, w: run.put(
+        path, to, xor(run.get(path, to, w), mask(w)), w
+    ),
+    "bswap": lambda run, path, to, w: run.put(
+        path, to, bswap(run.get(path, to, w), w), w
+    ),
+    "push": lambda run, path, source, w: run.push(path, run.get(path, source, 64)),
+    "pop": lambda run, path, to, w: run.put(path, to, run.pop(path), 64),
 }
 
 
 # Instructions on xmm
 
+
 def move(n, aligned=True):
     """Of n bytes; to a register also zeros."""
-    return lambda run, path, to, source: run.put_vector(path, to, run.vector(path, source, n, aligned), aligned)
+    return lambda run, path, to, source: run.put_vector(
+        path, to, run.vector(path, source, n, aligned), aligned
+    )
 
 
 def movq(n):
     """Between a register and the lowest bytes of xmm, or of memory and xmm."""
+
     def do(run, path, to, source):
-        if to.kind == 'x':
-            run.put_vector(path, to, cells_of(run.get(path, source, 8 * n), n) if source.kind == 'r'
-                           else run.vector(path, source, n))
-        elif to.kind == 'r':
+        if to.kind == "x":
+            run.put_vector(
+                path,
+                to,
+                cells_of(run.get(path, source, 8 * n), n)
+                if source.kind == "r"
+                else run.vector(path, source, n),
+            )
+        elif to.kind == "r":
             run.put(path, to, joined(run.vector(path, source, n)), 8 * n)
         else:
             run.put_vector(path, to, run.vector(path, source, n))
+
     return do
 
 
 def each(function, of_numbers):
     """Of each two bytes. The other function is the same one, and is fast where all bytes are numbers."""
+
     def do(run, path, to, source):
         if function is xor_bytes and to.text == source.text:
             path.state.xmm[to.name] = [0] * 16
@@ -541,13 +743,16 @@ def each(function, of_numbers):
         try:
             path.state.xmm[to.name] = list(map(of_numbers, a, b))
         except TypeError:
-            path.state.xmm[to.name] = [cell_of(function(byte_of(x), byte_of(y))) for x, y in zip(a, b)]
+            path.state.xmm[to.name] = [
+                cell_of(function(byte_of(x), byte_of(y))) for x, y in zip(a, b)
+            ]
+
     return do
 
 
 def affine(v):
     """Returns the byte, which must not be a table."""
-    return number(None, 'an operation on a table') if isinstance(v, F) else v
+    return number(None, "an operation on a table") if isinstance(v, F) else v
 
 
 def and_bytes(a, b):
@@ -555,7 +760,13 @@ def and_bytes(a, b):
 
 
 def equal_bytes(a, b):
-    return 255 if a == b else 0 if isinstance(a, int) and isinstance(b, int) else number(None, 'a comparison')
+    return (
+        255
+        if a == b
+        else 0
+        if isinstance(a, int) and isinstance(b, int)
+        else number(None, "a comparison")
+    )
 
 
 def pshufb(run, path, to, source):
@@ -567,7 +778,7 @@ def pshufb(run, path, to, source):
         if isinstance(at, int):
             made.append(0 if at & 128 else table[at & 15])
         elif constants is None:
-            raise Refused('a shuffle of secrets by a secret')
+            raise Refused("a shuffle of secrets by a secret")
         else:
             run.shuffles += 1
             made.append(cell_of(look(constants, at)))
@@ -577,21 +788,26 @@ def pshufb(run, path, to, source):
 def psrlw(run, path, to, count):
     k, a, made = count.value, [affine(byte_of(c)) for c in run.vector(path, to)], []
     if not 0 < k < 8:
-        raise Refused('a shift of words by so much')
+        raise Refused("a shift of words by so much")
     for low, high in zip(a[::2], a[1::2]):
-        made += [cell_of(or_(shr(low, k, 8), shl(high, 8 - k, 8))), cell_of(shr(high, k, 8))]
+        made += [
+            cell_of(or_(shr(low, k, 8), shl(high, 8 - k, 8))),
+            cell_of(shr(high, k, 8)),
+        ]
     path.state.xmm[to.name] = made
 
 
 def shuffled(n, first, count):
     """The items of n bytes, `count` of them from `first` on, in the order of a constant."""
+
     def do(run, path, to, source, order):
         a = run.vector(path, source)
-        items = [a[i:i + n] for i in range(0, 16, n)]
+        items = [a[i : i + n] for i in range(0, 16, n)]
         for i in range(count):
             at = first + (order.value >> 2 * i & 3)
-            a[n * (first + i):n * (first + i + 1)] = items[at]
+            a[n * (first + i) : n * (first + i + 1)] = items[at]
         path.state.xmm[to.name] = a
+
     return do
 
 
@@ -601,8 +817,8 @@ def punpcklqdq(run, path, to, source):
 
 def pextrq(run, path, to, source, at):
     k = 8 * (at.value & 1)
-    cells = run.vector(path, source)[k:k + 8]
-    if to.kind == 'r':
+    cells = run.vector(path, source)[k : k + 8]
+    if to.kind == "r":
         run.put(path, to, joined(cells), 64)
     else:
         run.put_vector(path, to, cells)
@@ -610,12 +826,16 @@ def pextrq(run, path, to, source, at):
 
 def pinsrd(run, path, to, source, at):
     k, a = 4 * (at.value & 3), run.vector(path, to)
-    a[k:k + 4] = cells_of(run.get(path, source, 32), 4) if source.kind == 'r' else run.vector(path, source, 4)
+    a[k : k + 4] = (
+        cells_of(run.get(path, source, 32), 4)
+        if source.kind == "r"
+        else run.vector(path, source, 4)
+    )
     path.state.xmm[to.name] = a
 
 
 def movhps(run, path, to, source):
-    if to.kind == 'x':
+    if to.kind == "x":
         path.state.xmm[to.name] = run.vector(path, to)[:8] + run.vector(path, source, 8)
     else:
         run.put_vector(path, to, run.vector(path, source)[8:])
@@ -632,28 +852,43 @@ def pslldq(run, path, to, count):
 def each_word(function):
     def do(run, path, to, count):
         if count.value > 31:
-            raise Refused('a shift of words by so much')
+            raise Refused("a shift of words by so much")
         a = run.vector(path, to)
-        path.state.xmm[to.name] = [c for i in range(0, 16, 4)
-                             for c in cells_of(function(joined(a[i:i + 4]), count.value, 32), 4)]
+        path.state.xmm[to.name] = [
+            c
+            for i in range(0, 16, 4)
+            for c in cells_of(function(joined(a[i : i + 4]), count.value, 32), 4)
+        ]
+
     return do
 
 
 def aes(kind, mix):
     """A round of FIPS 197, 5.1 or 5.3.5, with the source as the key; or only InvMixColumns of the source."""
+
     def made(state, key):
         if kind is None:
             return mix_columns(key, mix)
-        state = [substituted(kind, state[(i + (4 if kind == 'S' else -4) * (i % 4)) % 16]) for i in range(16)]
-        return [xor(a, b) for a, b in zip(mix_columns(state, mix) if mix else state, key)]
+        state = [
+            substituted(kind, state[(i + (4 if kind == "S" else -4) * (i % 4)) % 16])
+            for i in range(16)
+        ]
+        return [
+            xor(a, b) for a, b in zip(mix_columns(state, mix) if mix else state, key)
+        ]
+
     made_of_numbers = lru_cache(1 << 16)(made)
 
     def do(run, path, to, source):
         cells = run.vector(path, to if kind else source), run.vector(path, source)
         try:
             path.state.xmm[to.name] = list(made_of_numbers(*map(bytes, cells)))
-        except TypeError:       # not all of them are numbers
-            path.state.xmm[to.name] = [cell_of(v) for v in made(*([affine(byte_of(c)) for c in a] for a in cells))]
+        except TypeError:  # not all of them are numbers
+            path.state.xmm[to.name] = [
+                cell_of(v)
+                for v in made(*([affine(byte_of(c)) for c in a] for a in cells))
+            ]
+
     return do
 
 
@@ -661,22 +896,53 @@ def ptest(run, path, a, b):
     met = 0
     for x, y in zip(run.vector(path, a), run.vector(path, b)):
         met = or_(met, and_bytes(byte_of(x), byte_of(y)))
-    path.state.flags = 'ptest', None, None, met, 8, None
+    path.state.flags = "ptest", None, None, met, 8, None
 
 
 def pmovmskb(run, path, to, source):
-    run.put(path, to, sum(number(byte_of(c), 'a sign') >> 7 << i for i, c in enumerate(run.vector(path, source))), 32)
+    run.put(
+        path,
+        to,
+        sum(
+            number(byte_of(c), "a sign") >> 7 << i
+            for i, c in enumerate(run.vector(path, source))
+        ),
+        32,
+    )
 
 
 VECTOR = {
-    'movdqa': move(16), 'movaps': move(16), 'movdqu': move(16, False), 'movups': move(16, False),
-    'movq': movq(8), 'movd': movq(4), 'movss': movq(4), 'movsd': movq(8),
-    'pxor': each(xor_bytes, ixor), 'xorps': each(xor_bytes, ixor), 'pand': each(and_bytes, iand),
-    'por': each(lambda a, b: or_(affine(a), affine(b)), ior), 'pcmpeqb': each(equal_bytes, None),
-    'pshufb': pshufb, 'psrlw': psrlw, 'pshufd': shuffled(4, 0, 4), 'pshuflw': shuffled(2, 0, 4),
-    'pshufhw': shuffled(2, 4, 4), 'movhps': movhps, 'movhlps': movhlps, 'punpcklqdq': punpcklqdq,
-    'pslldq': pslldq, 'pslld': each_word(shl), 'psrld': each_word(shr),
-    'aesenc': aes('S', [2, 3, 1, 1]), 'aesenclast': aes('S', None), 'aesimc': aes(None, [14, 11, 13, 9]),
-    'aesdec': aes('T', [14, 11, 13, 9]), 'aesdeclast': aes('T', None), 'pextrq': pextrq, 'pinsrd': pinsrd,
-    'ptest': ptest, 'pmovmskb': pmovmskb,
+    "movdqa": move(16),
+    "movaps": move(16),
+    "movdqu": move(16, False),
+    "movups": move(16, False),
+    "movq": movq(8),
+    "movd": movq(4),
+    "movss": movq(4),
+    "movsd": movq(8),
+    "pxor": each(xor_bytes, ixor),
+    "xorps": each(xor_bytes, ixor),
+    "pand": each(and_bytes, iand),
+    "por": each(lambda a, b: or_(affine(a), affine(b)), ior),
+    "pcmpeqb": each(equal_bytes, None),
+    "pshufb": pshufb,
+    "psrlw": psrlw,
+    "pshufd": shuffled(4, 0, 4),
+    "pshuflw": shuffled(2, 0, 4),
+    "pshufhw": shuffled(2, 4, 4),
+    "movhps": movhps,
+    "movhlps": movhlps,
+    "punpcklqdq": punpcklqdq,
+    "pslldq": pslldq,
+    "pslld": each_word(shl),
+    "psrld": each_word(shr),
+    "aesenc": aes("S", [2, 3, 1, 1]),
+    "aesenclast": aes("S", None),
+    "aesimc": aes(None, [14, 11, 13, 9]),
+    "aesdec": aes("T", [14, 11, 13, 9]),
+    "aesdeclast": aes("T", None),
+    "pextrq": pextrq,
+    "pinsrd": pinsrd,
+    "ptest": ptest,
+    "pmovmskb": pmovmskb,
 }

@@ -19,21 +19,55 @@ from . import _ffi
 
 # Before the first call of the library, which would end the process with SIGILL.
 if not _ffi.lib.cpu_supported():
-    raise ImportError("this processor lacks SSSE3 or SSE4.1, which keywrap needs", name=__name__)
+    raise ImportError(
+        "this processor lacks SSSE3 or SSE4.1, which keywrap needs", name=__name__
+    )
 
 from . import _refusals
-from ._refusals import BadInitialValue, BadKekLength, BadLength, IntegrityFailed, KeyNotPlain, KeywrapError
+from ._refusals import (
+    BadInitialValue,
+    BadKekLength,
+    BadLength,
+    IntegrityFailed,
+    KeyNotPlain,
+    KeywrapError,
+)
 
 if TYPE_CHECKING:
     from _typeshed import ReadableBuffer
 
 __all__ = [
-    "BadInitialValue", "BadKekLength", "BadLength", "IntegrityFailed", "Kek", "KeyNotPlain", "KeywrapError",
-    "Kind", "check", "check_many", "check_with_length", "rewrap", "rewrap_many", "self_test", "unwrap",
-    "unwrap_any", "unwrap_many", "unwrap_padded", "wrap", "wrap_many", "wrap_padded",
+    "BadInitialValue",
+    "BadKekLength",
+    "BadLength",
+    "IntegrityFailed",
+    "Kek",
+    "KeyNotPlain",
+    "KeywrapError",
+    "Kind",
+    "check",
+    "check_many",
+    "check_with_length",
+    "rewrap",
+    "rewrap_many",
+    "self_test",
+    "unwrap",
+    "unwrap_any",
+    "unwrap_many",
+    "unwrap_padded",
+    "wrap",
+    "wrap_many",
+    "wrap_padded",
 ]
 
-for _refusal in (KeywrapError, BadInitialValue, BadKekLength, BadLength, KeyNotPlain, IntegrityFailed):
+for _refusal in (
+    KeywrapError,
+    BadInitialValue,
+    BadKekLength,
+    BadLength,
+    KeyNotPlain,
+    IntegrityFailed,
+):
     _refusal.__module__ = __name__
 
 _lib = _ffi.lib
@@ -74,7 +108,9 @@ def _copied(given: object) -> bytes:
         return bytes(_ffi.ffi.buffer(_ffi.ffi.from_buffer("uint8_t[]", given)))
     except (TypeError, ValueError, BufferError):
         pass
-    raise TypeError(f"a contiguous bytes-like object is required, not {type(given).__name__!r}")
+    raise TypeError(
+        f"a contiguous bytes-like object is required, not {type(given).__name__!r}"
+    )
 
 
 def _on_copies(call: Callable[..., _Answer], *given: object, **more: Any) -> _Answer:
@@ -128,7 +164,9 @@ class Kek(bytes):
         raise TypeError("a Kek cannot be pickled or copied")
 
 
-def wrap(kek: ReadableBuffer, key: ReadableBuffer, iv: Optional[ReadableBuffer] = None) -> bytes:
+def wrap(
+    kek: ReadableBuffer, key: ReadableBuffer, iv: Optional[ReadableBuffer] = None
+) -> bytes:
     """Returns the plain wrapping of a key (RFC 3394, 2.2.1), which is 8 bytes longer.
 
     The key has a multiple of 8 bytes from 16 to 1,048,576 (else `BadLength`), the KEK 16, 24 or 32
@@ -147,7 +185,9 @@ def wrap(kek: ReadableBuffer, key: ReadableBuffer, iv: Optional[ReadableBuffer] 
     return wrapped
 
 
-def unwrap(kek: ReadableBuffer, wrapped: ReadableBuffer, iv: Optional[ReadableBuffer] = None) -> bytes:
+def unwrap(
+    kek: ReadableBuffer, wrapped: ReadableBuffer, iv: Optional[ReadableBuffer] = None
+) -> bytes:
     """Returns the key whose plain wrapping this is (RFC 3394, 2.2.2), or raises `IntegrityFailed`.
 
     The wrapped key has a multiple of 8 bytes from 24 to 1,048,584. For `kek` and `iv` see `wrap`.
@@ -161,12 +201,18 @@ def unwrap(kek: ReadableBuffer, wrapped: ReadableBuffer, iv: Optional[ReadableBu
     key = bytes(room)
     status = _unwrap(kek, len(kek), wrapped, length, key, room)
     if status:
-        raise _refusals.refusal(status, "the wrapped key", length, _refusals.WRAPPED_PLAIN, kek)
+        raise _refusals.refusal(
+            status, "the wrapped key", length, _refusals.WRAPPED_PLAIN, kek
+        )
     return key
 
 
 def _wrap_under(kek: ReadableBuffer, iv: ReadableBuffer, key: ReadableBuffer) -> bytes:
-    if (type(kek) is not bytes and type(kek) is not Kek) or type(iv) is not bytes or type(key) is not bytes:
+    if (
+        (type(kek) is not bytes and type(kek) is not Kek)
+        or type(iv) is not bytes
+        or type(key) is not bytes
+    ):
         return _on_copies(_wrap_under, kek, iv, key)
     length = len(key)
     wrapped = bytes(length + 8)
@@ -178,8 +224,14 @@ def _wrap_under(kek: ReadableBuffer, iv: ReadableBuffer, key: ReadableBuffer) ->
     return wrapped
 
 
-def _unwrap_under(kek: ReadableBuffer, iv: ReadableBuffer, wrapped: ReadableBuffer) -> bytes:
-    if (type(kek) is not bytes and type(kek) is not Kek) or type(iv) is not bytes or type(wrapped) is not bytes:
+def _unwrap_under(
+    kek: ReadableBuffer, iv: ReadableBuffer, wrapped: ReadableBuffer
+) -> bytes:
+    if (
+        (type(kek) is not bytes and type(kek) is not Kek)
+        or type(iv) is not bytes
+        or type(wrapped) is not bytes
+    ):
         return _on_copies(_unwrap_under, kek, iv, wrapped)
     length = len(wrapped)
     room = length - 8 if length > 8 else 0
@@ -188,7 +240,9 @@ def _unwrap_under(kek: ReadableBuffer, iv: ReadableBuffer, wrapped: ReadableBuff
     if status == _lib.KEYWRAP_BAD_IV:
         raise _refusals.bad_initial_value(iv)
     if status:
-        raise _refusals.refusal(status, "the wrapped key", length, _refusals.WRAPPED_PLAIN, kek)
+        raise _refusals.refusal(
+            status, "the wrapped key", length, _refusals.WRAPPED_PLAIN, kek
+        )
     return key
 
 
@@ -229,14 +283,18 @@ def unwrap_any(kek: ReadableBuffer, wrapped: ReadableBuffer) -> Tuple[bytes, Kin
     return _unwrap_by(_unwrap_any, kek, wrapped)
 
 
-def _unwrap_by(call: Callable[..., int], kek: bytes, wrapped: bytes) -> Tuple[bytes, Kind]:
+def _unwrap_by(
+    call: Callable[..., int], kek: bytes, wrapped: bytes
+) -> Tuple[bytes, Kind]:
     """Returns the key that the call finds, and its form. Wipes the buffer of the call if it has padding."""
     length = len(wrapped)
     room = length - 8 if length > 8 else 0
     padded = bytes(room)
     found = call(kek, len(kek), wrapped, length, padded, room)
     if found < 0:
-        raise _refusals.refusal(-found, "the wrapped key", length, _refusals.WRAPPED_PADDED, kek)
+        raise _refusals.refusal(
+            -found, "the wrapped key", length, _refusals.WRAPPED_PADDED, kek
+        )
     key_len, form = found >> 1, _KINDS[found & 1]
     if key_len == room:
         return padded, form
@@ -281,14 +339,27 @@ def rewrap(
         or (type(new_kek) is not bytes and type(new_kek) is not Kek)
         or type(wrapped) is not bytes
     ):
-        given = {"old_padded": old_padded, "new_padded": new_padded, "keep_form": keep_form, "pass_new": pass_new}
+        given = {
+            "old_padded": old_padded,
+            "new_padded": new_padded,
+            "keep_form": keep_form,
+            "pass_new": pass_new,
+        }
         return _on_copies(rewrap, old_kek, new_kek, wrapped, **given)
     length = len(wrapped)
     result = bytes(max(length, 16))
-    status = _rewrap(old_kek, len(old_kek), new_kek, len(new_kek), wrapped, length, result, flags)
+    status = _rewrap(
+        old_kek, len(old_kek), new_kek, len(new_kek), wrapped, length, result, flags
+    )
     if status:
-        legal = _refusals.WRAPPED_PADDED if old_padded or keep_form else _refusals.WRAPPED_PLAIN
-        raise _refusals.refusal(status, "the wrapped key", length, legal, old_kek, new_kek)
+        legal = (
+            _refusals.WRAPPED_PADDED
+            if old_padded or keep_form
+            else _refusals.WRAPPED_PLAIN
+        )
+        raise _refusals.refusal(
+            status, "the wrapped key", length, legal, old_kek, new_kek
+        )
     return result
 
 
@@ -301,7 +372,9 @@ def check(kek: ReadableBuffer, wrapped: ReadableBuffer) -> Optional[Kind]:
     return found[0] if found else None
 
 
-def check_with_length(kek: ReadableBuffer, wrapped: ReadableBuffer) -> Optional[Tuple[Kind, int]]:
+def check_with_length(
+    kek: ReadableBuffer, wrapped: ReadableBuffer
+) -> Optional[Tuple[Kind, int]]:
     """Returns the result of `check` and the length of the key in bytes, or `None`."""
     if (type(kek) is not bytes and type(kek) is not Kek) or type(wrapped) is not bytes:
         return _on_copies(check_with_length, kek, wrapped)
@@ -312,7 +385,9 @@ def check_with_length(kek: ReadableBuffer, wrapped: ReadableBuffer) -> Optional[
     if found >= 0:
         return _KINDS[found & 1], found >> 1
     if found != -_lib.KEYWRAP_INTEGRITY:
-        raise _refusals.refusal(-found, "the wrapped key", length, _refusals.WRAPPED_PADDED, kek)
+        raise _refusals.refusal(
+            -found, "the wrapped key", length, _refusals.WRAPPED_PADDED, kek
+        )
     return None
 
 

@@ -48,26 +48,44 @@ def _listed(items: Items, length: Optional[int]) -> List[ReadableBuffer]:
         return list(items)  # type: ignore[arg-type]
     view = memoryview(items).cast("B")  # type: ignore[arg-type]
     if length < 1 or len(view) % length:
-        raise BadLength(f"bad length: {len(view)} bytes are not items of {length} bytes")
+        raise BadLength(
+            f"bad length: {len(view)} bytes are not items of {length} bytes"
+        )
     return [view[at : at + length] for at in range(0, len(view), length)]
 
 
-def _slots(items: Items, length: Optional[int], what: str, gap: int = 0, padded: bool = False) -> _Slots:
+def _slots(
+    items: Items, length: Optional[int], what: str, gap: int = 0, padded: bool = False
+) -> _Slots:
     """Copies the items into slots, each after a gap of zeros, and if it is padded before zeros up to 8 bytes."""
     try:
         parts = _listed(items, length)
-        lengths = {len(part) if type(part) is bytes else memoryview(part).nbytes for part in parts} or {0}
+        lengths = {
+            len(part) if type(part) is bytes else memoryview(part).nbytes
+            for part in parts
+        } or {0}
         each, zeros = max(lengths), -max(lengths) % 8 if padded else 0
         # One copy, and none besides it that would have to be wiped: the gaps and zeros are what joins the items.
-        buffer = bytearray(zeros + gap).join([b"", *parts, b""] if zeros + gap else parts)
+        buffer = bytearray(zeros + gap).join(
+            [b"", *parts, b""] if zeros + gap else parts
+        )
     except BadLength:
         raise
-    except (TypeError, ValueError, BufferError, NotImplementedError):  # the last one of a view of two dimensions
-        raise TypeError("a list of contiguous bytes-like objects is required, or one and a length") from None
+    except (
+        TypeError,
+        ValueError,
+        BufferError,
+        NotImplementedError,
+    ):  # the last one of a view of two dimensions
+        raise TypeError(
+            "a list of contiguous bytes-like objects is required, or one and a length"
+        ) from None
     slots = _Slots(buffer, zeros, len(parts), each)
     if len(buffer) != len(parts) * (gap + each + zeros) + gap + zeros:
         slots.wipe()
-        raise BadLength(f"bad length: {what} is {max(lengths)} bytes long, another one {min(lengths)}")
+        raise BadLength(
+            f"bad length: {what} is {max(lengths)} bytes long, another one {min(lengths)}"
+        )
     return slots
 
 
@@ -77,18 +95,28 @@ def _ended(status: int, what: str, length: int, legal: str, *keks: bytes) -> Non
         raise _refusals.refusal(status, what, length, legal, *keks)
 
 
-def _results(results: List[bytes], statuses: bytearray, legal: str) -> List[Union[bytes, KeywrapError]]:
+def _results(
+    results: List[bytes], statuses: bytearray, legal: str
+) -> List[Union[bytes, KeywrapError]]:
     """Returns the result or the refusal of each slot."""
     if statuses.count(0) + statuses.count(ALREADY) == len(statuses):
         return list(results)
     refused = (0, ALREADY)
     return [
-        result if status in refused else _refusals.refusal(status, "the wrapped key", len(result), legal)
+        result
+        if status in refused
+        else _refusals.refusal(status, "the wrapped key", len(result), legal)
         for result, status in zip(results, statuses)
     ]
 
 
-def wrap_many(kek: ReadableBuffer, keys: Items, length: Optional[int] = None, *, padded: bool = False) -> List[bytes]:
+def wrap_many(
+    kek: ReadableBuffer,
+    keys: Items,
+    length: Optional[int] = None,
+    *,
+    padded: bool = False,
+) -> List[bytes]:
     """Wraps keys of one length, each as `wrap` does, or as `wrap_padded` if it is `padded`.
 
     The keys are in a list, or, with their `length` in bytes, behind each other in one buffer. Lengths that differ raise
@@ -101,10 +129,14 @@ def wrap_many(kek: ReadableBuffer, keys: Items, length: Optional[int] = None, *,
     try:
         if slots.number:
             legal = _refusals.PADDED_KEYS if padded else _refusals.PLAIN_KEYS
-            buffer, statuses = _from("uint8_t[]", slots.buffer), _new("uint8_t[]", slots.number)
+            buffer, statuses = _from("uint8_t[]", slots.buffer), _new(
+                "uint8_t[]", slots.number
+            )
             texts = buffer + slots.offset, slots.number * size, slots.length
             flags = _lib.KEYWRAP_NEW_PADDED if padded else 0
-            status = _lib.keywrap_wrap_many(kek, len(kek), *texts, flags, statuses, slots.number)
+            status = _lib.keywrap_wrap_many(
+                kek, len(kek), *texts, flags, statuses, slots.number
+            )
             _ended(status, "the key", slots.length, legal, kek)
         return slots.each(size)
     finally:
@@ -112,7 +144,11 @@ def wrap_many(kek: ReadableBuffer, keys: Items, length: Optional[int] = None, *,
 
 
 def unwrap_many(
-    kek: ReadableBuffer, wrapped: Items, length: Optional[int] = None, *, padded: bool = False
+    kek: ReadableBuffer,
+    wrapped: Items,
+    length: Optional[int] = None,
+    *,
+    padded: bool = False,
 ) -> List[Union[bytes, KeywrapError]]:
     """Unwraps wrapped keys of one length, each as `unwrap` does, or as `unwrap_padded` if it is `padded`.
 
@@ -120,18 +156,25 @@ def unwrap_many(
     everything else see `wrap_many`.
     """
     if type(kek) is not bytes and type(kek) is not Kek:
-        return _on_copies(unwrap_many, kek, wrapped=wrapped, length=length, padded=padded)
+        return _on_copies(
+            unwrap_many, kek, wrapped=wrapped, length=length, padded=padded
+        )
     slots = _slots(wrapped, length, "the wrapped key")
     try:
         if not slots.number:
             return []
         legal = _refusals.WRAPPED_PADDED if padded else _refusals.WRAPPED_PLAIN
         statuses, lengths = bytearray(slots.number), _new("size_t[]", slots.number)
-        texts, flags = (_from(slots.buffer), len(slots.buffer)), _lib.KEYWRAP_OLD_PADDED if padded else 0
+        texts, flags = (
+            _from(slots.buffer),
+            len(slots.buffer),
+        ), _lib.KEYWRAP_OLD_PADDED if padded else 0
         filled = lengths, slots.number, _from(statuses), slots.number
         status = _lib.keywrap_unwrap_many(kek, len(kek), *texts, flags, *filled)
         _ended(status, "the wrapped key", slots.length, legal, kek)
-        begins, view = range(8, len(slots.buffer) + 8, slots.length), memoryview(slots.buffer)
+        begins, view = range(8, len(slots.buffer) + 8, slots.length), memoryview(
+            slots.buffer
+        )
         keys = [bytes(view[at : at + size]) for at, size in zip(begins, lengths)]
         return _results(keys, statuses, legal)
     finally:
@@ -156,8 +199,15 @@ def rewrap_many(
     """
     flags = _flags(old_padded, new_padded, keep_form, pass_new)
     if type(old_kek) is not bytes or type(new_kek) is not bytes:
-        given = {"old_padded": old_padded, "new_padded": new_padded, "keep_form": keep_form, "pass_new": pass_new}
-        return _on_copies(rewrap_many, old_kek, new_kek, wrapped=wrapped, length=length, **given)
+        given = {
+            "old_padded": old_padded,
+            "new_padded": new_padded,
+            "keep_form": keep_form,
+            "pass_new": pass_new,
+        }
+        return _on_copies(
+            rewrap_many, old_kek, new_kek, wrapped=wrapped, length=length, **given
+        )
     slots = _slots(wrapped, length, "the wrapped key")
     if not slots.number:
         return []
@@ -165,19 +215,29 @@ def rewrap_many(
     return _results(slots.each(slots.length), statuses, "")
 
 
-def rewrap_slots(old_kek: bytes, new_kek: bytes, texts: bytearray, length: int, flags: int) -> bytearray:
+def rewrap_slots(
+    old_kek: bytes, new_kek: bytes, texts: bytearray, length: int, flags: int
+) -> bytearray:
     """Rewraps the wrapped keys in the slots of `texts`, and returns their statuses. A refused one stays as it is."""
     # Keys of no bytes are refused as one is.
     statuses = bytearray(len(texts) // length if length else 1)
     if statuses:
         keks = old_kek, len(old_kek), new_kek, len(new_kek)
-        status = _lib.keywrap_rewrap_many(*keks, _from(texts), len(texts), flags, _from(statuses), len(statuses))
-        legal = _refusals.WRAPPED_PADDED if flags & _EITHER_LENGTH else _refusals.WRAPPED_PLAIN
+        status = _lib.keywrap_rewrap_many(
+            *keks, _from(texts), len(texts), flags, _from(statuses), len(statuses)
+        )
+        legal = (
+            _refusals.WRAPPED_PADDED
+            if flags & _EITHER_LENGTH
+            else _refusals.WRAPPED_PLAIN
+        )
         _ended(status, "the wrapped key", length, legal, old_kek, new_kek)
     return statuses
 
 
-def check_many(kek: ReadableBuffer, wrapped: Items, length: Optional[int] = None) -> List[Optional[Kind]]:
+def check_many(
+    kek: ReadableBuffer, wrapped: Items, length: Optional[int] = None
+) -> List[Optional[Kind]]:
     """Checks wrapped keys of one length, and returns for each what `check` does. For the arguments see `wrap_many`."""
     if type(kek) is not bytes and type(kek) is not Kek:
         return _on_copies(check_many, kek, wrapped=wrapped, length=length)
@@ -189,15 +249,28 @@ def check_many(kek: ReadableBuffer, wrapped: Items, length: Optional[int] = None
     return [None if status else _KINDS[form] for status, form in zip(statuses, forms)]
 
 
-def check_slots(kek: bytes, texts: Union[bytes, bytearray], length: int) -> Tuple[bytearray, bytearray]:
+def check_slots(
+    kek: bytes, texts: Union[bytes, bytearray], length: int
+) -> Tuple[bytearray, bytearray]:
     """Returns for each slot a status, 0 if it is a wrapped key, and 1 if it is a padded one, else 0."""
     number = len(texts) // length if length else 0
     statuses, forms = bytearray(number), bytearray(number)
     if number:
         room = max(length - 8, 0)
         scratch, lengths = _new("uint8_t[]", room), _new("size_t[]", number)
-        filled = scratch, room, _from(forms), number, lengths, number, _from(statuses), number
-        status = _lib.keywrap_kind_many(kek, len(kek), _from(texts), len(texts), *filled)
+        filled = (
+            scratch,
+            room,
+            _from(forms),
+            number,
+            lengths,
+            number,
+            _from(statuses),
+            number,
+        )
+        status = _lib.keywrap_kind_many(
+            kek, len(kek), _from(texts), len(texts), *filled
+        )
         if status == _lib.KEYWRAP_BAD_LENGTH:
             return bytearray([_lib.KEYWRAP_INTEGRITY]) * number, forms
         _ended(status, "the wrapped key", length, _refusals.WRAPPED_PADDED, kek)

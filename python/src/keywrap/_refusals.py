@@ -54,25 +54,41 @@ class IntegrityFailed(KeywrapError):
 
 def bad_length(what: str, length: int, legal: str) -> BadLength:
     """Returns the exception for a length that is not legal."""
-    return BadLength(f"{_BAD_LENGTH}: {what} is {length} bytes long; it must be {legal} bytes")
+    return BadLength(
+        f"{_BAD_LENGTH}: {what} is {length} bytes long; it must be {legal} bytes"
+    )
 
 
-def refusal(status: int, what: str, length: int, legal: str, *keks: bytes) -> KeywrapError:
+def refusal(
+    status: int, what: str, length: int, legal: str, *keks: bytes
+) -> KeywrapError:
     """Returns the exception for the status of a call under these KEKs, whose `what` has this length."""
     if status == lib.KEYWRAP_BAD_KEK:
         # A KEK that is not refused itself refuses no bytes for their integrity.
-        length = next(len(kek) for kek in keks if lib.kind(kek, len(kek), b"", 0, b"", 0) == -status)
+        length = next(
+            len(kek)
+            for kek in keks
+            if lib.kind(kek, len(kek), b"", 0, b"", 0) == -status
+        )
         closed = "closed, or " if length > 100 else ""
-        return BadKekLength(f"the KEK is {closed}{length} bytes long; it must be {KEKS} bytes")
+        return BadKekLength(
+            f"the KEK is {closed}{length} bytes long; it must be {KEKS} bytes"
+        )
     if status == lib.KEYWRAP_BAD_LENGTH:
         return bad_length(what, length, legal)
     if status == lib.KEYWRAP_KEY_NOT_PLAIN:
-        return KeyNotPlain(f"{_BAD_LENGTH}: {_KEY_NOT_PLAIN}; it must be {PLAIN_KEYS} bytes")
+        return KeyNotPlain(
+            f"{_BAD_LENGTH}: {_KEY_NOT_PLAIN}; it must be {PLAIN_KEYS} bytes"
+        )
     return IntegrityFailed(f"{_INTEGRITY}: no wrapped key under this KEK")
 
 
 def bad_initial_value(iv: bytes) -> BadInitialValue:
     """Returns the exception for a refused initial value."""
     if len(iv) != 8:
-        return BadInitialValue(f"the initial value is {len(iv)} bytes long; it must be 8 bytes")
-    return BadInitialValue("the initial value is reserved for the padded form: it begins with a6 59 59 a6")
+        return BadInitialValue(
+            f"the initial value is {len(iv)} bytes long; it must be 8 bytes"
+        )
+    return BadInitialValue(
+        "the initial value is reserved for the padded form: it begins with a6 59 59 a6"
+    )

@@ -53,7 +53,9 @@ class Case(NamedTuple):
         """Yields this case, and its inverse if there is an answer."""
         yield self
         if self.answer is not None:
-            yield self._replace(call=self.call.inverse, given=self.answer, answer=self.given)
+            yield self._replace(
+                call=self.call.inverse, given=self.answer, answer=self.given
+            )
 
 
 class NotOffered(ValueError):
@@ -79,25 +81,48 @@ class Cavp:
         if header is None:
             raise NotOffered("not a file of vectors for AES Key Wrap")
         form, direction, cipher, variant = header.groups()
-        if (form, cipher[:3], variant.strip()) not in [(form, "AES", "cipher") for form in ("KW", "KWP")]:
-            raise NotOffered(f"{form} with the {cipher} {variant}function is not offered")
+        if (form, cipher[:3], variant.strip()) not in [
+            (form, "AES", "cipher") for form in ("KW", "KWP")
+        ]:
+            raise NotOffered(
+                f"{form} with the {cipher} {variant}function is not offered"
+            )
         self._call = _CALLS[form, direction == "E"]
         self._given, self._answer = ("C", "P") if self._call.unwraps else ("P", "C")
         self._parts = re.split(r"^(?=COUNT = |\[)", text, flags=re.M)
         self.cases = [self._case(number) for number in self._numbers()]
 
     def _numbers(self) -> List[int]:
-        return [number for number, part in enumerate(self._parts) if part.startswith("COUNT")]
+        return [
+            number
+            for number, part in enumerate(self._parts)
+            if part.startswith("COUNT")
+        ]
 
     def _case(self, number: int) -> Case:
         part = self._parts[number]
         values = dict(re.findall(r"^(\w+)(?: = (\w+))?\r?$", part, re.M))
-        section = next((part for part in self._parts[number::-1] if part[0] == "["), "").split("]")[0]
+        section = next(
+            (part for part in self._parts[number::-1] if part[0] == "["), ""
+        ).split("]")[0]
         name = f"{section}] COUNT = {values['COUNT']}"
         kek, given = bytes.fromhex(values["K"]), bytes.fromhex(values[self._given])
         if self._answer in values:
-            return Case(name, self._call, kek, given, Verdict.VALID, bytes.fromhex(values[self._answer]))
-        return Case(name, self._call, kek, given, Verdict.INVALID if "FAIL" in values else Verdict.ASKED)
+            return Case(
+                name,
+                self._call,
+                kek,
+                given,
+                Verdict.VALID,
+                bytes.fromhex(values[self._answer]),
+            )
+        return Case(
+            name,
+            self._call,
+            kek,
+            given,
+            Verdict.INVALID if "FAIL" in values else Verdict.ASKED,
+        )
 
     def response(self, answers: Answers) -> str:
         """Returns the response to a request: its text, with a line for each answer."""
@@ -119,21 +144,35 @@ class Acvp:
         self.cases = []
         for group in request[-1]["testGroups"]:
             if (form, group["kwCipher"]) not in [("KW", "cipher"), ("KWP", "cipher")]:
-                raise NotOffered(f"{form} with kwCipher {group['kwCipher']} is not offered")
+                raise NotOffered(
+                    f"{form} with kwCipher {group['kwCipher']} is not offered"
+                )
             call = _CALLS[form, group["direction"] == "encrypt"]
             for test in group["tests"]:
-                kek, given = bytes.fromhex(test["key"]), bytes.fromhex(test["ct" if call.unwraps else "pt"])
-                self.cases.append(Case(f"tcId {test['tcId']}", call, kek, given, Verdict.ASKED))
+                kek, given = bytes.fromhex(test["key"]), bytes.fromhex(
+                    test["ct" if call.unwraps else "pt"]
+                )
+                self.cases.append(
+                    Case(f"tcId {test['tcId']}", call, kek, given, Verdict.ASKED)
+                )
 
     def expect(self, response: List[Any]) -> None:
         """Takes the expected answers from a response."""
-        tests = {f"tcId {test['tcId']}": test for group in response[-1]["testGroups"] for test in group["tests"]}
+        tests = {
+            f"tcId {test['tcId']}": test
+            for group in response[-1]["testGroups"]
+            for test in group["tests"]
+        }
         if tests.keys() != {case.name for case in self.cases}:
             raise NotOffered("a response to other cases than the request's")
         for number, case in enumerate(self.cases):
             digits = tests[case.name].get("pt" if case.call.unwraps else "ct")
-            case = case._replace(verdict=Verdict.INVALID if digits is None else Verdict.VALID)
-            self.cases[number] = case._replace(answer=None if digits is None else bytes.fromhex(digits))
+            case = case._replace(
+                verdict=Verdict.INVALID if digits is None else Verdict.VALID
+            )
+            self.cases[number] = case._replace(
+                answer=None if digits is None else bytes.fromhex(digits)
+            )
 
     def response(self, answers: Answers) -> str:
         """Returns the response to the request."""
@@ -141,12 +180,23 @@ class Acvp:
 
         def answered(test: Dict[str, Any], direction: str) -> Dict[str, Any]:
             answer = next(given)
-            passed = {} if direction == "encrypt" else {"testPassed": answer is not None}
-            value = {} if answer is None else {"ct" if direction == "encrypt" else "pt": answer.hex()}
+            passed = (
+                {} if direction == "encrypt" else {"testPassed": answer is not None}
+            )
+            value = (
+                {}
+                if answer is None
+                else {"ct" if direction == "encrypt" else "pt": answer.hex()}
+            )
             return {"tcId": test["tcId"], **value, **passed}
 
         groups = [
-            {"tgId": group["tgId"], "tests": [answered(test, group["direction"]) for test in group["tests"]]}
+            {
+                "tgId": group["tgId"],
+                "tests": [
+                    answered(test, group["direction"]) for test in group["tests"]
+                ],
+            }
             for group in self._request[-1]["testGroups"]
         ]
         head = [{"vsId": self._request[-1]["vsId"], "testGroups": groups}]
@@ -161,7 +211,10 @@ class Wycheproof:
         if (form, True) not in _CALLS:
             raise NotOffered(f"{form} is not offered")
         self.cases = [
-            case for group in file["testGroups"] for test in group["tests"] for case in self._cases(form, test)
+            case
+            for group in file["testGroups"]
+            for test in group["tests"]
+            for case in self._cases(form, test)
         ]
 
     @staticmethod

@@ -14,14 +14,27 @@ import sys
 import types
 from typing import TYPE_CHECKING, Any, Callable
 
-from . import BadKekLength, BadLength, KeywrapError, unwrap, unwrap_padded, wrap, wrap_padded
+from . import (
+    BadKekLength,
+    BadLength,
+    KeywrapError,
+    unwrap,
+    unwrap_padded,
+    wrap,
+    wrap_padded,
+)
 
 if TYPE_CHECKING:
     from _typeshed import ReadableBuffer
 
 __all__ = [
-    "InvalidUnwrap", "aes_key_unwrap", "aes_key_unwrap_with_padding", "aes_key_wrap",
-    "aes_key_wrap_with_padding", "install", "uninstall",
+    "InvalidUnwrap",
+    "aes_key_unwrap",
+    "aes_key_unwrap_with_padding",
+    "aes_key_wrap",
+    "aes_key_wrap_with_padding",
+    "install",
+    "uninstall",
 ]
 
 
@@ -41,14 +54,18 @@ _KEK_WORDS = "The wrapping key must be a valid AES key length"
 _MULTIPLE = "must be a multiple of 8 bytes"
 
 
-def aes_key_wrap(wrapping_key: ReadableBuffer, key_to_wrap: ReadableBuffer, backend: Any = None) -> bytes:
+def aes_key_wrap(
+    wrapping_key: ReadableBuffer, key_to_wrap: ReadableBuffer, backend: Any = None
+) -> bytes:
     """Wraps a key (RFC 3394). A length that is not legal is a `ValueError`."""
     try:
         return wrap(wrapping_key, key_to_wrap)
     except BadLength as error:
         length = memoryview(key_to_wrap).nbytes
         if length < 16:
-            raise BadLength(f"The key to wrap must be at least 16 bytes: {error}") from None
+            raise BadLength(
+                f"The key to wrap must be at least 16 bytes: {error}"
+            ) from None
         if length % 8:
             raise BadLength(f"The key to wrap {_MULTIPLE}: {error}") from None
         raise
@@ -56,14 +73,18 @@ def aes_key_wrap(wrapping_key: ReadableBuffer, key_to_wrap: ReadableBuffer, back
         raise BadKekLength(f"{_KEK_WORDS}: {error}") from None
 
 
-def aes_key_unwrap(wrapping_key: ReadableBuffer, wrapped_key: ReadableBuffer, backend: Any = None) -> bytes:
+def aes_key_unwrap(
+    wrapping_key: ReadableBuffer, wrapped_key: ReadableBuffer, backend: Any = None
+) -> bytes:
     """Unwraps a key (RFC 3394). A wrapping key of a wrong length is a `ValueError`, else `InvalidUnwrap`."""
     try:
         return unwrap(wrapping_key, wrapped_key)
     except KeywrapError as error:
         length = memoryview(wrapped_key).nbytes
         if length >= 24 and length % 8:
-            raise InvalidUnwrap(f"The wrapped key {_MULTIPLE}: it is {length} bytes long") from None
+            raise InvalidUnwrap(
+                f"The wrapped key {_MULTIPLE}: it is {length} bytes long"
+            ) from None
         raise _unwrap_refused(error, length, 24) from None
 
 
@@ -90,7 +111,9 @@ def aes_key_unwrap_with_padding(
 def _unwrap_refused(error: KeywrapError, length: int, least: int) -> Exception:
     """What is raised for a wrapped key of this length. pyca checks the wrapping key only if it has the least one."""
     if length < least:
-        return InvalidUnwrap(f"Must be at least {least} bytes: it is {length} bytes long")
+        return InvalidUnwrap(
+            f"Must be at least {least} bytes: it is {length} bytes long"
+        )
     if isinstance(error, BadKekLength):
         return BadKekLength(f"{_KEK_WORDS}: {error}")
     return InvalidUnwrap(str(error))
@@ -98,10 +121,17 @@ def _unwrap_refused(error: KeywrapError, length: int, least: int) -> Exception:
 
 def _copy(function: Callable[..., Any]) -> Callable[..., Any]:
     """Another function, that `uninstall` can tell from the one that a program imported from here."""
-    return types.FunctionType(function.__code__, globals(), function.__name__, function.__defaults__)
+    return types.FunctionType(
+        function.__code__, globals(), function.__name__, function.__defaults__
+    )
 
 
-_FUNCTIONS = (aes_key_wrap, aes_key_unwrap, aes_key_wrap_with_padding, aes_key_unwrap_with_padding)
+_FUNCTIONS = (
+    aes_key_wrap,
+    aes_key_unwrap,
+    aes_key_wrap_with_padding,
+    aes_key_unwrap_with_padding,
+)
 _OURS = {function.__name__: _copy(function) for function in _FUNCTIONS}
 _THEIRS: dict[str, Callable[..., Any]] = {}
 

@@ -16,7 +16,16 @@ from .rotation.keks import Keks
 from .rotation.keys import Notation, renewed
 from .rotation.options import keks_of, parse
 
-__all__ = ["EqualKeks", "Keks", "Refused", "WrongKeks", "challenges", "main", "replace", "rewrap_all"]
+__all__ = [
+    "EqualKeks",
+    "Keks",
+    "Refused",
+    "WrongKeks",
+    "challenges",
+    "main",
+    "replace",
+    "rewrap_all",
+]
 
 
 def challenges() -> Keks:
@@ -28,9 +37,16 @@ def challenges() -> Keks:
 def rewrap_all(keys: Mapping[str, bytes], keks: Keks) -> Dict[str, bytes]:
     """Rewraps wrapped keys, raw bytes each, in their form. A key that is under the new KEK already stays. The names are
     for refusals. `keks` is the result of `challenges` at the beginning of the rotation. Raises `WrongKeks` if this
-    machine's KEKs are others, and `Refused` with the names of the keys that are under neither KEK."""
+    machine's KEKs are others, and `Refused` with the names of the keys that are under neither KEK.
+    """
     names, found = list(keys), Found()
-    fresh = renewed(keks.rings(), Notation("raw"), [keys[name] for name in names], found, names.__getitem__)
+    fresh = renewed(
+        keks.rings(),
+        Notation("raw"),
+        [keys[name] for name in names],
+        found,
+        names.__getitem__,
+    )
     if found.refused:
         raise Refused("; ".join(f"{name!r}: {why}" for name, why in found.named))
     return {name: fresh.get(at, keys[name]) for at, name in enumerate(names)}

@@ -13,7 +13,16 @@ blocks are key material.
 from __future__ import annotations
 
 import functools
-from typing import TYPE_CHECKING, Any, Callable, List, NamedTuple, Optional, Tuple, Union
+from typing import (
+    TYPE_CHECKING,
+    Any,
+    Callable,
+    List,
+    NamedTuple,
+    Optional,
+    Tuple,
+    Union,
+)
 
 from . import KeywrapError, Kind, _copied, _ffi, _flags, _on_copies, _refusals
 from ._many import _KINDS, ALREADY, _results, _Slots, _slots
@@ -25,7 +34,16 @@ if TYPE_CHECKING:
 
     Cipher = Callable[[bytes], ReadableBuffer]
 
-__all__ = ["rewrap", "unwrap", "unwrap_any", "unwrap_many", "unwrap_padded", "wrap", "wrap_many", "wrap_padded"]
+__all__ = [
+    "rewrap",
+    "unwrap",
+    "unwrap_any",
+    "unwrap_many",
+    "unwrap_padded",
+    "wrap",
+    "wrap_many",
+    "wrap_padded",
+]
 
 _lib = _ffi.lib
 _from = _ffi.ffi.from_buffer
@@ -34,14 +52,18 @@ _BLOCK = 16
 _DEFAULT_IV = b"\xa6" * 8
 
 
-def wrap(encrypt: Cipher, key: ReadableBuffer, iv: Optional[ReadableBuffer] = None) -> bytes:
+def wrap(
+    encrypt: Cipher, key: ReadableBuffer, iv: Optional[ReadableBuffer] = None
+) -> bytes:
     """Returns what `keywrap.wrap` returns, with AES by `encrypt`. It has the same exceptions."""
     if type(key) is not bytes:
         return _on_copies(functools.partial(wrap, encrypt), key, iv=iv)
     return _wrap(encrypt, [key], None, _iv_of(iv), False)[0]
 
 
-def unwrap(decrypt: Cipher, wrapped: ReadableBuffer, iv: Optional[ReadableBuffer] = None) -> bytes:
+def unwrap(
+    decrypt: Cipher, wrapped: ReadableBuffer, iv: Optional[ReadableBuffer] = None
+) -> bytes:
     """Returns what `keywrap.unwrap` returns, with AES by `decrypt`. `IntegrityFailed` comes after all calls of it."""
     if type(wrapped) is not bytes:
         return _on_copies(functools.partial(unwrap, decrypt), wrapped, iv=iv)
@@ -87,7 +109,12 @@ def rewrap(
     result, is returned unchanged.
     """
     if type(wrapped) is not bytes:
-        given = {"old_padded": old_padded, "new_padded": new_padded, "keep_form": keep_form, "pass_new": pass_new}
+        given = {
+            "old_padded": old_padded,
+            "new_padded": new_padded,
+            "keep_form": keep_form,
+            "pass_new": pass_new,
+        }
         return _on_copies(functools.partial(rewrap, decrypt, encrypt), wrapped, **given)
     flags = _flags(old_padded, new_padded, keep_form, pass_new is not None)
     text, blocks = bytearray(wrapped), bytearray(_BLOCK)
@@ -100,7 +127,11 @@ def rewrap(
     try:
         status = _lib.keywrap_begin_rewrap(flags, ours, len(text), phase, steps, block)
         while phase[0]:
-            step = _lib.step_unwrap_each if phase[0] & _lib.KEYWRAP_DECRYPT else _lib.step_wrap_each
+            step = (
+                _lib.step_unwrap_each
+                if phase[0] & _lib.KEYWRAP_DECRYPT
+                else _lib.step_wrap_each
+            )
             for _ in range(_lib.keywrap_step_count(len(text) - 8)):
                 _replace(blocks, ciphers[phase[0] & (old | new)])
                 if step(ours, len(text), 1, steps, block):
@@ -109,7 +140,11 @@ def rewrap(
                 flags, wrapped, len(wrapped), ours, len(text), phase, steps, block
             )
         if status not in (_lib.KEYWRAP_OK, ALREADY):
-            legal = _refusals.WRAPPED_PADDED if old_padded or keep_form else _refusals.WRAPPED_PLAIN
+            legal = (
+                _refusals.WRAPPED_PADDED
+                if old_padded or keep_form
+                else _refusals.WRAPPED_PLAIN
+            )
             raise _refusals.refusal(status, "the wrapped key", len(wrapped), legal)
         return bytes(text)
     finally:
@@ -117,13 +152,19 @@ def rewrap(
         _lib.wipe(block, len(blocks))
 
 
-def wrap_many(encrypt: Cipher, keys: Items, length: Optional[int] = None, *, padded: bool = False) -> List[bytes]:
+def wrap_many(
+    encrypt: Cipher, keys: Items, length: Optional[int] = None, *, padded: bool = False
+) -> List[bytes]:
     """Returns what `keywrap.wrap_many` returns, with AES by `encrypt` of a block of each key at a time."""
     return _wrap(encrypt, keys, length, _DEFAULT_IV, padded)
 
 
 def unwrap_many(
-    decrypt: Cipher, wrapped: Items, length: Optional[int] = None, *, padded: bool = False
+    decrypt: Cipher,
+    wrapped: Items,
+    length: Optional[int] = None,
+    *,
+    padded: bool = False,
 ) -> List[Union[bytes, KeywrapError]]:
     """Returns what `keywrap.unwrap_many` returns, with AES by `decrypt` of a block of each key at a time."""
     return _unwrap(decrypt, wrapped, length, _DEFAULT_IV, padded)
@@ -152,20 +193,30 @@ class _Calls(NamedTuple):
     end: Callable[..., Any]
 
 
-def _wrap(encrypt: Cipher, keys: Items, length: Optional[int], iv: bytes, padded: bool) -> List[bytes]:
+def _wrap(
+    encrypt: Cipher, keys: Items, length: Optional[int], iv: bytes, padded: bool
+) -> List[bytes]:
     slots = _slots(keys, length, "the key", 8, padded)
     size = slots.length + slots.offset
 
     def begin(text: Any, done: Any, block: Any) -> Any:
         if padded:
-            return _lib.keywrap_begin_wrap_padded(slots.length, text + 8, size, done, block)
+            return _lib.keywrap_begin_wrap_padded(
+                slots.length, text + 8, size, done, block
+            )
         return _lib.keywrap_begin_wrap(iv, len(iv), text + 8, size, done, block)
 
     def end(_: int, text: Any, done: int, block: Any) -> Any:
         return _lib.keywrap_end_wrap(text, text + 8, size, done, block)
 
     def refuse(status: int) -> None:
-        _refuse(status, iv, "the key", slots.length, _refusals.PADDED_KEYS if padded else _refusals.PLAIN_KEYS)
+        _refuse(
+            status,
+            iv,
+            "the key",
+            slots.length,
+            _refusals.PADDED_KEYS if padded else _refusals.PLAIN_KEYS,
+        )
 
     try:
         _run(encrypt, slots, 8 + size, _Calls(begin, _lib.step_wrap_each, end), refuse)
@@ -175,7 +226,12 @@ def _wrap(encrypt: Cipher, keys: Items, length: Optional[int], iv: bytes, padded
 
 
 def _unwrap(
-    decrypt: Cipher, wrapped: Items, length: Optional[int], iv: bytes, padded: bool, form: Any = None
+    decrypt: Cipher,
+    wrapped: Items,
+    length: Optional[int],
+    iv: bytes,
+    padded: bool,
+    form: Any = None,
 ) -> List[Union[bytes, KeywrapError]]:
     """Unwraps in the given form, or of one text in the form that it has, which is written to `form`."""
     slots = _slots(wrapped, length, "the wrapped key")
@@ -191,16 +247,26 @@ def _unwrap(
 
     def end(at: int, text: Any, left: int, block: Any) -> Any:
         if form:
-            return _lib.keywrap_end_unwrap_any(text + 8, size, left, block, form, sizes + at)
+            return _lib.keywrap_end_unwrap_any(
+                text + 8, size, left, block, form, sizes + at
+            )
         if padded:
-            return _lib.keywrap_end_unwrap_padded(text + 8, size, left, block, sizes + at)
+            return _lib.keywrap_end_unwrap_padded(
+                text + 8, size, left, block, sizes + at
+            )
         return _lib.keywrap_end_unwrap(iv, len(iv), text + 8, size, left, block)
 
     def refuse(status: int) -> None:
         _refuse(status, iv, "the wrapped key", slots.length, legal)
 
     try:
-        statuses = _run(decrypt, slots, slots.length, _Calls(begin, _lib.step_unwrap_each, end), refuse)
+        statuses = _run(
+            decrypt,
+            slots,
+            slots.length,
+            _Calls(begin, _lib.step_unwrap_each, end),
+            refuse,
+        )
         begins = (8 + slots.length * at for at in range(slots.number))
         with memoryview(slots.buffer) as view:
             keys = [bytes(view[at : at + size]) for at, size in zip(begins, sizes)]
@@ -217,7 +283,13 @@ def _refuse(status: int, iv: bytes, what: str, length: int, legal: str) -> None:
         raise _refusals.refusal(status, what, length, legal)
 
 
-def _run(cipher: Cipher, slots: _Slots, size: int, calls: _Calls, refuse: Callable[[int], None]) -> bytearray:
+def _run(
+    cipher: Cipher,
+    slots: _Slots,
+    size: int,
+    calls: _Calls,
+    refuse: Callable[[int], None],
+) -> bytearray:
     """Makes all steps of texts of this size. Returns for each whether its end checked out.
 
     The library counts the steps: an end before the last one is a bad length and changes nothing. So a bad initial
@@ -226,13 +298,17 @@ def _run(cipher: Cipher, slots: _Slots, size: int, calls: _Calls, refuse: Callab
     blocks, steps = bytearray(_BLOCK * slots.number), _new("uint64_t *")
     all_texts, all_blocks = _from("uint8_t[]", slots.buffer), _from("uint8_t[]", blocks)
     first = all_texts + slots.offset
-    places = [(first + size * at, all_blocks + _BLOCK * at) for at in range(slots.number)]
+    places = [
+        (first + size * at, all_blocks + _BLOCK * at) for at in range(slots.number)
+    ]
     statuses = bytearray(slots.number)
     try:
         for text, block in places:
             refuse(calls.begin(text, steps, block))
         for at, (text, block) in enumerate(places):
-            while (status := calls.end(at, text, steps[0], block)) == _lib.KEYWRAP_BAD_LENGTH:
+            while (
+                status := calls.end(at, text, steps[0], block)
+            ) == _lib.KEYWRAP_BAD_LENGTH:
                 _replace(blocks, cipher)
                 if calls.step(first, size, slots.number, steps, all_blocks):
                     raise RuntimeError("internal error: a step was refused")
@@ -248,5 +324,7 @@ def _replace(blocks: bytearray, cipher: Cipher) -> None:
     """Replaces the blocks by what the cipher returns for them."""
     with memoryview(cipher(bytes(blocks))) as returned, memoryview(blocks) as ours:
         if returned.nbytes != len(blocks):
-            raise ValueError(f"the callable returned {returned.nbytes} bytes for {len(blocks)}")
+            raise ValueError(
+                f"the callable returned {returned.nbytes} bytes for {len(blocks)}"
+            )
         ours[:] = returned.cast("B")

@@ -44,7 +44,10 @@ def _files(names: List[str]) -> Iterator[Tuple[str, Union[Cavp, Acvp, Wycheproof
         with open(name, newline="") as file:
             text = file.read()
         try:
-            if text.lstrip()[:1] == "[" and "algorithm" not in (content := json.loads(text))[-1]:
+            if (
+                text.lstrip()[:1] == "["
+                and "algorithm" not in (content := json.loads(text))[-1]
+            ):
                 if not found or not isinstance(found[-1][1], Acvp):
                     raise NotOffered("a response without its request before it")
                 found[-1][1].expect(content)
@@ -66,7 +69,10 @@ def _compared(name: str, cases: List[Case], answers: List[Optional[bytes]]) -> i
     for case, answer in zip(cases, answers):
         if not _is_right(case, answer):
             wrong += 1
-            print(f"keywrap.vectors: {name}: {case.name}: wrong answer of {case.call.value}", file=sys.stderr)
+            print(
+                f"keywrap.vectors: {name}: {case.name}: wrong answer of {case.call.value}",
+                file=sys.stderr,
+            )
         elif case.verdict is Verdict.ACCEPTABLE and answer is None:
             deviations += 1
             print(f"{name}: {case.name}: {case.call.value} refuses it; acceptable")
@@ -89,7 +95,11 @@ def main(names: List[str]) -> int:
     except NotOffered as refusal:
         print(f"keywrap.vectors: {refusal}", file=sys.stderr)
         return 2
-    asked = [name for name, file in files if any(case.verdict is Verdict.ASKED for case in file.cases)]
+    asked = [
+        name
+        for name, file in files
+        if any(case.verdict is Verdict.ASKED for case in file.cases)
+    ]
     if asked and len(files) > 1:
         print(f"keywrap.vectors: {asked[0]}: a request goes alone", file=sys.stderr)
         return 2

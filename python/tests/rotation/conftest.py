@@ -18,7 +18,9 @@ def keks(tmp_path, monkeypatch):
 def started_server():
     if not server_programs():
         pytest.skip("no PostgreSQL server (apt-get install postgresql)")
-    pytest.importorskip("psycopg", reason="no psycopg (apt-get install python3-psycopg)")
+    pytest.importorskip(
+        "psycopg", reason="no psycopg (apt-get install python3-psycopg)"
+    )
     server = Server()
     yield server
     server.end()

@@ -10,7 +10,11 @@ NOBODY = ["setpriv", "--reuid", "nobody", "--regid", "nogroup", "--clear-groups"
 
 
 def server_programs():
-    return list(pathlib.Path("/usr/lib/postgresql").glob("*/bin")) if shutil.which("psql") else []
+    return (
+        list(pathlib.Path("/usr/lib/postgresql").glob("*/bin"))
+        if shutil.which("psql")
+        else []
+    )
 
 
 class Server:
@@ -23,12 +27,27 @@ class Server:
         self.environment = {"PGHOST": str(self.directory), "PGPORT": "5432", "PGUSER": "keywrap",
                             "PGDATABASE": "postgres", "PSQLRC": "/dev/null"}  # fmt: skip
         self.control("-o", "-U keywrap -A trust -N", "initdb")
-        self.control("-o", f"-k {self.directory} -c listen_addresses= -c fsync=off", "-l", "log", "start")
+        self.control(
+            "-o",
+            f"-k {self.directory} -c listen_addresses= -c fsync=off",
+            "-l",
+            "log",
+            "start",
+        )
 
     def control(self, *words):
         program = sorted(server_programs())[-1] / "pg_ctl"
-        command = [*(NOBODY if os.geteuid() == 0 else []), program, "-s", "-D", "data", *words]
-        subprocess.run(command, check=True, cwd=self.directory, stdout=subprocess.DEVNULL)
+        command = [
+            *(NOBODY if os.geteuid() == 0 else []),
+            program,
+            "-s",
+            "-D",
+            "data",
+            *words,
+        ]
+        subprocess.run(
+            command, check=True, cwd=self.directory, stdout=subprocess.DEVNULL
+        )
 
     def sql(self, statements):
         done = subprocess.run(["psql", "-qAtX", "-v", "ON_ERROR_STOP=1"], input=statements, capture_output=True,
@@ -39,13 +58,18 @@ class Server:
     def fill(self, keys, kind="bytea"):
         """Makes the table `keys` of wrapped keys by their ids, as bytea or as hex text."""
         prefix = r"\\x" if kind == "bytea" else ""
-        copied = "".join(f"{number}\t{prefix}{key.hex()}\n" for number, key in keys.items())
+        copied = "".join(
+            f"{number}\t{prefix}{key.hex()}\n" for number, key in keys.items()
+        )
         self.sql(f"DROP TABLE IF EXISTS keys;\nCREATE TABLE keys (id bigint PRIMARY KEY, key {kind});\n"
                  f"COPY keys FROM STDIN;\n{copied}\\.\nANALYZE keys;")  # fmt: skip
 
     def held(self, value="encode(key, 'hex')"):
         """The wrapped key of each id."""
-        found = (row.split("|") for row in self.sql(f"SELECT id, {value} FROM keys").splitlines())
+        found = (
+            row.split("|")
+            for row in self.sql(f"SELECT id, {value} FROM keys").splitlines()
+        )
         return {int(number): bytes.fromhex(key) for number, key in found}
 
     def end(self):

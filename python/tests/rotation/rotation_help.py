@@ -11,36 +11,55 @@ import time
 
 import pytest
 
-pyca = pytest.importorskip("cryptography.hazmat.primitives.keywrap",
-                           reason="no cryptography (apt-get install python3-cryptography)")
+pyca = pytest.importorskip(
+    "cryptography.hazmat.primitives.keywrap",
+    reason="no cryptography (apt-get install python3-cryptography)",
+)
 
 KEK, NEW_KEK = bytes(range(16)), bytes(range(100, 132))
 # What is left to `make evidence`, which sets KEYWRAP_EVIDENCE=1.
-evidence = pytest.mark.skipif(os.environ.get("KEYWRAP_EVIDENCE") != "1", reason="left to KEYWRAP_ALL=1")
+evidence = pytest.mark.skipif(
+    os.environ.get("KEYWRAP_EVIDENCE") != "1", reason="left to KEYWRAP_ALL=1"
+)
 ROTATE = (sys.executable, "-B", "-m", "keywrap.rotate")
 
 
 def patched(lines):
     """The rotation, each of whose processes has executed these lines before."""
     here = os.path.dirname(os.path.abspath(__file__))
-    return (sys.executable, "-B", "-c", f"import os, sys, time\nsys.path.insert(0, {here!r})\n{lines}\n"
-            "from keywrap.rotate import main\nsys.exit(main())")
+    return (
+        sys.executable,
+        "-B",
+        "-c",
+        f"import os, sys, time\nsys.path.insert(0, {here!r})\n{lines}\n"
+        "from keywrap.rotate import main\nsys.exit(main())",
+    )
 
 
 # A rotation that sleeps for $SLOW seconds before each key.
-SLOWLY = patched("""from keywrap import _many
+SLOWLY = patched(
+    """from keywrap import _many
 from rotation_help import before_each_key
-_many.rewrap_slots = before_each_key(lambda text: time.sleep(float(os.environ.get("SLOW", "0.01"))))""")
+_many.rewrap_slots = before_each_key(lambda text: time.sleep(float(os.environ.get("SLOW", "0.01"))))"""
+)
 
 
 def secrets_in(text):
     """The KEKs that the text shows in hex or as bytes."""
-    return [secret for secret in (KEK.hex().encode(), NEW_KEK.hex().encode(), KEK, NEW_KEK) if secret in text]
+    return [
+        secret
+        for secret in (KEK.hex().encode(), NEW_KEK.hex().encode(), KEK, NEW_KEK)
+        if secret in text
+    ]
 
 
 def wrapped_under(kek, key):
     """The wrapped key, padded if the length of the key is not plain."""
-    wrap = pyca.aes_key_wrap_with_padding if len(key) % 8 or len(key) < 16 else pyca.aes_key_wrap
+    wrap = (
+        pyca.aes_key_wrap_with_padding
+        if len(key) % 8 or len(key) < 16
+        else pyca.aes_key_wrap
+    )
     return wrap(kek, key)
 
 
@@ -74,13 +93,20 @@ def fill(store, keys, kek=KEK):
 
 def state(store, keys):
     """For each of these files: old, new, or neither."""
-    return [{lines_under(KEK, some): "old", lines_under(NEW_KEK, some): "new"}.get(
-        (store / str(number)).read_bytes(), "neither") for number, some in enumerate(keys)]
+    return [
+        {lines_under(KEK, some): "old", lines_under(NEW_KEK, some): "new"}.get(
+            (store / str(number)).read_bytes(), "neither"
+        )
+        for number, some in enumerate(keys)
+    ]
 
 
 def set_keks(directory, monkeypatch, kek=KEK, new_kek=NEW_KEK):
     """Writes both KEKs into files, and sets the variables with their names."""
-    for name, variable, content in (("kek.hex", "KEYWRAP_KEK", kek), ("new-kek.hex", "KEYWRAP_NEW_KEK", new_kek)):
+    for name, variable, content in (
+        ("kek.hex", "KEYWRAP_KEK", kek),
+        ("new-kek.hex", "KEYWRAP_NEW_KEK", new_kek),
+    ):
         (directory / name).write_text(content.hex() + "\n", encoding="ascii")
         monkeypatch.setenv(variable, str(directory / name))
 
@@ -92,7 +118,9 @@ class Done:
         assert secrets_in(said + printed) == []
         self.status, self.printed = status, printed.decode()
         self.said = said.decode("utf-8", "backslashreplace").splitlines()
-        last = re.findall(r"(\d+) (passes|keys|new|old|refused|rewrapped)", (self.said or [""])[-1])
+        last = re.findall(
+            r"(\d+) (passes|keys|new|old|refused|rewrapped)", (self.said or [""])[-1]
+        )
         self.counts = {word: int(number) for number, word in last}
 
     def __eq__(self, status):
@@ -107,8 +135,13 @@ class Done:
 
 def start(*words, program=ROTATE, **more):
     """Begins a rotation. Its process has a group of its own."""
-    return subprocess.Popen([*program, *map(str, words)], stdout=subprocess.PIPE, stderr=subprocess.PIPE,
-                            start_new_session=True, **more)
+    return subprocess.Popen(
+        [*program, *map(str, words)],
+        stdout=subprocess.PIPE,
+        stderr=subprocess.PIPE,
+        start_new_session=True,
+        **more,
+    )
 
 
 def end(running, timeout=200):
@@ -132,7 +165,9 @@ def wait_for(condition):
 
 
 def children(process):
-    with open(f"/proc/{process.pid}/task/{process.pid}/children", encoding="ascii") as file:
+    with open(
+        f"/proc/{process.pid}/task/{process.pid}/children", encoding="ascii"
+    ) as file:
         return [int(child) for child in file.read().split()]
 
 
@@ -142,13 +177,23 @@ def write_lines(name, lines):
 
 
 def left_over(directory):
-    return [name for _, _, names in os.walk(directory) for name in names if name.startswith(".rotating.")]
+    return [
+        name
+        for _, _, names in os.walk(directory)
+        for name in names
+        if name.startswith(".rotating.")
+    ]
 
 
 def seen(path):
     """Everything about a file except the time of its last read."""
     status = os.lstat(path)
-    return (*status[:7], status.st_mtime_ns, status.st_ctime_ns, path.read_bytes() if path.is_file() else None)
+    return (
+        *status[:7],
+        status.st_mtime_ns,
+        status.st_ctime_ns,
+        path.read_bytes() if path.is_file() else None,
+    )
 
 
 def before_each_key(act):

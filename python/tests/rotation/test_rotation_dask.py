@@ -9,10 +9,23 @@ import sys
 
 import pytest
 
-pytest.importorskip("distributed", reason="no distributed (apt-get install python3-distributed)")
+pytest.importorskip(
+    "distributed", reason="no distributed (apt-get install python3-distributed)"
+)
 
 from rotation_help import (  # noqa: E402
-    KEK, end, fill, left_over, lines_under, make_keys, rotate, secrets_in, start, state, wait_for)
+    KEK,
+    end,
+    fill,
+    left_over,
+    lines_under,
+    make_keys,
+    rotate,
+    secrets_in,
+    start,
+    state,
+    wait_for,
+)
 
 KEYS = [make_keys(20, seed) for seed in range(40)]
 SLOW = f"""
@@ -31,23 +44,60 @@ class Cluster:
         self.directory, self.processes = directory, []
         (directory / "slow.py").write_text(SLOW)
         file = directory / "scheduler"
-        self.start("scheduler", "--host", "tcp://127.0.0.1", "--port", "0", "--scheduler-file", file)
+        self.start(
+            "scheduler",
+            "--host",
+            "tcp://127.0.0.1",
+            "--port",
+            "0",
+            "--scheduler-file",
+            file,
+        )
         wait_for(lambda: file.exists() and file.read_text().endswith("}"))
         self.address = json.loads(file.read_text())["address"]
 
     def start(self, what, *words, wrapper=()):
         module = f"distributed.cli.dask_{what}"
-        command = [sys.executable, "-B", "-m", *wrapper, module, "--no-dashboard", *map(str, words)]
+        command = [
+            sys.executable,
+            "-B",
+            "-m",
+            *wrapper,
+            module,
+            "--no-dashboard",
+            *map(str, words),
+        ]
         with open(self.directory / f"log.{len(self.processes)}", "wb") as log:
-            self.processes.append(subprocess.Popen(command, stdout=log, stderr=log, cwd=self.directory, env={
-                **os.environ, "DASK_DISTRIBUTED__SCHEDULER__WORKER_TTL": "4s"}))
+            self.processes.append(
+                subprocess.Popen(
+                    command,
+                    stdout=log,
+                    stderr=log,
+                    cwd=self.directory,
+                    env={**os.environ, "DASK_DISTRIBUTED__SCHEDULER__WORKER_TTL": "4s"},
+                )
+            )
 
     def add_worker(self, *wrapper):
         """Starts a worker without a nanny, and waits until the scheduler knows it."""
         number = len(self.processes)
-        self.start("worker", self.address, "--nthreads", "1", "--no-nanny", "--host", "127.0.0.1", "--local-directory",
-                   self.directory / f"space{number}", "--preload", self.directory / "slow.py", wrapper=wrapper)
-        wait_for(lambda: b"Registered to" in (self.directory / f"log.{number}").read_bytes())
+        self.start(
+            "worker",
+            self.address,
+            "--nthreads",
+            "1",
+            "--no-nanny",
+            "--host",
+            "127.0.0.1",
+            "--local-directory",
+            self.directory / f"space{number}",
+            "--preload",
+            self.directory / "slow.py",
+            wrapper=wrapper,
+        )
+        wait_for(
+            lambda: b"Registered to" in (self.directory / f"log.{number}").read_bytes()
+        )
         return self.processes[-1]
 
     def end(self):
@@ -79,11 +129,17 @@ class TestDask:
         cluster.add_worker()
         cluster.add_worker()
         done = rotate("--dask", cluster.address, "--report", "report", store)
-        assert (done.status, done.counts["rewrapped"], {*state(store, KEYS)}) == (0, 20 * 40, {"new"}), done
+        assert (done.status, done.counts["rewrapped"], {*state(store, KEYS)}) == (
+            0,
+            20 * 40,
+            {"new"},
+        ), done
         assert secrets_in(pathlib.Path("report").read_bytes()) == []
         assert rotate("--verify", "--dask", cluster.address, store) == 0
         (store / "7").write_bytes(lines_under(KEK, KEYS[7]))
-        assert rotate("--verify", "--dask", cluster.address, store) == 5  # No answer is from before.
+        assert (
+            rotate("--verify", "--dask", cluster.address, store) == 5
+        )  # No answer is from before.
 
     def test_a_worker_that_dies(self, cluster, store):
         worker = cluster.add_worker()
@@ -102,11 +158,16 @@ class TestDask:
             pytest.skip("unshare is not allowed here")
         (tmp_path / "elsewhere").write_text("77" * 16)
         hidden = f"mount --bind {tmp_path / 'elsewhere'} {tmp_path / 'new-kek.hex'} && exec \"$@\""
-        (tmp_path / "cluster/run.py").write_text(f"""import os, sys
-os.execvp('unshare', ['unshare', '-m', 'sh', '-c', {hidden!r}, 'sh', sys.executable, '-B', '-m', *sys.argv[1:]])""")
+        (tmp_path / "cluster/run.py").write_text(
+            f"""import os, sys
+os.execvp('unshare', ['unshare', '-m', 'sh', '-c', {hidden!r}, 'sh', sys.executable, '-B', '-m', *sys.argv[1:]])"""
+        )
         cluster.add_worker("run")
         done = rotate("--dask", cluster.address, store)
-        assert (done.status, done.has("not those that the rotation began with")) == (3, True), done
+        assert (done.status, done.has("not those that the rotation began with")) == (
+            3,
+            True,
+        ), done
         assert {*state(store, KEYS)} == {"old"}
 
     def test_no_scheduler(self, store):

@@ -9,13 +9,25 @@ import sys
 import time
 
 import pytest
-from rotation_help import KEK, NEW_KEK, evidence, fill, left_over, lines_under, make_keys, patched, rotate, state
+from rotation_help import (
+    KEK,
+    NEW_KEK,
+    evidence,
+    fill,
+    left_over,
+    lines_under,
+    make_keys,
+    patched,
+    rotate,
+    state,
+)
 
 FILES = 6
 KEYS = [make_keys(20, seed) for seed in range(FILES)]
 THEIRS = [lines_under(NEW_KEK, make_keys(1, seed)) for seed in (50, 51)]
 # Before or after its Nth call for the store, a function fails, or its process is killed.
-BROKEN = patched("""import errno, fcntl
+BROKEN = patched(
+    """import errno, fcntl
 from keywrap.rotation import replacing
 what, number = os.environ["WHAT"], int(os.environ["NUMBER"])
 calls = 0
@@ -73,7 +85,8 @@ def exchange(one, other, real=replacing.exchange):
         raise OSError(errno.EIO, "Input/output error")
     if hit and how in ("after", "written", "twice"):
         die()
-replacing.exchange = exchange""")
+replacing.exchange = exchange"""
+)
 
 
 @pytest.fixture(autouse=True)
@@ -86,8 +99,10 @@ def store(tmp_path):
 def kinds(store):
     """How many files are old, new, or have their first or second content."""
     of_theirs = {THEIRS[0]: "1", THEIRS[1]: "2"}
-    return collections.Counter(found if found != "neither" else of_theirs[(store / str(number)).read_bytes()]
-                               for number, found in enumerate(state(store, KEYS)))
+    return collections.Counter(
+        found if found != "neither" else of_theirs[(store / str(number)).read_bytes()]
+        for number, found in enumerate(state(store, KEYS))
+    )
 
 
 def broken(store, what, number, **more):
@@ -95,17 +110,37 @@ def broken(store, what, number, **more):
     fill(store, KEYS)
     if os.path.exists("once"):
         os.unlink("once")
-    files, more = store.iterdir() if "names" in what else [store], {"WHAT": what, "NUMBER": str(number), **more}
+    files, more = store.iterdir() if "names" in what else [store], {
+        "WHAT": what,
+        "NUMBER": str(number),
+        **more,
+    }
     return rotate("--jobs", "1", *files, program=BROKEN, env={**os.environ, **more})
 
 
-FAULTS = ["fail fsync", "fail dirsync", "fail dirsync of names", "fail pread", "fail write", "short write",
-          "fail unlink", "fail rename", "fail fchmod", "fail flock", "fail exchange", "fail exchanged", "fail none"]
+FAULTS = [
+    "fail fsync",
+    "fail dirsync",
+    "fail dirsync of names",
+    "fail pread",
+    "fail write",
+    "short write",
+    "fail unlink",
+    "fail rename",
+    "fail fchmod",
+    "fail flock",
+    "fail exchange",
+    "fail exchanged",
+    "fail none",
+]
 
 
 @pytest.mark.parametrize("what", FAULTS)
-@pytest.mark.parametrize("numbers", [[1, 3, -1], pytest.param([2, 4, 5, 6, 8, 13, -2, -3], marks=evidence)],
-                         ids=["some", "all"])
+@pytest.mark.parametrize(
+    "numbers",
+    [[1, 3, -1], pytest.param([2, 4, 5, 6, 8, 13, -2, -3], marks=evidence)],
+    ids=["some", "all"],
+)
 def test_faults_of_input_and_output(store, what, numbers):
     for number in numbers:
         done = broken(store, what, number)
@@ -115,20 +150,41 @@ def test_faults_of_input_and_output(store, what, numbers):
         assert set(found) <= {"old", "new"}
         if number == -1 and what in ("fail exchange", "fail none"):
             assert done.status in (5, 6) and set(found) == {"old"}
-        if number == -1 and "dirsync" in what:  # Files that are new, also before, and may be old again after a crash.
-            for done in done, rotate(store, program=BROKEN, env={**os.environ, "WHAT": what, "NUMBER": "-1"}):
-                assert done == 6 and done.has(": it was not synced: Input/output error") and set(found) == {"new"}
+        if (
+            number == -1 and "dirsync" in what
+        ):  # Files that are new, also before, and may be old again after a crash.
+            for done in done, rotate(
+                store, program=BROKEN, env={**os.environ, "WHAT": what, "NUMBER": "-1"}
+            ):
+                assert (
+                    done == 6
+                    and done.has(": it was not synced: Input/output error")
+                    and set(found) == {"new"}
+                )
         assert rotate(store) == 0
-        assert (set(kinds(store)), sorted(os.listdir(store))) == ({"new"}, list(map(str, range(FILES))))
+        assert (set(kinds(store)), sorted(os.listdir(store))) == (
+            {"new"},
+            list(map(str, range(FILES))),
+        )
 
 
-KILLS = ["kill at rename", "kill before", "kill after", "kill at unlink", "kill at dirsync", "kill written",
-         "kill twice", "raced"]
+KILLS = [
+    "kill at rename",
+    "kill before",
+    "kill after",
+    "kill at unlink",
+    "kill at dirsync",
+    "kill written",
+    "kill twice",
+    "raced",
+]
 
 
 @pytest.mark.parametrize("what", KILLS)
 @pytest.mark.parametrize("each", [False, True])
-@pytest.mark.parametrize("numbers", [[1, 4], pytest.param([2, 3, 5, 6], marks=evidence)], ids=["some", "all"])
+@pytest.mark.parametrize(
+    "numbers", [[1, 4], pytest.param([2, 3, 5, 6], marks=evidence)], ids=["some", "all"]
+)
 def test_kills_at_each_point_of_an_exchange(store, what, each, numbers):
     """All keys are right after the next run, or a file is named with 5 if only a person can decide."""
     for number in numbers:
@@ -138,13 +194,19 @@ def test_kills_at_each_point_of_an_exchange(store, what, each, numbers):
             assert left_over(store) == [] and "old" not in kinds(store)
         last = rotate(store)
         found = kinds(store)
-        assert "old" not in found and (last.status, found["new"] == FILES or found["1"] + found["2"] > 0) in (
-            (0, True), (5, True)), (what, number, last)
+        assert "old" not in found and (
+            last.status,
+            found["new"] == FILES or found["1"] + found["2"] > 0,
+        ) in ((0, True), (5, True)), (what, number, last)
         assert (last == 5) == bool(left_over(store))
-        if last == 5:  # Others wrote the file twice around one exchange: what came out is there, and named.
+        if (
+            last == 5
+        ):  # Others wrote the file twice around one exchange: what came out is there, and named.
             assert what == "kill twice" or each and what == "kill written"
             assert last.has("compare it with the file")
-            assert all((store / name).read_bytes() in THEIRS for name in left_over(store))
+            assert all(
+                (store / name).read_bytes() in THEIRS for name in left_over(store)
+            )
 
 
 MOVER = """
@@ -170,7 +232,9 @@ while True:
 """
 
 
-@pytest.mark.parametrize("how, rate", [("move", 50), ("move", 500), ("move", 5000), ("churn", 2000)])
+@pytest.mark.parametrize(
+    "how, rate", [("move", 50), ("move", 500), ("move", 5000), ("churn", 2000)]
+)
 @pytest.mark.parametrize("runs", [3, pytest.param(24, marks=evidence)])
 def test_beside_programs_that_rename(store, how, rate, runs):
     """Status 0 is never wrong, and it comes beside fifty renames a second, on a quiet machine within ten seconds."""
@@ -180,11 +244,15 @@ def test_beside_programs_that_rename(store, how, rate, runs):
         shutil.rmtree(store, ignore_errors=True)
         for number, key in enumerate(keys):
             (store / str(number % 10)).mkdir(parents=True, exist_ok=True)
-            (store / str(number % 10) / f"f{number}").write_bytes(lines_under(KEK, [key]))
+            (store / str(number % 10) / f"f{number}").write_bytes(
+                lines_under(KEK, [key])
+            )
         mover = subprocess.Popen([sys.executable, "-B", "-c", MOVER, how, str(rate)])
         began = time.monotonic()
         try:
-            done = rotate("--jobs", "1", store, timeout=1000)  # On a busy machine each pass takes long.
+            done = rotate(
+                "--jobs", "1", store, timeout=1000
+            )  # On a busy machine each pass takes long.
         finally:
             mover.kill()
             mover.wait()
@@ -193,4 +261,7 @@ def test_beside_programs_that_rename(store, how, rate, runs):
         is_slow = time.monotonic() - began > 10 and os.getloadavg()[0] < os.cpu_count()
         assert rate > 50 or done == 0 and not is_slow, done
         assert found == expected or done == 6
-        assert rotate(store) == 0 and {path.read_bytes() for path in store.glob("*/f*")} == expected
+        assert (
+            rotate(store) == 0
+            and {path.read_bytes() for path in store.glob("*/f*")} == expected
+        )

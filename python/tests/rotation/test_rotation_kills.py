@@ -16,13 +16,25 @@ import threading
 import time
 
 import pytest
-from rotation_help import (KEK, NEW_KEK, children, end, left_over, patched, start, unwrapped, wait_for, wrapped_under,
-                           write_lines)
+from rotation_help import (
+    KEK,
+    NEW_KEK,
+    children,
+    end,
+    left_over,
+    patched,
+    start,
+    unwrapped,
+    wait_for,
+    wrapped_under,
+    write_lines,
+)
 
 ROUNDS = int(os.environ.get("KEYWRAP_KILLS", "1"))
 FILES = 8
 OTHER_KEK = bytes(range(200, 224))
-RANDOMLY = patched("""import random
+RANDOMLY = patched(
+    """import random
 from keywrap import _many
 from keywrap.rotation import keys, replacing
 from rotation_help import before_each_key
@@ -33,7 +45,8 @@ def slow(*words, real=replacing.exchange):
     wait(0.01)
     real(*words)
 replacing.exchange = slow
-_many.rewrap_slots = before_each_key(lambda text: wait(0.004))""")
+_many.rewrap_slots = before_each_key(lambda text: wait(0.004))"""
+)
 
 
 class Files:
@@ -45,7 +58,14 @@ class Files:
         self.keys, self.last = dict(keys), {}
         os.makedirs("store")
         for number in range(FILES):
-            self.rename(number, {place: key for place, key in self.keys.items() if place % FILES == number})
+            self.rename(
+                number,
+                {
+                    place: key
+                    for place, key in self.keys.items()
+                    if place % FILES == number
+                },
+            )
 
     def rename(self, name, keys):
         write_lines("their", [keys[place].hex() for place in sorted(keys)])
@@ -53,7 +73,8 @@ class Files:
 
     def write(self, place, wrapped):
         """Reads the file, changes one key, and renames a new file into its place. Only the rotation writes it, too. In
-        the middle of an exchange, the file lacks what was written right before: then this is tried again later."""
+        the middle of an exchange, the file lacks what was written right before: then this is tried again later.
+        """
         number = place % FILES
         held = self.read(number)
         if not held.items() >= self.last.get(number, {}).items():
@@ -63,18 +84,30 @@ class Files:
 
     def read(self, number):
         found = map(bytes.fromhex, pathlib.Path(f"store/{number}").read_text().split())
-        return dict(zip(sorted(place for place in self.keys if place % FILES == number), found))
+        return dict(
+            zip(sorted(place for place in self.keys if place % FILES == number), found)
+        )
 
     def held(self):
-        return {place: key for number in range(FILES) for place, key in self.read(number).items()}
+        return {
+            place: key
+            for number in range(FILES)
+            for place, key in self.read(number).items()
+        }
 
 
 class Objects(Files):
     """Objects with compare-and-swap: a version is the digest of the content."""
 
     places = 16
-    words = ["--files-from", "manifest", "--get", "sh object get {name} {file}",
-             "--put", "sh object put {name} {file} {version}"]
+    words = [
+        "--files-from",
+        "manifest",
+        "--get",
+        "sh object get {name} {file}",
+        "--put",
+        "sh object put {name} {file} {version}",
+    ]
     commands = """version() { sha256sum <"$1" | cut -c 1-64; }
         case $1 in
         get) cp "store/$2" "$3" && version "$3" ;;
@@ -95,7 +128,10 @@ class Objects(Files):
             self.rename(place, {place: wrapped})
 
     def held(self):
-        return {place: bytes.fromhex(pathlib.Path(f"store/{place}").read_text()) for place in self.keys}
+        return {
+            place: bytes.fromhex(pathlib.Path(f"store/{place}").read_text())
+            for place in self.keys
+        }
 
 
 class OneKey(Objects):
@@ -114,7 +150,9 @@ class Sqlite:
             self.run("INSERT INTO keys VALUES (?, ?)", place, wrapped)
 
     def run(self, statement, *values):
-        with contextlib.closing(sqlite3.connect("keys.db", timeout=60)) as connection, connection:
+        with contextlib.closing(
+            sqlite3.connect("keys.db", timeout=60)
+        ) as connection, connection:
             return connection.execute(statement, values).fetchall()
 
     def write(self, place, wrapped):
@@ -136,7 +174,9 @@ class Postgresql:
         server.fill(keys)
 
     def write(self, place, wrapped):
-        self.server.sql(f"UPDATE keys SET key = '\\x{wrapped.hex()}' WHERE id = {place}")
+        self.server.sql(
+            f"UPDATE keys SET key = '\\x{wrapped.hex()}' WHERE id = {place}"
+        )
 
     def held(self):
         return self.server.held()
@@ -151,7 +191,11 @@ def key_and_kek(wrapped):
 def replace_kek(source, runs):
     """Replaces the new KEK for a moment, after each run has begun its report."""
     for report, running in runs.items():
-        wait_for(lambda: running.poll() is not None or os.path.exists(report) and os.path.getsize(report))
+        wait_for(
+            lambda: running.poll() is not None
+            or os.path.exists(report)
+            and os.path.getsize(report)
+        )
     for content in (OTHER_KEK, NEW_KEK):
         pathlib.Path("other").write_text(content.hex())
         os.rename("other", "new-kek.hex")
@@ -169,7 +213,10 @@ def disturb(source, running):
             time.sleep(0.4)
             os.killpg(running.pid, signal.SIGCONT)
         elif running.poll() is None:
-            victim = {"all": -running.pid, "worker": source.choice([*workers, running.pid])}.get(how, running.pid)
+            victim = {
+                "all": -running.pid,
+                "worker": source.choice([*workers, running.pid]),
+            }.get(how, running.pid)
             os.kill(victim, signal.SIGTERM if how == "terminate" else signal.SIGKILL)
             return True
     return False
@@ -180,11 +227,18 @@ class Writer(threading.Thread):
 
     def __init__(self, store, source):
         super().__init__()
-        self.store, self.source, self.acknowledged, self.stopped = store, source, [], threading.Event()
+        self.store, self.source, self.acknowledged, self.stopped = (
+            store,
+            source,
+            [],
+            threading.Event(),
+        )
 
     def run(self):
         while not self.stopped.is_set():
-            place, key = self.source.randrange(self.store.places), self.source.randbytes(24)
+            place, key = self.source.randrange(
+                self.store.places
+            ), self.source.randbytes(24)
             with contextlib.suppress(LookupError):
                 self.store.write(place, wrapped_under(NEW_KEK, key))
                 self.acknowledged.append((place, key))
@@ -199,8 +253,14 @@ class Writer(threading.Thread):
         self.join(timeout=60)
 
 
-KINDS = {"lines": Files, "files of one key": OneKey, "objects": Objects, "SQLite": Sqlite, "SQLite with a log": Log,
-         "PostgreSQL": Postgresql}
+KINDS = {
+    "lines": Files,
+    "files of one key": OneKey,
+    "objects": Objects,
+    "SQLite": Sqlite,
+    "SQLite with a log": Log,
+    "PostgreSQL": Postgresql,
+}
 
 
 @pytest.fixture
@@ -211,7 +271,13 @@ def filled(request, kind):
     def fill(seed):
         source = random.Random(f"{kind} {seed}")
         keys = {place: source.randbytes(32) for place in range(KINDS[kind].places)}
-        return KINDS[kind]({place: wrapped_under(KEK, key) for place, key in keys.items()}, server), keys, source
+        return (
+            KINDS[kind](
+                {place: wrapped_under(KEK, key) for place, key in keys.items()}, server
+            ),
+            keys,
+            source,
+        )
 
     return fill
 
@@ -219,7 +285,9 @@ def filled(request, kind):
 def begun(store, source, *words):
     """A new report, and the run that writes it."""
     report = f"report{source.random()}"
-    return report, start("--jobs", "2", "--report", report, *words, *store.words, program=RANDOMLY)
+    return report, start(
+        "--jobs", "2", "--report", report, *words, *store.words, program=RANDOMLY
+    )
 
 
 def last(store, source):
@@ -241,8 +309,15 @@ def test_random_kills(filled, tmp_path, number, count):
     kills = 0
     with Writer(store, source) as acknowledged:
         while kills < 4:
-            halves = count == 2 and type(store) is not Postgresql and source.randrange(2) == 0
-            runs = dict(begun(store, source, *(["--shard", f"{at}/2"] if halves else [])) for at in range(1, count + 1))
+            halves = (
+                count == 2
+                and type(store) is not Postgresql
+                and source.randrange(2) == 0
+            )
+            runs = dict(
+                begun(store, source, *(["--shard", f"{at}/2"] if halves else []))
+                for at in range(1, count + 1)
+            )
             if source.randrange(3) == 0:
                 replace_kek(source, runs)
             for running in runs.values():
@@ -250,14 +325,27 @@ def test_random_kills(filled, tmp_path, number, count):
             for running in runs.values():
                 end(running)
     done, counts = last(store, source)
-    for path in (left := list(tmp_path.rglob(".rotating.*"))):  # Written twice around an exchange: a person decides.
-        assert done.has(f"{path}: a run left it, and others wrote the file since: compare it with the file")
-        found = {key_and_kek(bytes.fromhex(text))[0] for text in path.read_text().split()}
+    for path in (
+        left := list(tmp_path.rglob(".rotating.*"))
+    ):  # Written twice around an exchange: a person decides.
+        assert done.has(
+            f"{path}: a run left it, and others wrote the file since: compare it with the file"
+        )
+        found = {
+            key_and_kek(bytes.fromhex(text))[0] for text in path.read_text().split()
+        }
         assert found <= {*keys.values(), *(key for _, key in acknowledged)}
         path.unlink()
     if left and done == 5:
         done, counts = last(store, source)
     held = {place: key_and_kek(wrapped) for place, wrapped in store.held().items()}
-    assert held == {place: (key, NEW_KEK) for place, key in {**keys, **dict(acknowledged)}.items()}
-    assert (done.status, counts["keys"], counts["new"], counts["refused"]) == (0, len(keys), len(keys), 0)
+    assert held == {
+        place: (key, NEW_KEK) for place, key in {**keys, **dict(acknowledged)}.items()
+    }
+    assert (done.status, counts["keys"], counts["new"], counts["refused"]) == (
+        0,
+        len(keys),
+        len(keys),
+        0,
+    )
     assert left_over(tmp_path) == []

@@ -7,7 +7,16 @@ import sys
 import pytest
 from rotation_help import KEK, NEW_KEK, make_keys, rotate, wrapped_under, write_lines
 
-NAMES = ["a", "b b", "-n", "-e", "d'\"$d`touch done`;x", "é", "{version}", "../bucket/up"]
+NAMES = [
+    "a",
+    "b b",
+    "-n",
+    "-e",
+    "d'\"$d`touch done`;x",
+    "é",
+    "{version}",
+    "../bucket/up",
+]
 KEYS = make_keys(len(NAMES))
 # A version is the digest of the content. `meanwhile` runs before each call.
 STORE = """
@@ -24,8 +33,12 @@ elif [found] != version:
 else:
     shutil.copy(file, path)
 """
-COMMANDS = ["--get", f"{sys.executable} store.py get {{name}} {{file}}",
-            "--put", f"{sys.executable} store.py put {{name}} {{file}} {{version}}"]
+COMMANDS = [
+    "--get",
+    f"{sys.executable} store.py get {{name}} {{file}}",
+    "--put",
+    f"{sys.executable} store.py put {{name}} {{file}} {{version}}",
+]
 FROM = ["--files-from", "manifest"]
 
 
@@ -69,38 +82,73 @@ class TestObjects:
     def test_each_name_of_an_object(self, jobs):
         for rewrapped, act in (8, ""), (0, 'call == "put" and sys.exit(1)'):
             done = rotated("--jobs", jobs, meanwhile=act)
-            assert (done.status, held(), done.counts["rewrapped"]) == (0, under(NEW_KEK), rewrapped)
+            assert (done.status, held(), done.counts["rewrapped"]) == (
+                0,
+                under(NEW_KEK),
+                rewrapped,
+            )
 
     def test_dry_run_verify_and_a_record(self):
         before = held()
-        assert (rotated("--dry-run") == 6, rotated("--verify") == 5, held()) == (True, True, before)
+        assert (rotated("--dry-run") == 6, rotated("--verify") == 5, held()) == (
+            True,
+            True,
+            before,
+        )
         rotated()
         os.unlink("kek.hex")
         assert rotated("--verify", "--record", "record") == 0
         assert rotated("--verify", "--verify-record", "record") == 0
         os.rename(path_of("a"), path_of("é"))
         done = rotated("--verify", "--verify-record", "record")
-        assert done == 5 and done.has("é: missing or changed since") and done.has("a: get ended with status 1")
+        assert (
+            done == 5
+            and done.has("é: missing or changed since")
+            and done.has("a: get ended with status 1")
+        )
 
     def test_a_refused_object(self):
         path_of("a").write_text("00" * 40)
         done = rotated()
-        assert (done.status, done.said[0]) == (5, "keywrap.rotate: a: its key: under no KEK of this rotation")
+        assert (done.status, done.said[0]) == (
+            5,
+            "keywrap.rotate: a: its key: under no KEK of this rotation",
+        )
         assert held() == {**under(NEW_KEK), "a": "00" * 40}
 
     def test_an_object_without_a_version_is_not_put(self):
-        done = rotated(meanwhile='call == "get" and name == "a" and (shutil.copy(path, file), sys.exit())')
-        assert (done.status, done.said[0]) == (5, "keywrap.rotate: a: get printed no version")
+        done = rotated(
+            meanwhile='call == "get" and name == "a" and (shutil.copy(path, file), sys.exit())'
+        )
+        assert (done.status, done.said[0]) == (
+            5,
+            "keywrap.rotate: a: get printed no version",
+        )
         assert held() == {**under(NEW_KEK), "a": under(KEK)["a"]}
 
     @pytest.mark.parametrize("call", ["get", "put"])
-    @pytest.mark.parametrize("how, said", [("sys.exit(255)", "status 255"), ("os.kill(os.getpid(), 9)", "status -9"),
-                                           ("time.sleep(100)", "did not end in 6 seconds")])
+    @pytest.mark.parametrize(
+        "how, said",
+        [
+            ("sys.exit(255)", "status 255"),
+            ("os.kill(os.getpid(), 9)", "status -9"),
+            ("time.sleep(100)", "did not end in 6 seconds"),
+        ],
+    )
     def test_a_failed_call_leaves_its_object(self, call, how, said):
         """And all others are rotated."""
-        done = rotated("--timeout", "8", "--jobs", "8", meanwhile=f'if (call, name) == ("{call}", "b b"): {how}')
+        done = rotated(
+            "--timeout",
+            "8",
+            "--jobs",
+            "8",
+            meanwhile=f'if (call, name) == ("{call}", "b b"): {how}',
+        )
         is_lost = call == "put" or "did not" in said
-        assert (done.status, done.has(f"b b: {call} ") and done.has(said)) == (6 if is_lost else 5, True), done
+        assert (done.status, done.has(f"b b: {call} ") and done.has(said)) == (
+            6 if is_lost else 5,
+            True,
+        ), done
         assert held() == {**under(NEW_KEK), "b b": under(KEK)["b b"]}
         assert rotated() == 0 and held() == under(NEW_KEK)
 
@@ -111,8 +159,13 @@ ADDED, NEW_ADDED = (hexes(kek, bytes(32))[0] for kek in (KEK, NEW_KEK))
 class TestChanges:
     def test_an_object_that_changes_each_time_is_kept(self):
         change = f'if call == "put" and name == "a": open(path, "w").write({ADDED!r} + " " * (time.time_ns() % 1000))'
-        assert ((done := rotated(meanwhile=change)).status, held()["a"].strip()) == (6, ADDED.strip())
-        assert done.has("a: put ended with status 3: somebody else may have written it, in each of 4 attempts")
+        assert ((done := rotated(meanwhile=change)).status, held()["a"].strip()) == (
+            6,
+            ADDED.strip(),
+        )
+        assert done.has(
+            "a: put ended with status 3: somebody else may have written it, in each of 4 attempts"
+        )
 
     @pytest.mark.parametrize("call", ["put", "get"])
     def test_an_object_that_changes_before_put_or_after_get(self, call):
@@ -125,14 +178,49 @@ class TestChanges:
         assert rotated(meanwhile=change) == 0
         assert held() == {**under(NEW_KEK), "a": NEW_ADDED}
 
-    @pytest.mark.parametrize("words, status, said", [
-        (["--files-from", "none", *COMMANDS], 5, "--files-from: none: No such file or directory"),
-        ([*FROM, *COMMANDS[:2]], 2, "--get, --put and --files-from go together, without FILE"),
-        ([*FROM, *COMMANDS, "FILE"], 2, "--get, --put and --files-from go together, without FILE"),
-        ([*FROM, *COMMANDS[:2], "--put", "put {name} {file}"], 2, "--put: it needs {name}, {file}, {version}"),
-        ([*FROM, "--get", "get {name}", *COMMANDS[2:]], 2, "--get: it needs {name}, {file}"),
-        ([*FROM, "--get", "'x {name} {file}", *COMMANDS[2:]], 2, "No closing quotation"),
-        ([*FROM, "--get", "none {name} {file}", *COMMANDS[2:]], 5, "get: none: No such file or directory")])
+    @pytest.mark.parametrize(
+        "words, status, said",
+        [
+            (
+                ["--files-from", "none", *COMMANDS],
+                5,
+                "--files-from: none: No such file or directory",
+            ),
+            (
+                [*FROM, *COMMANDS[:2]],
+                2,
+                "--get, --put and --files-from go together, without FILE",
+            ),
+            (
+                [*FROM, *COMMANDS, "FILE"],
+                2,
+                "--get, --put and --files-from go together, without FILE",
+            ),
+            (
+                [*FROM, *COMMANDS[:2], "--put", "put {name} {file}"],
+                2,
+                "--put: it needs {name}, {file}, {version}",
+            ),
+            (
+                [*FROM, "--get", "get {name}", *COMMANDS[2:]],
+                2,
+                "--get: it needs {name}, {file}",
+            ),
+            (
+                [*FROM, "--get", "'x {name} {file}", *COMMANDS[2:]],
+                2,
+                "No closing quotation",
+            ),
+            (
+                [*FROM, "--get", "none {name} {file}", *COMMANDS[2:]],
+                5,
+                "get: none: No such file or directory",
+            ),
+        ],
+    )
     def test_refuses_arguments(self, words, status, said):
-        assert ((done := rotated(commands=words)).status, done.has(said)) == (status, True), done
+        assert ((done := rotated(commands=words)).status, done.has(said)) == (
+            status,
+            True,
+        ), done
         assert held() == under(KEK)

@@ -8,7 +8,17 @@ import types
 
 import pytest
 
-from keywrap.rotation.found import (DONE, INTERRUPTED, REFUSED, UNFINISHED, Changed, Found, Gone, Refused, Unanswered)
+from keywrap.rotation.found import (
+    DONE,
+    INTERRUPTED,
+    REFUSED,
+    UNFINISHED,
+    Changed,
+    Found,
+    Gone,
+    Refused,
+    Unanswered,
+)
 from keywrap.rotation.listing import Unit
 from keywrap.rotation.passes import Passes
 from keywrap.rotation.report import Report
@@ -30,7 +40,13 @@ class Memory:
 
     def __init__(self, states, order, acts=()):
         self.places = {place: Key(state) for place, state in states.items()}
-        self.order, self.acts, self.steps, self.passes, self.moves = order, dict(acts), 0, 0, []
+        self.order, self.acts, self.steps, self.passes, self.moves = (
+            order,
+            dict(acts),
+            0,
+            0,
+            [],
+        )
         self.trouble = {}
 
     def step(self):
@@ -63,13 +79,23 @@ class Memory:
 
         def rest():
             last[:] = self.seen()
-            left = [Unit(place, 1, identity) for place, identity in last if identity not in read]
+            left = [
+                Unit(place, 1, identity)
+                for place, identity in last
+                if identity not in read
+            ]
             return left, len(left)
 
         began = len(self.moves)
         yield types.SimpleNamespace(
-            units=[Unit(place, 1, identity) for place, identity in first], number=len(first), weight=1, found=Found(),
-            is_quiet=lambda found: first == last and len(self.moves) == began, take=take, rest=rest)
+            units=[Unit(place, 1, identity) for place, identity in first],
+            number=len(first),
+            weight=1,
+            found=Found(),
+            is_quiet=lambda found: first == last and len(self.moves) == began,
+            take=take,
+            rest=rest,
+        )
 
     def do(self, unit, rings, may_write):
         self.step()
@@ -137,21 +163,40 @@ NEW = dict.fromkeys("abc", "new")
 
 
 class TestMoves:
-    @pytest.mark.parametrize("given, may_write, status, numbers", [
-        (OLD, True, DONE, (2, 3)), (NEW, True, DONE, (1, 0)), ({**OLD, "b": "new"}, True, DONE, (2, 2)),
-        ({**OLD, "b": "foreign"}, True, REFUSED, (2, 2)), ({}, True, REFUSED, (1, 0)),
-        ({"a": "foreign"}, True, REFUSED, (1, 0)), ({**OLD, "c": "stuck"}, True, UNFINISHED, (4, 2)),
-        (OLD, False, UNFINISHED, (1, 0)), (NEW, False, DONE, (1, 0)), ({}, False, REFUSED, (1, 0)),
-        ({"a": "new", "b": "old"}, False, UNFINISHED, (1, 0)), ({"a": "foreign", "b": "old"}, False, REFUSED, (1, 0))])
-    def test_status_of_a_store_that_nobody_else_uses(self, given, may_write, status, numbers):
+    @pytest.mark.parametrize(
+        "given, may_write, status, numbers",
+        [
+            (OLD, True, DONE, (2, 3)),
+            (NEW, True, DONE, (1, 0)),
+            ({**OLD, "b": "new"}, True, DONE, (2, 2)),
+            ({**OLD, "b": "foreign"}, True, REFUSED, (2, 2)),
+            ({}, True, REFUSED, (1, 0)),
+            ({"a": "foreign"}, True, REFUSED, (1, 0)),
+            ({**OLD, "c": "stuck"}, True, UNFINISHED, (4, 2)),
+            (OLD, False, UNFINISHED, (1, 0)),
+            (NEW, False, DONE, (1, 0)),
+            ({}, False, REFUSED, (1, 0)),
+            ({"a": "new", "b": "old"}, False, UNFINISHED, (1, 0)),
+            ({"a": "foreign", "b": "old"}, False, REFUSED, (1, 0)),
+        ],
+    )
+    def test_status_of_a_store_that_nobody_else_uses(
+        self, given, may_write, status, numbers
+    ):
         store = Memory(given, "abcd")
         made = run(store, may_write)
         assert made.status() == status and (made.number, made.rewrapped) == numbers
         then = {"old": "new"} if may_write else {}
-        assert states(store) == {place: then.get(state, state) for place, state in given.items()}
+        assert states(store) == {
+            place: then.get(state, state) for place, state in given.items()
+        }
 
-    @pytest.mark.parametrize("order", ["".join(order) for order in itertools.permutations("abcd")])
-    @pytest.mark.parametrize("given", [OLD, {"a": "old", "b": "new"}], ids=["all old", "one old"])
+    @pytest.mark.parametrize(
+        "order", ["".join(order) for order in itertools.permutations("abcd")]
+    )
+    @pytest.mark.parametrize(
+        "given", [OLD, {"a": "old", "b": "new"}], ids=["all old", "one old"]
+    )
     def test_one_move_at_any_step_hides_no_key(self, order, given):
         """Whatever the order of the listing is, a key that moves once is read under the new KEK by the last pass."""
         undisturbed = Memory(given, order)
@@ -173,14 +218,24 @@ class TestMoves:
         for _ in range(1500):
             steps = source.sample(range(1, 80), source.randint(2, 12))
             pairs = [source.sample("abcdef", 2) for _ in steps]
-            acts = {at: lambda store, pair=pair: store.move(*pair) for at, pair in zip(steps, pairs)}
+            acts = {
+                at: lambda store, pair=pair: store.move(*pair)
+                for at, pair in zip(steps, pairs)
+            }
             given = {"a": "old", "b": source.choice(["old", "new"]), "c": "new"}
             store = Memory(given, source.sample("abcdef", 6), acts)
             made = run(store, pool=Now(source))
             ended += made.status() == DONE
-            for key in (key for key in store.places.values() if key.state == "old" and made.status() == DONE):
+            for key in (
+                key
+                for key in store.places.values()
+                if key.state == "old" and made.status() == DONE
+            ):
                 moved = {number for number, which in store.moves if which is key}
-                assert {made.number, made.number - 1} <= moved, (made.number, store.moves)
+                assert {made.number, made.number - 1} <= moved, (
+                    made.number,
+                    store.moves,
+                )
                 holes += 1
         assert ended > 1000 and holes < 15
 
@@ -193,7 +248,9 @@ def remove(place):
     return lambda store: store.places.pop(place, None)
 
 
-@pytest.mark.parametrize("act", [write("b", "new"), write("d", "new"), remove("b"), remove("a")])
+@pytest.mark.parametrize(
+    "act", [write("b", "new"), write("d", "new"), remove("b"), remove("a")]
+)
 def test_a_write_of_others_at_any_step(act):
     """A writer under the new KEK, or one that removes a key, at any step: the run ends with 0."""
     for at in range(1, 40):
@@ -203,8 +260,13 @@ def test_a_write_of_others_at_any_step(act):
 
 def test_a_writer_that_never_rests():
     """Under the new KEK every key becomes new. Under the KEK the run is no success."""
-    store = Memory(OLD, "abcd", {at: write("abcd"[at % 4], "new") for at in range(1, 1000, 3)})
-    assert run(store).status() in (DONE, UNFINISHED) and "old" not in states(store).values()
+    store = Memory(
+        OLD, "abcd", {at: write("abcd"[at % 4], "new") for at in range(1, 1000, 3)}
+    )
+    assert (
+        run(store).status() in (DONE, UNFINISHED)
+        and "old" not in states(store).values()
+    )
     store = Memory(OLD, "abcd", {at: write("b", "old") for at in range(1, 10000, 3)})
     assert run(store).status() == UNFINISHED
 
@@ -219,15 +281,27 @@ def raising(error, times=1):
     return trouble
 
 
-@pytest.mark.parametrize("error, times, status", [
-    (Unanswered("locked"), 1, DONE), (Unanswered("locked"), 99, UNFINISHED), (Changed(), 2, DONE),
-    (Changed(), 99, UNFINISHED), (MemoryError(), 1, DONE), (Gone(), 1, DONE),
-    (Refused("no key"), 99, REFUSED), (OSError(5, "I/O"), 99, REFUSED), (OSError(5, "I/O"), 1, DONE)])
+@pytest.mark.parametrize(
+    "error, times, status",
+    [
+        (Unanswered("locked"), 1, DONE),
+        (Unanswered("locked"), 99, UNFINISHED),
+        (Changed(), 2, DONE),
+        (Changed(), 99, UNFINISHED),
+        (MemoryError(), 1, DONE),
+        (Gone(), 1, DONE),
+        (Refused("no key"), 99, REFUSED),
+        (OSError(5, "I/O"), 99, REFUSED),
+        (OSError(5, "I/O"), 1, DONE),
+    ],
+)
 def test_a_unit_that_is_there_and_was_not_read_is_never_0(error, times, status):
     for given in OLD, NEW:
         store = Memory(given, "abcd")
         store.trouble["b"] = raising(error, times)
-        assert run(store).status() == (REFUSED if given is NEW and type(error) is OSError else status)
+        assert run(store).status() == (
+            REFUSED if given is NEW and type(error) is OSError else status
+        )
         assert (states(store)["b"] == "new") == (status == DONE or given is NEW)
 
 
@@ -245,6 +319,8 @@ class Stopped(Now):
 
 
 class TestEnds:
-    @pytest.mark.parametrize("pool, status", [(Forgetful, UNFINISHED), (Stopped, INTERRUPTED)])
+    @pytest.mark.parametrize(
+        "pool, status", [(Forgetful, UNFINISHED), (Stopped, INTERRUPTED)]
+    )
     def test_a_pass_without_all_answers(self, pool, status):
         assert run(Memory(OLD, "abcd"), pool=pool()).status() == status

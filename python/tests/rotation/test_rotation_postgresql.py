@@ -6,14 +6,28 @@ import os
 import pathlib
 
 import pytest
-from rotation_help import KEK, NEW_KEK, ROTATE, end, make_keys, patched, start, wrapped_under, write_lines
+from rotation_help import (
+    KEK,
+    NEW_KEK,
+    ROTATE,
+    end,
+    make_keys,
+    patched,
+    start,
+    wrapped_under,
+    write_lines,
+)
 
 
 def rows(kek, keys):
     return {number * 10: wrapped_under(kek, key) for number, key in enumerate(keys, 1)}
 
 
-KEYS, MANY, ADDED = make_keys(60), make_keys(1500, 3), wrapped_under(NEW_KEK, make_keys(2, 9)[1])
+KEYS, MANY, ADDED = (
+    make_keys(60),
+    make_keys(1500, 3),
+    wrapped_under(NEW_KEK, make_keys(2, 9)[1]),
+)
 OLD, NEW = rows(KEK, KEYS), rows(NEW_KEK, KEYS)
 # Ranges of one block, so that small tables have several.
 SMALL = patched("from keywrap.rotation import postgresql; postgresql.BLOCKS = 1")
@@ -58,56 +72,113 @@ class TestTable:
         value = "encode(key, 'hex')" if kind == "bytea" else "trim(key)"
         for rewrapped in (60, 0):
             done = rotated("--jobs", jobs)
-            assert (done.status, server.held(value), done.counts["rewrapped"]) == (0, NEW, rewrapped), done
+            assert (done.status, server.held(value), done.counts["rewrapped"]) == (
+                0,
+                NEW,
+                rewrapped,
+            ), done
         assert rotated("--verify", "--record", "record") == 0
         server.sql("VACUUM FULL keys")
         assert rotated("--verify", "--verify-record", "record", program=ROTATE) == 0
         server.sql("DELETE FROM keys WHERE id = 70")
-        assert rotated("--verify", "--verify-record", "record").has("missing or changed since the record: 60 keys")
+        assert rotated("--verify", "--verify-record", "record").has(
+            "missing or changed since the record: 60 keys"
+        )
 
-    @pytest.mark.parametrize("columns", [
-        "id uuid PRIMARY KEY DEFAULT gen_random_uuid()", "id char(8) DEFAULT left(random()::text, 8)",
-        "id float DEFAULT random()", "id int DEFAULT NULL", "id bigint GENERATED ALWAYS AS IDENTITY"])
+    @pytest.mark.parametrize(
+        "columns",
+        [
+            "id uuid PRIMARY KEY DEFAULT gen_random_uuid()",
+            "id char(8) DEFAULT left(random()::text, 8)",
+            "id float DEFAULT random()",
+            "id int DEFAULT NULL",
+            "id bigint GENERATED ALWAYS AS IDENTITY",
+        ],
+    )
     def test_no_column_has_to_order_the_rows(self, server, columns):
-        server.sql(f'DROP TABLE IF EXISTS other; CREATE TABLE other ({columns}, key bytea);'
-                   + "".join(f"INSERT INTO other (key) VALUES (decode('{key.hex()}', 'hex'));" for key in OLD.values()))
-        assert ((done := rotated(table="other")).status, done.counts["rewrapped"]) == (0, 60), done
+        server.sql(
+            f"DROP TABLE IF EXISTS other; CREATE TABLE other ({columns}, key bytea);"
+            + "".join(
+                f"INSERT INTO other (key) VALUES (decode('{key.hex()}', 'hex'));"
+                for key in OLD.values()
+            )
+        )
+        assert ((done := rotated(table="other")).status, done.counts["rewrapped"]) == (
+            0,
+            60,
+        ), done
         found = server.sql("SELECT encode(key, 'hex') FROM other").split()
         assert sorted(found) == sorted(key.hex() for key in NEW.values())
 
     def test_partitions(self, server):
         """Their rows may have the same ctid, and the same key."""
-        server.sql("""DROP TABLE IF EXISTS parts; CREATE TABLE parts (id int, key bytea) PARTITION BY HASH (id);
+        server.sql(
+            """DROP TABLE IF EXISTS parts; CREATE TABLE parts (id int, key bytea) PARTITION BY HASH (id);
         CREATE TABLE p0 PARTITION OF parts FOR VALUES WITH (MODULUS 2, REMAINDER 0);
-        CREATE TABLE p1 PARTITION OF parts FOR VALUES WITH (MODULUS 2, REMAINDER 1);""")
+        CREATE TABLE p1 PARTITION OF parts FOR VALUES WITH (MODULUS 2, REMAINDER 1);"""
+        )
         same = OLD[10].hex()
-        server.sql(f"INSERT INTO parts SELECT n, decode('{same}', 'hex') FROM generate_series(1, 1500) n; ANALYZE")
-        assert ((done := rotated(table="parts")).status, done.counts["keys"]) == (0, 1500), done
-        assert server.sql("SELECT DISTINCT encode(key, 'hex') FROM parts").split() == [NEW[10].hex()]
+        server.sql(
+            f"INSERT INTO parts SELECT n, decode('{same}', 'hex') FROM generate_series(1, 1500) n; ANALYZE"
+        )
+        assert ((done := rotated(table="parts")).status, done.counts["keys"]) == (
+            0,
+            1500,
+        ), done
+        assert server.sql("SELECT DISTINCT encode(key, 'hex') FROM parts").split() == [
+            NEW[10].hex()
+        ]
 
     def test_names_of_a_strange_table(self, server):
-        for schema, table, column in (("s x", 'a "b', "k;"), ("new", "new", "a%sb"), ("t", "a{key}", "{row}")):
-            names = ['"' + name.replace('"', '""') + '"' for name in (schema, table, column)]
-            server.sql('CREATE SCHEMA {0}; CREATE TABLE {0}.{1} (id text, {2} text);'.format(*names)
-                       + "INSERT INTO {0}.{1} VALUES ('x', '{3}'), ('y', NULL)".format(*names, OLD[10].hex()))
+        for schema, table, column in (
+            ("s x", 'a "b', "k;"),
+            ("new", "new", "a%sb"),
+            ("t", "a{key}", "{row}"),
+        ):
+            names = [
+                '"' + name.replace('"', '""') + '"' for name in (schema, table, column)
+            ]
+            server.sql(
+                "CREATE SCHEMA {0}; CREATE TABLE {0}.{1} (id text, {2} text);".format(
+                    *names
+                )
+                + "INSERT INTO {0}.{1} VALUES ('x', '{3}'), ('y', NULL)".format(
+                    *names, OLD[10].hex()
+                )
+            )
             done = rotated("--column", column, table=f"{schema}.{table}")
             assert (done.status, done.counts["rewrapped"]) == (0, 1), done
-            assert server.sql("SELECT {2} FROM {0}.{1} ORDER BY 1".format(*names)) == f"{NEW[10].hex()}\n\n"
+            assert (
+                server.sql("SELECT {2} FROM {0}.{1} ORDER BY 1".format(*names))
+                == f"{NEW[10].hex()}\n\n"
+            )
 
-    @pytest.mark.parametrize("table, words, said", [
-        ("none", [], '"none" does not exist'), ("keys", ["--column", "none"], "column keys.none does not exist"),
-        ("keys", ["--column", "id"], "keys.id is neither text nor bytea: bigint"),
-        ("keys", ["--column", "ctid"], "keys.ctid is neither text nor bytea: tid")])
+    @pytest.mark.parametrize(
+        "table, words, said",
+        [
+            ("none", [], '"none" does not exist'),
+            ("keys", ["--column", "none"], "column keys.none does not exist"),
+            ("keys", ["--column", "id"], "keys.id is neither text nor bytea: bigint"),
+            ("keys", ["--column", "ctid"], "keys.ctid is neither text nor bytea: tid"),
+        ],
+    )
     def test_refuses_names(self, server, table, words, said):
         for mode in ([], ["--verify"]):
             done = rotated(*mode, *words, table=table)
-            assert (done.status, said in done.said[0], len(done.said)) == (5, True, 1), done
+            assert (done.status, said in done.said[0], len(done.said)) == (
+                5,
+                True,
+                1,
+            ), done
         assert server.held() == OLD
 
     def test_an_unreachable_server(self, server, monkeypatch):
         """The server's words are shown: nobody has read a key."""
         monkeypatch.setenv("PGHOST", "/nonexistent")
-        assert ((done := rotated()).status, "No such file or directory" in done.said[0]) == (6, True), done
+        assert (
+            (done := rotated()).status,
+            "No such file or directory" in done.said[0],
+        ) == (6, True), done
 
     def test_dry_run_and_verify(self, server):
         before = server.sql("SELECT ctid, xmin, * FROM keys")
@@ -121,48 +192,89 @@ class TestTable:
 
     def test_names_of_keks_in_a_column(self, server):
         other = bytes([7]) * 16
-        for name, kek in (("ada", KEK), ("bob", other), ("ada-new", NEW_KEK), ("bob-new", bytes(32))):
+        for name, kek in (
+            ("ada", KEK),
+            ("bob", other),
+            ("ada-new", NEW_KEK),
+            ("bob-new", bytes(32)),
+        ):
             write_lines(name, [kek.hex()])
         for table, ending in (("old", ""), ("new", "-new")):
             write_lines(table, [f"ada=ada{ending}", f"bob=bob{ending}"])
-        server.sql("ALTER TABLE keys ADD who varchar(9) DEFAULT 'ada'; UPDATE keys SET who = 'bob' WHERE id > 300;"
-                   + "".join(set_row(number, key) for number, key in rows(other, KEYS).items() if number > 300))
+        server.sql(
+            "ALTER TABLE keys ADD who varchar(9) DEFAULT 'ada'; UPDATE keys SET who = 'bob' WHERE id > 300;"
+            + "".join(
+                set_row(number, key)
+                for number, key in rows(other, KEYS).items()
+                if number > 300
+            )
+        )
         words = ["--kek-name", "who", "--keks", "old", "--new-keks", "new"]
         done = rotated(*words)
         said = [f"keywrap.rotate: 30 keys were under {name}" for name in ("ada", "bob")]
         assert (done.status, done.said[:2]) == (0, said)
-        assert server.held() == {number: (NEW if number <= 300 else rows(bytes(32), KEYS))[number] for number in NEW}
+        assert server.held() == {
+            number: (NEW if number <= 300 else rows(bytes(32), KEYS))[number]
+            for number in NEW
+        }
         server.sql("UPDATE keys SET who = NULL WHERE id = 10")
         assert rotated(*words).has("it has no name of a KEK")
 
     def test_refused_rows_are_named_and_the_others_rotated(self, server):
         foreign = wrapped_under(bytes(16), KEYS[3])
-        server.sql(set_row(170, foreign) + set_row(400, b"\0") + "UPDATE keys SET key = NULL WHERE id = 410;"
-                   "INSERT INTO keys VALUES (5000, decode(repeat('00', 3000000), 'hex'))")
+        server.sql(
+            set_row(170, foreign)
+            + set_row(400, b"\0")
+            + "UPDATE keys SET key = NULL WHERE id = 410;"
+            "INSERT INTO keys VALUES (5000, decode(repeat('00', 3000000), 'hex'))"
+        )
         for _ in range(2):
             done = rotated()
             assert done == 5
-            reasons = {line.rsplit(": ", 1)[1] for line in done.said if ": row (" in line}
-            assert reasons == {"bad length", "under no KEK of this rotation", "longer than any key"}
+            reasons = {
+                line.rsplit(": ", 1)[1] for line in done.said if ": row (" in line
+            }
+            assert reasons == {
+                "bad length",
+                "under no KEK of this rotation",
+                "longer than any key",
+            }
             held = server.held("coalesce(encode(key, 'hex'), '')")
-            assert held == {**NEW, 170: foreign, 400: b"\0", 410: b"", 5000: bytes(3000000)}
-        server.sql(set_row(170, OLD[170]) + set_row(400, NEW[400]) + "DELETE FROM keys WHERE id = 5000")
+            assert held == {
+                **NEW,
+                170: foreign,
+                400: b"\0",
+                410: b"",
+                5000: bytes(3000000),
+            }
+        server.sql(
+            set_row(170, OLD[170])
+            + set_row(400, NEW[400])
+            + "DELETE FROM keys WHERE id = 5000"
+        )
         assert rotated() == 0
 
     # What hides or changes rows.
     def test_row_level_security_is_an_error(self, server, monkeypatch):
-        server.sql("""CREATE ROLE app LOGIN; GRANT ALL ON keys TO app; ALTER TABLE keys ENABLE ROW LEVEL SECURITY;
-        CREATE POLICY p ON keys TO app USING (id <= 100)""")
+        server.sql(
+            """CREATE ROLE app LOGIN; GRANT ALL ON keys TO app; ALTER TABLE keys ENABLE ROW LEVEL SECURITY;
+        CREATE POLICY p ON keys TO app USING (id <= 100)"""
+        )
         try:
             monkeypatch.setenv("PGUSER", "app")
             for words in ([], ["--verify"]):
-                assert ((done := rotated(*words)).status, done.has("row-level security")) == (5, True), done
+                assert (
+                    (done := rotated(*words)).status,
+                    done.has("row-level security"),
+                ) == (5, True), done
         finally:
             server.sql("DROP TABLE keys; DROP ROLE app")
 
     def test_options_of_libpq_hold(self, server, monkeypatch):
-        server.sql("DROP SCHEMA IF EXISTS other CASCADE; CREATE SCHEMA other;"
-                   "CREATE TABLE other.keys AS SELECT * FROM keys LIMIT 7")
+        server.sql(
+            "DROP SCHEMA IF EXISTS other CASCADE; CREATE SCHEMA other;"
+            "CREATE TABLE other.keys AS SELECT * FROM keys LIMIT 7"
+        )
         monkeypatch.setenv("PGOPTIONS", "-c search_path=other")
         done = rotated()
         assert (done.status, done.counts["keys"]) == (0, 7)
@@ -178,19 +290,28 @@ class TestTable:
 
 
 class TestOthers:
-    @pytest.mark.parametrize("body, status", [("NEW.key = '\\x00'; RETURN NEW;", 5), ("RETURN NULL;", 6)])
+    @pytest.mark.parametrize(
+        "body, status", [("NEW.key = '\\x00'; RETURN NEW;", 5), ("RETURN NULL;", 6)]
+    )
     def test_a_trigger_that_changes_what_is_written(self, server, body, status):
-        server.sql(f"""CREATE FUNCTION t() RETURNS trigger LANGUAGE plpgsql AS $$ BEGIN {body} END $$;
-        CREATE TRIGGER t BEFORE UPDATE ON keys FOR EACH ROW WHEN (OLD.id = 70) EXECUTE FUNCTION t()""")
+        server.sql(
+            f"""CREATE FUNCTION t() RETURNS trigger LANGUAGE plpgsql AS $$ BEGIN {body} END $$;
+        CREATE TRIGGER t BEFORE UPDATE ON keys FOR EACH ROW WHEN (OLD.id = 70) EXECUTE FUNCTION t()"""
+        )
         try:
             assert rotated() == status
-            assert {number for number, key in server.held().items() if key != NEW[number]} == {70}
+            assert {
+                number for number, key in server.held().items() if key != NEW[number]
+            } == {70}
         finally:
             server.sql("DROP FUNCTION t CASCADE")
 
     @pytest.mark.parametrize("level", ["repeatable read", "serializable"])
     def test_two_runs_in_any_isolation(self, server, monkeypatch, level):
-        monkeypatch.setenv("PGOPTIONS", f"-c default_transaction_isolation={level.replace(' ', chr(92) + ' ')}")
+        monkeypatch.setenv(
+            "PGOPTIONS",
+            f"-c default_transaction_isolation={level.replace(' ', chr(92) + ' ')}",
+        )
         ends_of(*(begun("--jobs", "2") for _ in range(2)))
         assert rotated() == 0 and server.held() == NEW
 
@@ -202,35 +323,57 @@ class TestOthers:
             assert server.held(f"encode({column}, 'hex')") == NEW
 
     # Writers.
-    @pytest.mark.parametrize("statement, changed", [
-        (set_row(20, ADDED), {**NEW, 20: ADDED}),
-        (f"INSERT INTO keys VALUES (25, '\\x{ADDED.hex()}');", {**NEW, 25: ADDED}),
-        ("DELETE FROM keys WHERE id = 20;", {number: key for number, key in NEW.items() if number != 20})],
-        ids=["changed", "added", "removed"])
+    @pytest.mark.parametrize(
+        "statement, changed",
+        [
+            (set_row(20, ADDED), {**NEW, 20: ADDED}),
+            (f"INSERT INTO keys VALUES (25, '\\x{ADDED.hex()}');", {**NEW, 25: ADDED}),
+            (
+                "DELETE FROM keys WHERE id = 20;",
+                {number: key for number, key in NEW.items() if number != 20},
+            ),
+        ],
+        ids=["changed", "added", "removed"],
+    )
     def test_a_row_that_changes_meanwhile_is_kept(self, server, statement, changed):
         """No lock is held while keys are rewrapped: the other process does not wait."""
-        program = patched("""import itertools, subprocess
+        program = patched(
+            """import itertools, subprocess
 from keywrap import _many
 from rotation_help import before_each_key
 calls = itertools.count()
 _many.rewrap_slots = before_each_key(lambda text: next(calls) == 3 and subprocess.run(
-    ["psql", "-qXc", os.environ["STATEMENT"]], check=True))""")
-        done = rotated("--jobs", "1", program=program,
-                       env={**os.environ, "STATEMENT": f"SET lock_timeout = '1ms'; {statement}"})
+    ["psql", "-qXc", os.environ["STATEMENT"]], check=True))"""
+        )
+        done = rotated(
+            "--jobs",
+            "1",
+            program=program,
+            env={**os.environ, "STATEMENT": f"SET lock_timeout = '1ms'; {statement}"},
+        )
         assert (done.status, server.held()) == (0, changed), done
         assert rotated("--verify") == 0
 
-    @pytest.mark.parametrize("statement", [
-        "SELECT FROM keys WHERE id IN (50, 330) FOR UPDATE", "UPDATE keys SET id = id WHERE id = 50"])
+    @pytest.mark.parametrize(
+        "statement",
+        [
+            "SELECT FROM keys WHERE id IN (50, 330) FOR UPDATE",
+            "UPDATE keys SET id = id WHERE id = 50",
+        ],
+    )
     def test_a_row_that_another_process_has_locked(self, server, statement):
         """It is never waited for: status 6, and all others are new."""
         with holding(statement):
             assert rotated() == 6
-            assert {number for number, key in server.held().items() if key != NEW[number]} <= {50, 330}
+            assert {
+                number for number, key in server.held().items() if key != NEW[number]
+            } <= {50, 330}
         assert rotated() == 0 and server.held() == NEW
 
     def test_a_table_that_another_process_has_locked(self, server):
-        program = patched("from keywrap.rotation import postgresql; postgresql.LOCK = '1s'")
+        program = patched(
+            "from keywrap.rotation import postgresql; postgresql.LOCK = '1s'"
+        )
         with holding("LOCK TABLE keys"):
             done = rotated(program=program)
             assert (done.status, done.has("lock timeout (55P03)")) == (6, True), done

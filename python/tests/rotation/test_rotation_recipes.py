@@ -14,7 +14,10 @@ from rotation_help import KEK, wrapped_under
 
 ROOT = pathlib.Path(__file__).resolve().parents[3]
 # The source distribution has the page in the package.
-PAGES = [ROOT / "docs/ROTATION.md", pathlib.Path(__file__).parents[2] / "src/keywrap/rotation/ROTATION.md"]
+PAGES = [
+    ROOT / "docs/ROTATION.md",
+    pathlib.Path(__file__).parents[2] / "src/keywrap/rotation/ROTATION.md",
+]
 PAGE = next(page for page in PAGES if page.exists()).read_text(encoding="utf-8")
 SECTIONS = PAGE.split("\n## ")
 PROGRAM = os.environ.get("KEYWRAP") or str(ROOT / "crates/keywrap/out/keywrap")
@@ -30,7 +33,11 @@ def environment(tmp_path):
     (tmp_path / "bin/keywrap").symlink_to(os.path.abspath(PROGRAM))
     (tmp_path / "bin/python3").write_text(f'#!/bin/sh\nexec {sys.executable} "$@"\n')
     (tmp_path / "bin/python3").chmod(0o755)
-    return {**os.environ, "PATH": f"{tmp_path}/bin:{os.environ['PATH']}", "PYTHONDONTWRITEBYTECODE": "1"}
+    return {
+        **os.environ,
+        "PATH": f"{tmp_path}/bin:{os.environ['PATH']}",
+        "PYTHONDONTWRITEBYTECODE": "1",
+    }
 
 
 KEKS = """openssl rand -hex 32 > kek.hex; openssl rand -hex 32 > new-kek.hex
@@ -50,7 +57,7 @@ wrapped 32000 | awk '{ print 1000 + NR "\\t\\\\\\\\x" $0 }' | psql -qc '\\copy k
     "Rotate objects": 'mkdir bucket; for name in a "c d"; do wrapped 32 > "bucket/$name"; done; ls bucket > manifest\n',
     "Verify before the KEK dies": STORE % "new-kek.hex" + "rm kek.hex\n",
     "Rotate on several machines": "mkdir store; for n in {1..40}; do wrapped 3200 > store/$n; done\n"
-                                 "python3 -m keywrap.rotate --kek kek.hex --new-kek new-kek.hex --make-challenges >x\n",
+    "python3 -m keywrap.rotate --kek kek.hex --new-kek new-kek.hex --make-challenges >x\n",
     "# Rotate a KEK": "rm new-kek.hex\n",
     "Rotate many KEKs": r"""
 mkdir keks
@@ -77,14 +84,23 @@ esac
 
 def recipes():
     """The name, the typed lines and the output of each such recipe."""
-    for section in (re.sub("```.*?```", "", section, flags=re.S) for section in SECTIONS):
-        lines = [line.strip() if line.startswith("       ") else line[4:] for line in section.splitlines()
-                 if line.startswith("    ")]
+    for section in (
+        re.sub("```.*?```", "", section, flags=re.S) for section in SECTIONS
+    ):
+        lines = [
+            line.strip() if line.startswith("       ") else line[4:]
+            for line in section.splitlines()
+            if line.startswith("    ")
+        ]
         typed = "\n".join(line[2:] for line in lines if line.startswith(("$ ", "> ")))
         if "-m keywrap." in typed:
-            answer = [line.strip() for line in lines if not line.startswith(("$ ", "> "))]
+            answer = [
+                line.strip() for line in lines if not line.startswith(("$ ", "> "))
+            ]
             name = section.splitlines()[0]
-            yield pytest.param(KEKS + STORES_OF_RECIPES[name] + typed, "\n".join(answer), id=name)
+            yield pytest.param(
+                KEKS + STORES_OF_RECIPES[name] + typed, "\n".join(answer), id=name
+            )
 
 
 @pytest.mark.parametrize("typed, answer", recipes())
@@ -99,9 +115,20 @@ def test_recipe(request, typed, answer, tmp_path, environment):
     script = tmp_path / "script"
     script.write_text(typed + "\n", encoding="utf-8")
     environment.pop("KEYWRAP_KEK", None)
-    done = subprocess.run(["bash", "-u", script], cwd=tmp_path / "here", env=environment, stdout=subprocess.PIPE,
-                          stderr=subprocess.STDOUT, stdin=subprocess.DEVNULL, check=False, text=True)
-    assert (done.returncode, [line.strip() for line in done.stdout.splitlines()]) == (0, answer.split("\n"))
+    done = subprocess.run(
+        ["bash", "-u", script],
+        cwd=tmp_path / "here",
+        env=environment,
+        stdout=subprocess.PIPE,
+        stderr=subprocess.STDOUT,
+        stdin=subprocess.DEVNULL,
+        check=False,
+        text=True,
+    )
+    assert (done.returncode, [line.strip() for line in done.stdout.splitlines()]) == (
+        0,
+        answer.split("\n"),
+    )
 
 
 # A test double of Slurm's sbatch: it runs the line for each task.
@@ -109,15 +136,26 @@ SBATCH = r"""#!/bin/bash
 [ "$2" = --wrap ] && [[ $1 =~ ^--array=1-([0-9]+)$ ]] || exit
 for SLURM_ARRAY_TASK_ID in $(seq "${BASH_REMATCH[1]}"); do export SLURM_ARRAY_TASK_ID; sh -c "$3" || exit; done
 """
-SEVERAL_MACHINES = next(section for section in SECTIONS if section.startswith("Rotate on several machines\n"))
+SEVERAL_MACHINES = next(
+    section
+    for section in SECTIONS
+    if section.startswith("Rotate on several machines\n")
+)
 # Each scheduler with the variable that it sets for a task, and the number of its first task.
 SLURM = re.search("(?m)^# Slurm\n(.*)$", SEVERAL_MACHINES)[1]
-KUBERNETES = " ".join(re.search(r"command: \[sh, -c, '([^']*)'\]", SEVERAL_MACHINES)[1].split())
+KUBERNETES = " ".join(
+    re.search(r"command: \[sh, -c, '([^']*)'\]", SEVERAL_MACHINES)[1].split()
+)
 
 
-@pytest.mark.parametrize("line", [
-    SLURM, f"for JOB_COMPLETION_INDEX in {{0..9}}; do export JOB_COMPLETION_INDEX; ({KUBERNETES}) || exit; done"],
-    ids=["Slurm", "Kubernetes"])
+@pytest.mark.parametrize(
+    "line",
+    [
+        SLURM,
+        f"for JOB_COMPLETION_INDEX in {{0..9}}; do export JOB_COMPLETION_INDEX; ({KUBERNETES}) || exit; done",
+    ],
+    ids=["Slurm", "Kubernetes"],
+)
 def test_line_of_an_array_of_jobs(line, tmp_path, environment):
     (tmp_path / "bin/sbatch").write_text(SBATCH)
     (tmp_path / "bin/sbatch").chmod(0o755)
@@ -125,8 +163,15 @@ def test_line_of_an_array_of_jobs(line, tmp_path, environment):
     line = line.replace("/store", "store").replace("/keks/", "")
     script = f"set -e\n{prepare}export KEYWRAP_KEK=kek.hex KEYWRAP_NEW_KEK=new-kek.hex\n{line}\n"
     script += "python3 -m keywrap.rotate --verify store\n"
-    done = subprocess.run(["bash", "-c", script], cwd=tmp_path / "here", env=environment, stdin=subprocess.DEVNULL,
-                          capture_output=True, text=True, check=False)
+    done = subprocess.run(
+        ["bash", "-c", script],
+        cwd=tmp_path / "here",
+        env=environment,
+        stdin=subprocess.DEVNULL,
+        capture_output=True,
+        text=True,
+        check=False,
+    )
     assert done.returncode == 0, done.stderr
     assert "4000 keys: 4000 new, 0 refused" in done.stderr.splitlines()[-1]
 
@@ -136,24 +181,38 @@ def test_the_job_and_the_container_file():
     job = yaml.safe_load(SEVERAL_MACHINES.split("```yaml\n")[1].split("```")[0])
     spec = job["spec"]["template"]["spec"]
     (container,) = spec["containers"]
-    assert (job["kind"], job["spec"]["completionMode"], job["spec"]["completions"]) == ("Job", "Indexed", 10)
-    assert {mount["name"] for mount in container["volumeMounts"]} == {volume["name"] for volume in spec["volumes"]}
+    assert (job["kind"], job["spec"]["completionMode"], job["spec"]["completions"]) == (
+        "Job",
+        "Indexed",
+        10,
+    )
+    assert {mount["name"] for mount in container["volumeMounts"]} == {
+        volume["name"] for volume in spec["volumes"]
+    }
     mounted = tuple(mount["mountPath"] for mount in container["volumeMounts"])
     assert all(variable["value"].startswith(mounted) for variable in container["env"])
     assert "/10 /store" in container["command"][-1]
 
 
 def test_the_page_is_short_and_its_recipes_run():
-    assert len(PAGE.split()) <= 1700 and {recipe.id for recipe in recipes()} == {*STORES_OF_RECIPES}
+    assert len(PAGE.split()) <= 1700 and {recipe.id for recipe in recipes()} == {
+        *STORES_OF_RECIPES
+    }
 
 
-OURS, OTHER = (base64.b64encode(key).decode() for key in (wrapped_under(KEK, bytes(16)), bytes(40)))
+OURS, OTHER = (
+    base64.b64encode(key).decode() for key in (wrapped_under(KEK, bytes(16)), bytes(40))
+)
 
 
-@pytest.mark.parametrize("data, said", [
-    ({"ours": OURS, "other\x1b": OTHER}, "under no KEK of this rotation"),
-    ({"ours": OURS, "other\x1b": f"!{OTHER}"}, ""),
-    ({}, "it has no data")])
+@pytest.mark.parametrize(
+    "data, said",
+    [
+        ({"ours": OURS, "other\x1b": OTHER}, "under no KEK of this rotation"),
+        ({"ours": OURS, "other\x1b": f"!{OTHER}"}, ""),
+        ({}, "it has no data"),
+    ],
+)
 def test_a_refused_secret(tmp_path, data, said):
     """A wrong key, one with a stray character, and none: the file is as it was. No terminal obeys the name."""
     secret = {"data": data}
@@ -161,5 +220,9 @@ def test_a_refused_secret(tmp_path, data, said):
     file.write_text(json.dumps(secret))
     command = [sys.executable, "-m", "keywrap.rotation.kubernetes_secret", file]
     done = subprocess.run(command, capture_output=True, text=True)
-    assert (done.returncode, said in done.stderr, json.loads(file.read_text())) == (1, True, secret)
+    assert (done.returncode, said in done.stderr, json.loads(file.read_text())) == (
+        1,
+        True,
+        secret,
+    )
     assert "\x1b" not in done.stderr

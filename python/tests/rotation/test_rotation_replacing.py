@@ -21,7 +21,12 @@ from keywrap.rotation.found import Changed, Refused, Unanswered
 from keywrap.rotation.listing import FileListing, Names
 from keywrap.rotation.replacing import base_of
 
-OLD, NEW, OTHER, THIRD = b"old\n", b"new\n", b"written by another program\n", b"and by a third\n"
+OLD, NEW, OTHER, THIRD = (
+    b"old\n",
+    b"new\n",
+    b"written by another program\n",
+    b"and by a third\n",
+)
 
 
 @pytest.fixture
@@ -80,8 +85,18 @@ class TestReplace:
         refuses(file, why="2 hard links")
         assert file.read_bytes() == OLD
 
-    @pytest.mark.parametrize("content", [b"", b"one\n", b"one\ntwo\nthre", b"one\ntwo\nthree\n\n", b"One\ntwo\nthree\n",
-                                         b"one\ntwo\nthref\n", b"one\ntwo\nthree\0"])
+    @pytest.mark.parametrize(
+        "content",
+        [
+            b"",
+            b"one\n",
+            b"one\ntwo\nthre",
+            b"one\ntwo\nthree\n\n",
+            b"One\ntwo\nthree\n",
+            b"one\ntwo\nthref\n",
+            b"one\ntwo\nthree\0",
+        ],
+    )
     def test_what_was_read_is_compared_to_its_end(self, file, content):
         file.write_bytes(content)
         refuses(file, old=b"one\ntwo\nthree\n")
@@ -90,10 +105,16 @@ class TestReplace:
 
 class TestWriters:
     @pytest.mark.parametrize("write", [write_by_rename, pathlib.Path.write_bytes])
-    @pytest.mark.parametrize("tick", [False, True], ids=["later", "in the same tick of the clock"])
-    def test_a_write_right_before_the_exchange_is_put_back(self, file, at_exchange, monkeypatch, write, tick):
+    @pytest.mark.parametrize(
+        "tick", [False, True], ids=["later", "in the same tick of the clock"]
+    )
+    def test_a_write_right_before_the_exchange_is_put_back(
+        self, file, at_exchange, monkeypatch, write, tick
+    ):
         if tick:
-            monkeypatch.setattr(replacing, "identity", lambda status: str(status.st_ino))
+            monkeypatch.setattr(
+                replacing, "identity", lambda status: str(status.st_ino)
+            )
         at_exchange(before=lambda: write(file, OTHER))
         refuses(file)
         assert contents(file.parent) == [OTHER]
@@ -105,7 +126,10 @@ class TestWriters:
 
     def test_two_writes_around_the_exchange_are_both_kept(self, file, at_exchange):
         """The later one was made from the new file and may lack the earlier one, which is named."""
-        at_exchange(before=lambda: write_by_rename(file, OTHER), after=lambda: write_by_rename(file, THIRD))
+        at_exchange(
+            before=lambda: write_by_rename(file, OTHER),
+            after=lambda: write_by_rename(file, THIRD),
+        )
         refuses(file, why="compare it with .rotating.")
         assert file.read_bytes() == THIRD
         assert contents(file.parent) == sorted([THIRD, OTHER])
@@ -150,19 +174,42 @@ def later(directory, may_write=True):
     listing = FileListing(Names([str(directory)]), may_write=may_write)
     names = [os.path.basename(unit.name) for unit in listing.units]
     assert not any(base_of(os.fsencode(name)) for name in names)
-    return names, [f"{place}: {why}" for place, why in listing.found.named], contents(directory)
+    return (
+        names,
+        [f"{place}: {why}" for place, why in listing.found.named],
+        contents(directory),
+    )
 
 
 class TestKilledRuns:
-    @pytest.mark.parametrize("left, current, after", [
-        (NEW, OLD, OLD), (NEW, OTHER, OTHER), (OLD, NEW, NEW), (OLD, OTHER, OTHER), (OTHER, NEW, OTHER)],
-        ids=["before the exchange", "before the exchange, and written since", "after the exchange",
-             "after the exchange, and written since", "between two exchanges"])
-    def test_a_later_run_finishes_what_a_killed_run_began(self, file, left, current, after):
+    @pytest.mark.parametrize(
+        "left, current, after",
+        [
+            (NEW, OLD, OLD),
+            (NEW, OTHER, OTHER),
+            (OLD, NEW, NEW),
+            (OLD, OTHER, OTHER),
+            (OTHER, NEW, OTHER),
+        ],
+        ids=[
+            "before the exchange",
+            "before the exchange, and written since",
+            "after the exchange",
+            "after the exchange, and written since",
+            "between two exchanges",
+        ],
+    )
+    def test_a_later_run_finishes_what_a_killed_run_began(
+        self, file, left, current, after
+    ):
         """Only if it may write. Else it names it, and changes nothing."""
         path = killed(file, left, current)
         note = f"{path}: a killed run left it: a rotation finishes it"
-        assert later(file.parent, may_write=False) == (["file"], [note], sorted([left, current]))
+        assert later(file.parent, may_write=False) == (
+            ["file"],
+            [note],
+            sorted([left, current]),
+        )
         assert later(file.parent) == (["file"], [], [after])
 
     def test_an_unfinished_new_file_is_removed(self, file):
@@ -175,7 +222,9 @@ class TestKilledRuns:
         names, notes, after = later(file.parent)
         assert (names, len(notes), after) == (["file"], 1, sorted([NEW, OTHER]))
 
-    @pytest.mark.parametrize("make", [os.mkfifo, os.mkdir, lambda path: os.symlink("file", path)])
+    @pytest.mark.parametrize(
+        "make", [os.mkfifo, os.mkdir, lambda path: os.symlink("file", path)]
+    )
     @pytest.mark.parametrize("may_write", [True, False])
     def test_what_has_a_temporary_name_and_is_no_file(self, file, make, may_write):
         make(file.with_name(NAME.format(digest(OLD), digest(NEW))))
@@ -195,8 +244,14 @@ class TestKilledRuns:
         path = killed(file, OTHER, NEW)
         at_exchange(before=lambda: write_by_rename(file, THIRD))
         names, (note,), after = later(file.parent)
-        assert (file.read_bytes(), path.read_bytes(), after) == (THIRD, OTHER, sorted([THIRD, OTHER]))
-        assert note.startswith(f"{path}: other programs wrote it twice meanwhile: compare it with ")
+        assert (file.read_bytes(), path.read_bytes(), after) == (
+            THIRD,
+            OTHER,
+            sorted([THIRD, OTHER]),
+        )
+        assert note.startswith(
+            f"{path}: other programs wrote it twice meanwhile: compare it with "
+        )
 
     def test_one_file_by_its_name_is_finished_too(self, file):
         killed(file, OTHER, NEW)
@@ -211,9 +266,14 @@ class TestKilledRuns:
             fcntl.flock(held, fcntl.LOCK_EX)
             note = f"{path}: another program has locked it"
             assert later(file.parent) == (["file"], [note], sorted([OTHER, NEW]))
-            assert FileListing(Names([str(file.parent)]), may_write=True).found.lost == 1
+            assert (
+                FileListing(Names([str(file.parent)]), may_write=True).found.lost == 1
+            )
 
-    @pytest.mark.parametrize("name", [".rotating.mine", ".rotating.abcdefgh", ".rotating.0123abcd.00.00.file", "x."])
+    @pytest.mark.parametrize(
+        "name",
+        [".rotating.mine", ".rotating.abcdefgh", ".rotating.0123abcd.00.00.file", "x."],
+    )
     def test_a_name_that_only_begins_like_a_temporary_one_is_a_file(self, file, name):
         file.rename(file.with_name(name))
         assert later(file.parent) == ([name], [], [OLD])
@@ -226,7 +286,9 @@ def failing_call(*words):
 
 class TestSystem:
     @pytest.mark.parametrize("number", [1, 2])
-    def test_an_exception_in_the_exchange_keeps_what_came_out(self, file, monkeypatch, number):
+    def test_an_exception_in_the_exchange_keeps_what_came_out(
+        self, file, monkeypatch, number
+    ):
         """As an interrupt between the exchange and the comparison: the file that came out is not removed uncompared."""
         real = replacing.exchange
 
@@ -241,13 +303,18 @@ class TestSystem:
         assert contents(file.parent) == sorted([OLD, NEW])
         assert later(file.parent) == (["file"], [], [NEW if number == 2 else OLD])
 
-    @pytest.mark.parametrize("libc", [types.SimpleNamespace(), types.SimpleNamespace(renameat2=failing_call)])
+    @pytest.mark.parametrize(
+        "libc", [types.SimpleNamespace(), types.SimpleNamespace(renameat2=failing_call)]
+    )
     def test_without_an_exchange(self, file, monkeypatch, libc):
         monkeypatch.setattr(replacing, "_libc", libc)
-        refuses(file, why="cannot exchange two files: stop all writers, then use --quiesced")
+        refuses(
+            file, why="cannot exchange two files: stop all writers, then use --quiesced"
+        )
         assert contents(file.parent) == [OLD]
         with replacing.opened(os.fsencode(file)) as (old, before), contextlib.closing(
-                replacing.Successor(os.fsencode(file), before)) as successor:
+            replacing.Successor(os.fsencode(file), before)
+        ) as successor:
             successor.write(NEW)
             with pytest.raises(Changed):
                 successor.replace(old, digest(OTHER), quiesced=True)
@@ -262,13 +329,42 @@ class TestSystem:
         log = pathlib.Path("calls").absolute()
         program = f"from keywrap.rotate import replace; replace({str(file)!r}, {NEW!r}, old_bytes={OLD!r})"
         calls = "fchown,fchmod,fsync,rename,renameat2,unlink"
-        command = ["strace", "-f", "-y", "-o", log, "-e", f"trace={calls}", sys.executable, "-B", "-c", program]
+        command = [
+            "strace",
+            "-f",
+            "-y",
+            "-o",
+            log,
+            "-e",
+            f"trace={calls}",
+            sys.executable,
+            "-B",
+            "-c",
+            program,
+        ]
         done = subprocess.run(command, check=False, capture_output=True)
         if b"ptrace" in done.stderr:
             pytest.skip("strace is not allowed here")
-        found = [line.split(None, 1)[1] for line in log.read_text().splitlines() if "= 0" in line]
-        kinds = [line.split("(")[0] + " directory" * (f"<{file.parent}>" in line.split(")")[0]) for line in found]
-        kinds = [kind.split()[0] if kind.startswith("rename") else kind for kind in kinds]
+        found = [
+            line.split(None, 1)[1]
+            for line in log.read_text().splitlines()
+            if "= 0" in line
+        ]
+        kinds = [
+            line.split("(")[0]
+            + " directory" * (f"<{file.parent}>" in line.split(")")[0])
+            for line in found
+        ]
+        kinds = [
+            kind.split()[0] if kind.startswith("rename") else kind for kind in kinds
+        ]
         # The owner before the mode: otherwise others could read the new file meanwhile.
-        assert kinds == ["fchown", "fchmod", "fsync", "rename", "renameat2", "unlink", "fsync directory"]
-
+        assert kinds == [
+            "fchown",
+            "fchmod",
+            "fsync",
+            "rename",
+            "renameat2",
+            "unlink",
+            "fsync directory",
+        ]

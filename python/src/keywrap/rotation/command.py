@@ -24,7 +24,9 @@ def _say_end(passes: Passes, status: int, options: argparse.Namespace) -> None:
         for label, count in sorted((last.old if dry else passes.old).items()):
             say(f"{count} keys {'are' if dry else 'were'} under {label}")
     if status == DONE and passes.may_write and not passes.rewrapped and last.keys:
-        say("no key was under the KEK: this rotation ran before, or the KEKs are swapped")
+        say(
+            "no key was under the KEK: this rotation ran before, or the KEKs are swapped"
+        )
     say(f"{passes.store.noun}: {passes.units}; {passes.number} passes; {last.keys} keys: {last.new} new"
         + ("" if options.verify else f", {sum(last.old.values())} old") + f", {last.refused} refused"
         + (f"; {passes.rewrapped} rewrapped" if passes.may_write else ""))  # fmt: skip
@@ -47,14 +49,21 @@ def _run(options: argparse.Namespace) -> int:
 
     for number in (signal.SIGINT, signal.SIGTERM):
         signal.signal(number, stop)
-    passes = Passes(store, keks, pool, report, not (options.verify or options.dry_run), record)
+    passes = Passes(
+        store, keks, pool, report, not (options.verify or options.dry_run), record
+    )
     passes.run()
     status = passes.status()
     for difference in record.differences() if record is not None else ():
         report.say(difference)
         status = status or REFUSED
     _say_end(passes, status, options)
-    report.line(status=status, passes=passes.number, rewrapped=passes.rewrapped, **passes.last.counts())
+    report.line(
+        status=status,
+        passes=passes.number,
+        rewrapped=passes.rewrapped,
+        **passes.last.counts(),
+    )
     if status == INTERRUPTED:
         raise KeyboardInterrupt
     return status
@@ -71,8 +80,16 @@ def main(words: Optional[Sequence[str]] = None) -> int:
     except KeyboardInterrupt:
         status, why = INTERRUPTED, "interrupted: run it again"
     except ImportError as error:
-        status, why = ARGUMENTS, f"{error.name} is missing (apt-get install python3-{error.name})"
-    except Exception as error:  # Of the system, of Dask, or a defect: its text may have anything in it.
-        status, why = UNFINISHED, getattr(error, "strerror", None) or f"unexpected {type(error).__name__}"
+        status, why = (
+            ARGUMENTS,
+            f"{error.name} is missing (apt-get install python3-{error.name})",
+        )
+    except (
+        Exception
+    ) as error:  # Of the system, of Dask, or a defect: its text may have anything in it.
+        status, why = (
+            UNFINISHED,
+            getattr(error, "strerror", None) or f"unexpected {type(error).__name__}",
+        )
     print(f"keywrap.rotate: {shown(why)}", file=sys.stderr)
     return status

@@ -5,7 +5,17 @@ import contextlib
 import copy
 import csv
 import json
-from typing import Any, Dict, Iterable, Iterator, List, NamedTuple, Optional, Tuple, Union
+from typing import (
+    Any,
+    Dict,
+    Iterable,
+    Iterator,
+    List,
+    NamedTuple,
+    Optional,
+    Tuple,
+    Union,
+)
 
 from .found import Found, Refused
 from .keks import Rings
@@ -43,19 +53,39 @@ def _bytes(text: str) -> bytes:
 class Fields:
     """A file of records, of CSV or JSON."""
 
-    def __init__(self, is_csv: bool, name: str, notation: Notation, kek_name: Optional[str] = None) -> None:
-        self.is_csv, self.name, self.notation, self.kek_name = is_csv, name, notation, kek_name
+    def __init__(
+        self,
+        is_csv: bool,
+        name: str,
+        notation: Notation,
+        kek_name: Optional[str] = None,
+    ) -> None:
+        self.is_csv, self.name, self.notation, self.kek_name = (
+            is_csv,
+            name,
+            notation,
+            kek_name,
+        )
 
-    def renewed(self, blocks: Iterable[bytes], rings: Rings, found: Found) -> Iterator[Tuple[bytes, bytes]]:
-        records = self._csv(_lines(blocks)) if self.is_csv else self._json(_lines(blocks))
+    def renewed(
+        self, blocks: Iterable[bytes], rings: Rings, found: Found
+    ) -> Iterator[Tuple[bytes, bytes]]:
+        records = (
+            self._csv(_lines(blocks)) if self.is_csv else self._json(_lines(blocks))
+        )
         while batch := some(records, lambda record: len(record.content)):
             texts = renewed(rings, self.notation, [record.text for record in batch], found,
                             lambda at: f"line {batch[at].line}", [record.name for record in batch])  # fmt: skip
             content = _bytes("".join(record.content for record in batch))
-            fresh = (self._with(each, texts[at]) if at in texts else each.content for at, each in enumerate(batch))
+            fresh = (
+                self._with(each, texts[at]) if at in texts else each.content
+                for at, each in enumerate(batch)
+            )
             yield content, _bytes("".join(fresh)) if texts else content
         if not found.keys:
-            raise Refused(f"no {'key in the column' if self.is_csv else 'line has the member'} {self.name!r}")
+            raise Refused(
+                f"no {'key in the column' if self.is_csv else 'line has the member'} {self.name!r}"
+            )
 
     def _csv(self, lines: Iterator[str]) -> Iterator[Record]:
         csv.field_size_limit(2 * LONGEST)
@@ -69,12 +99,27 @@ class Fields:
                     titles = [name.lstrip("\ufeff") for name in row]
                     for name in filter(None, (self.name, self.kek_name)):
                         if titles.count(name) != 1:
-                            raise Refused(f"the first line does not have the column {name!r} once")
+                            raise Refused(
+                                f"the first line does not have the column {name!r} once"
+                            )
                         columns.append(titles.index(name))
                     row = []
                 is_whole = len(row) > max(columns)
-                text = _bytes(row[columns[0]].strip()) or None if is_whole else "the column is missing" if row else None
-                yield Record("".join(taken), number, text, row[columns[-1]] if is_whole else None, row, columns[0])
+                text = (
+                    _bytes(row[columns[0]].strip()) or None
+                    if is_whole
+                    else "the column is missing"
+                    if row
+                    else None
+                )
+                yield Record(
+                    "".join(taken),
+                    number,
+                    text,
+                    row[columns[-1]] if is_whole else None,
+                    row,
+                    columns[0],
+                )
                 number += len(taken)
                 taken.clear()
         except csv.Error:
@@ -91,7 +136,14 @@ class Fields:
             text: Text = None if value is None else "not a string"
             if type(value) is str:
                 text = _bytes(value.strip())
-            yield Record(line, number, text, name if type(name) is str else None, members, self.name)
+            yield Record(
+                line,
+                number,
+                text,
+                name if type(name) is str else None,
+                members,
+                self.name,
+            )
 
     def _with(self, record: Record, text: bytes) -> str:
         """Puts the new key in the place of the old one: the place from which the parser reads it."""
@@ -103,11 +155,17 @@ class Fields:
         while at >= 0:
             changed = record.content[:at] + new + record.content[at + len(old) :]
             with contextlib.suppress(ValueError, csv.Error):
-                parsed = [*csv.reader([changed], strict=True)] if self.is_csv else [_members(changed)]
+                parsed = (
+                    [*csv.reader([changed], strict=True)]
+                    if self.is_csv
+                    else [_members(changed)]
+                )
                 if parsed == [wanted]:
                     return changed
             at = record.content.find(old, at + 1)
-        raise Refused(f"line {record.line}: the key is written with escapes, and cannot be replaced in its place")
+        raise Refused(
+            f"line {record.line}: the key is written with escapes, and cannot be replaced in its place"
+        )
 
 
 class _Number(str):

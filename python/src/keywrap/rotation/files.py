@@ -5,14 +5,31 @@ import hashlib
 import io
 import itertools
 import os
-from typing import Callable, ContextManager, Iterable, Iterator, Optional, Protocol, Tuple
+from typing import (
+    Callable,
+    ContextManager,
+    Iterable,
+    Iterator,
+    Optional,
+    Protocol,
+    Tuple,
+)
 
 from . import signs
 from .found import Changed, Found, Gone, Refused
 from .keks import Rings
 from .keys import BLANKS, LONGEST, Notation, all_renewed, renewed
 from .listing import FileListing, Listing, Names, Unit
-from .replacing import LONGEST_NAME, Successor, blocks, has_name, identity, opened, short, sync_directory
+from .replacing import (
+    LONGEST_NAME,
+    Successor,
+    blocks,
+    has_name,
+    identity,
+    opened,
+    short,
+    sync_directory,
+)
 
 
 class Store(Protocol):
@@ -29,7 +46,9 @@ class Store(Protocol):
 Format = Callable[[Iterable[bytes], Rings, Found], Iterator[Tuple[bytes, bytes]]]
 
 
-def lines(notation: Notation, blocks: Iterable[bytes], rings: Rings, found: Found) -> Iterator[Tuple[bytes, bytes]]:
+def lines(
+    notation: Notation, blocks: Iterable[bytes], rings: Rings, found: Found
+) -> Iterator[Tuple[bytes, bytes]]:
     """One key on each line. A line that stays is kept to the byte; a new one ends with LF."""
     number, rest = 1, b""
     for block in itertools.chain(blocks, [b""]):
@@ -43,17 +62,27 @@ def lines(notation: Notation, blocks: Iterable[bytes], rings: Rings, found: Foun
             raise Refused(f"line {number}: longer than any wrapped key")
 
 
-def _renewed_lines(notation: Notation, content: bytes, rings: Rings, found: Found, first: int) -> bytes:
+def _renewed_lines(
+    notation: Notation, content: bytes, rings: Rings, found: Found, first: int
+) -> bytes:
     fresh = all_renewed(rings[None], content, found) if notation == Notation() else None
     if fresh is not None:
         return fresh
     each = list(io.BytesIO(content))
     keys = [line.strip(BLANKS) for line in each]
     texts = renewed(rings, notation, keys, found, lambda at: f"line {first + at}")
-    return b"".join(texts[at] + b"\n" if at in texts else line for at, line in enumerate(each)) if texts else content
+    return (
+        b"".join(
+            texts[at] + b"\n" if at in texts else line for at, line in enumerate(each)
+        )
+        if texts
+        else content
+    )
 
 
-def one_key(notation: Notation, blocks: Iterable[bytes], rings: Rings, found: Found) -> Iterator[Tuple[bytes, bytes]]:
+def one_key(
+    notation: Notation, blocks: Iterable[bytes], rings: Rings, found: Found
+) -> Iterator[Tuple[bytes, bytes]]:
     """The file is one key, which may span lines."""
     content, end = b"", b"" if notation.name == "raw" else b"\n"
     for block in blocks:
@@ -77,14 +106,26 @@ class Files:
         return contextlib.nullcontext(FileListing(self.names, may_write))
 
     def do(self, unit: Unit, rings: Rings, may_write: bool) -> Found:
-        path, found, digest, length = os.fsencode(unit.name), Found(), hashlib.blake2b(), 0
+        path, found, digest, length = (
+            os.fsencode(unit.name),
+            Found(),
+            hashlib.blake2b(),
+            0,
+        )
         new: Optional[Successor] = None
         try:
-            with opened(path, is_shared=not may_write) as (descriptor, before), contextlib.ExitStack() as stack:
+            with opened(path, is_shared=not may_write) as (
+                descriptor,
+                before,
+            ), contextlib.ExitStack() as stack:
                 if os.pread(descriptor, 16, 0) == b"SQLite format 3\0":
                     raise Refused("an SQLite database: name its table by --table")
-                if len(os.path.basename(path)) > LONGEST_NAME and any(ring.old for ring in rings.values()):
-                    raise Refused(f"its name is longer than {LONGEST_NAME} bytes: it has no room for a temporary name")
+                if len(os.path.basename(path)) > LONGEST_NAME and any(
+                    ring.old for ring in rings.values()
+                ):
+                    raise Refused(
+                        f"its name is longer than {LONGEST_NAME} bytes: it has no room for a temporary name"
+                    )
                 for content, fresh in self.format(blocks(descriptor), rings, found):
                     if new is None and may_write and fresh is not content:
                         new = Successor(path, before)
@@ -98,7 +139,9 @@ class Files:
                 if not found.keys:
                     raise Refused("no key")
                 if new is not None:
-                    before = new.replace(descriptor, short(digest), quiesced=self.quiesced)
+                    before = new.replace(
+                        descriptor, short(digest), quiesced=self.quiesced
+                    )
                 elif not has_name(path, before):
                     raise Changed
         except FileNotFoundError:  # Only absence is excused.
@@ -114,7 +157,9 @@ def replace(path: str, new_bytes: bytes, *, old_bytes: bytes) -> None:
     `Refused` is raised and the file is as it was.
     """
 
-    def given(blocks: Iterable[bytes], rings: Rings, found: Found) -> Iterator[Tuple[bytes, bytes]]:
+    def given(
+        blocks: Iterable[bytes], rings: Rings, found: Found
+    ) -> Iterator[Tuple[bytes, bytes]]:
         if b"".join(blocks) != old_bytes:
             raise Changed
         found.keys = 1
@@ -125,5 +170,7 @@ def replace(path: str, new_bytes: bytes, *, old_bytes: bytes) -> None:
     try:
         Files(given, Names([])).do(Unit(path, 0, ""), {}, True)
     except (Changed, Gone):
-        raise Refused("somebody else wrote or removed the file meanwhile: read it again") from None
+        raise Refused(
+            "somebody else wrote or removed the file meanwhile: read it again"
+        ) from None
     sync_directory(os.fsencode(os.path.dirname(os.path.abspath(path))))

@@ -82,7 +82,10 @@ class Found:
         self.old.update(other.old)
 
     def counts(self) -> Dict[str, int]:
-        return {**{name: getattr(self, name) for name in _COUNTED}, "old": sum(self.old.values())}
+        return {
+            **{name: getattr(self, name) for name in _COUNTED},
+            "old": sum(self.old.values()),
+        }
 
 
 def found_by(work: Callable[[], Found]) -> Found:
@@ -99,10 +102,16 @@ def found_by(work: Callable[[], Found]) -> Found:
         except Gone:
             found.moved = 1
         except (Refused, OSError) as error:
-            found.refuse("", (error.strerror if isinstance(error, OSError) else str(error)) or type(error).__name__)
+            found.refuse(
+                "",
+                (error.strerror if isinstance(error, OSError) else str(error))
+                or type(error).__name__,
+            )
         except Unanswered as error:
             found.lose("", str(error))
-        except Exception as error:  # A driver and a defect fail in many ways. The text may have anything in it.
+        except (
+            Exception
+        ) as error:  # A driver and a defect fail in many ways. The text may have anything in it.
             found.lose("", f"unexpected {type(error).__name__}")
         return found
     return Found(f"{why}, in each of {ATTEMPTS} attempts")

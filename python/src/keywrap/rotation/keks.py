@@ -43,12 +43,18 @@ Rings = Mapping[Optional[str], Ring]
 
 def _content(path: str, what: str, most: int) -> bytes:
     """Reads a file. A name of hex digits is not shown: somebody may have given a KEK in its place."""
-    shown = "it" if re.fullmatch("(?:[0-9A-Fa-f]{2}){16,}", os.path.basename(path)) else path
+    shown = (
+        "it"
+        if re.fullmatch("(?:[0-9A-Fa-f]{2}){16,}", os.path.basename(path))
+        else path
+    )
     if path in _held:
         return _held[path]
     try:
         with open(path, "rb") as file:
-            content, is_file = file.read(most + 1), stat.S_ISREG(os.fstat(file.fileno()).st_mode)
+            content, is_file = file.read(most + 1), stat.S_ISREG(
+                os.fstat(file.fileno()).st_mode
+            )
     except OSError as error:
         raise WrongKeks(f"{what}: {shown}: {error.strerror}") from None
     if len(content) > most:
@@ -86,18 +92,26 @@ def _read(path: str, what: str, is_raw: bool) -> bytes:
 def table_of(path: str, option: str) -> Dict[str, str]:
     """Reads lines NAME=FILE. A FILE is beside the table, if it is no absolute path."""
     found: Dict[str, str] = {}
-    lines = _content(path, option, _TABLE).decode("utf-8", "surrogateescape").rstrip("\r\n").split("\n")
+    lines = (
+        _content(path, option, _TABLE)
+        .decode("utf-8", "surrogateescape")
+        .rstrip("\r\n")
+        .split("\n")
+    )
     for number, line in enumerate(lines, 1):
         name, _, file = line.rstrip("\r").partition("=")
         if not (name and file) or name in found:
-            raise WrongKeks(f"{option}: {path}: line {number} is not NAME=FILE, or has the name of an earlier line")
+            raise WrongKeks(
+                f"{option}: {path}: line {number} is not NAME=FILE, or has the name of an earlier line"
+            )
         found[name] = os.path.join(os.path.dirname(path), file)
     return found
 
 
 class Keks(NamedTuple):
     """The files of the KEKs and of the new KEK, by the names that a store has beside its keys, or by `None` for all
-    keys; and once `challenged`, a random key that is wrapped under a digest of all KEKs."""
+    keys; and once `challenged`, a random key that is wrapped under a digest of all KEKs.
+    """
 
     files: Mapping[Optional[str], Tuple[Tuple[str, ...], str]]
     is_raw: bool = False
@@ -108,10 +122,18 @@ class Keks(NamedTuple):
         rings: Dict[Optional[str], Ring] = {}
         for name, (paths, new) in self.files.items():
             of = "" if name is None else f" of {name!r}"
-            old = ((name or path, _read(path, "the KEK" + of, self.is_raw)) for path in paths)
+            old = (
+                (name or path, _read(path, "the KEK" + of, self.is_raw))
+                for path in paths
+            )
             rings[name] = Ring(tuple(old), _read(new, "the new KEK" + of, self.is_raw))
-        if self.challenge is not None and keywrap.check(_digest(rings), self.challenge) is None:
-            raise WrongKeks("the KEKs of this machine are not those that the rotation began with")
+        if (
+            self.challenge is not None
+            and keywrap.check(_digest(rings), self.challenge) is None
+        ):
+            raise WrongKeks(
+                "the KEKs of this machine are not those that the rotation began with"
+            )
         return rings
 
     def challenged(self, new_challenge: Optional[str] = None) -> "Keks":
@@ -124,7 +146,11 @@ class Keks(NamedTuple):
             files = table_of(new_challenge, "--new-challenge") if one is None else {}
             for name, ring in rings.items():
                 path = files.get(name or "")
-                wrapped = one if path is None else _digits(_content(path, "--new-challenge", _KEK_FILE))
+                wrapped = (
+                    one
+                    if path is None
+                    else _digits(_content(path, "--new-challenge", _KEK_FILE))
+                )
                 if not _is_under(ring.new, wrapped):
                     of = "" if name is None else f" of {name!r}"
                     raise WrongKeks(f"the new KEK{of} is not that of --new-challenge {path or new_challenge}: "
@@ -133,18 +159,27 @@ class Keks(NamedTuple):
 
     def make_challenges(self) -> Iterator[str]:
         """Writes a random key, wrapped under each KEK, beside its file, for `keywrap check`. Yields the names. A file
-        that has one stays, and one of another KEK is refused: after a rotation it would be the old KEK's."""
+        that has one stays, and one of another KEK is refused: after a rotation it would be the old KEK's.
+        """
         rings = self.rings()
         keks = {path: kek for name, (old, new) in self.files.items()
                 for path, kek in zip((*old, new), (*(kek for _, kek in rings[name].old), rings[name].new))}  # fmt: skip
         for path, kek in keks.items():
             name = os.path.splitext(path)[0] + ".challenge"
             try:
-                with open(os.open(name, os.O_WRONLY | os.O_CREAT | os.O_EXCL, 0o600), "w", encoding="ascii") as file:
+                with open(
+                    os.open(name, os.O_WRONLY | os.O_CREAT | os.O_EXCL, 0o600),
+                    "w",
+                    encoding="ascii",
+                ) as file:
                     print(keywrap.wrap(kek, os.urandom(32)).hex(), file=file)
             except FileExistsError:
-                if not _is_under(kek, _digits(_content(name, "--make-challenges", _KEK_FILE))):
-                    raise WrongKeks(f"{name} is not a challenge of {path}: remove it") from None
+                if not _is_under(
+                    kek, _digits(_content(name, "--make-challenges", _KEK_FILE))
+                ):
+                    raise WrongKeks(
+                        f"{name} is not a challenge of {path}: remove it"
+                    ) from None
             except OSError as error:
                 raise WrongKeks(f"{name}: {error.strerror}") from None
             yield name
@@ -155,5 +190,10 @@ def _digest(rings: Rings) -> bytes:
     digest = hashlib.sha256()
     for name, ring in rings.items():
         for kek in (*(kek for _, kek in ring.old), ring.new):
-            digest.update(f"{name!r} {len(ring.old)} {len(kek)} ".encode("utf-8", "surrogateescape") + kek)
+            digest.update(
+                f"{name!r} {len(ring.old)} {len(kek)} ".encode(
+                    "utf-8", "surrogateescape"
+                )
+                + kek
+            )
     return digest.digest()

@@ -38,7 +38,11 @@ class Names(NamedTuple):
 
     def is_excluded(self, path: bytes) -> bool:
         both = path, os.path.basename(path)
-        return any(fnmatch.fnmatchcase(os.fsdecode(text), glob) for glob in self.exclude for text in both)
+        return any(
+            fnmatch.fnmatchcase(os.fsdecode(text), glob)
+            for glob in self.exclude
+            for text in both
+        )
 
     def listed(self, found: Found) -> Iterator[bytes]:
         """The lines of the list that the shard has. Each pass reads them again."""
@@ -47,12 +51,16 @@ class Names(NamedTuple):
         try:
             with open(self.list_of_files, "rb", opener=at_once) as file:
                 if not stat.S_ISREG(os.fstat(file.fileno()).st_mode):
-                    raise Refused(f"--files-from: {self.list_of_files}: not a regular file: each pass reads it again")
+                    raise Refused(
+                        f"--files-from: {self.list_of_files}: not a regular file: each pass reads it again"
+                    )
                 for name in (line.rstrip(b"\n") for line in file):
                     if name and not self.is_excluded(name) and self.has(name, found):
                         yield name
         except OSError as error:
-            raise Refused(f"--files-from: {self.list_of_files}: {error.strerror}") from None
+            raise Refused(
+                f"--files-from: {self.list_of_files}: {error.strerror}"
+            ) from None
 
 
 #: A unit, and the time of its last change, which a rename changes. A directory, and a named file that is not there,
@@ -66,7 +74,11 @@ class Listing:
     def __init__(self, rows: Callable[[Found], Iterator[Row]]) -> None:
         self._rows, self._database = rows, sqlite3.connect("", isolation_level=None)
         columns = "(name BLOB PRIMARY KEY, size, identity, changed) WITHOUT ROWID"
-        for table in f"first {columns}", f"last {columns}", "read (identity PRIMARY KEY) WITHOUT ROWID":
+        for table in (
+            f"first {columns}",
+            f"last {columns}",
+            "read (identity PRIMARY KEY) WITHOUT ROWID",
+        ):
             self._database.execute(f"CREATE TABLE {table}")
         self._database.execute("BEGIN")
         self.found, self._at_end = self._list("first"), Found()
@@ -75,18 +87,31 @@ class Listing:
     def _list(self, table: str) -> Found:
         found = Found()
         self._database.execute(f"DELETE FROM {table}")
-        self._database.executemany(f"INSERT OR IGNORE INTO {table} VALUES (?, ?, ?, ?)", self._rows(found))
+        self._database.executemany(
+            f"INSERT OR IGNORE INTO {table} VALUES (?, ?, ?, ?)", self._rows(found)
+        )
         return found
 
     def _units(self, rows: str) -> Tuple[Iterator[Unit], int, int]:
-        count, weight = self._database.execute(f"SELECT count(*), total(size) FROM {rows}").fetchone()
-        each = self._database.execute(f"SELECT name, size, identity FROM {rows} ORDER BY name")
-        return (Unit(os.fsdecode(name), size, identity) for name, size, identity in each), count, weight
+        count, weight = self._database.execute(
+            f"SELECT count(*), total(size) FROM {rows}"
+        ).fetchone()
+        each = self._database.execute(
+            f"SELECT name, size, identity FROM {rows} ORDER BY name"
+        )
+        return (
+            (Unit(os.fsdecode(name), size, identity) for name, size, identity in each),
+            count,
+            weight,
+        )
 
     def take(self, unit: Unit, found: Found) -> None:
         """Notes what was read, under whatever name, or was there and could not be read."""
         if found.identity is not None or not found.moved:
-            self._database.execute("INSERT OR IGNORE INTO read VALUES (?)", (found.identity or unit.identity,))
+            self._database.execute(
+                "INSERT OR IGNORE INTO read VALUES (?)",
+                (found.identity or unit.identity,),
+            )
 
     def rest(self) -> Tuple[Iterator[Unit], int]:
         """Lists again. Returns the units that are there now and that this pass did not read, and their number."""
@@ -122,8 +147,13 @@ class FileListing(Listing):
         directories = {root.rstrip(b"/") for root in roots if os.path.isdir(root)}
         for root in roots:
             # The outermost directory decides on the shard: so what is named twice is in one.
-            ends = (at for at in range(len(root) + 1) if root[at : at + 1] in (b"/", b""))
-            outer = next((at + 1 for at in ends if root[:at] in directories), root.rfind(b"/") + 1)
+            ends = (
+                at for at in range(len(root) + 1) if root[at : at + 1] in (b"/", b"")
+            )
+            outer = next(
+                (at + 1 for at in ends if root[:at] in directories),
+                root.rfind(b"/") + 1,
+            )
             if os.path.isdir(root):
                 yield from self._below(root, outer, found)
             elif not self.skips(root) and self.names.has(root[outer:], found):
@@ -134,8 +164,12 @@ class FileListing(Listing):
     def is_quiet(self, found: Found) -> bool:
         """Once nothing was written, syncs all directories: no file, and no journal of SQLite, comes back by a crash."""
         if self.may_write and not found.old:
-            each = self._database.execute("SELECT name FROM first WHERE size ISNULL AND identity NOTNULL")
-            for directory in itertools.chain(self._left_over, (name for (name,) in each)):
+            each = self._database.execute(
+                "SELECT name FROM first WHERE size ISNULL AND identity NOTNULL"
+            )
+            for directory in itertools.chain(
+                self._left_over, (name for (name,) in each)
+            ):
                 sync_directory(directory)
         return super().is_quiet(found)
 
@@ -149,7 +183,9 @@ class FileListing(Listing):
                     for entry in entries:
                         if base_of(entry.name) is not None:
                             self._recover(entry.path, found)
-                        elif self.names.is_excluded(entry.path) or self.skips(entry.path):
+                        elif self.names.is_excluded(entry.path) or self.skips(
+                            entry.path
+                        ):
                             continue
                         elif entry.is_dir(follow_symlinks=False):
                             directories.append(entry.path)
@@ -170,7 +206,9 @@ class FileListing(Listing):
         if directory not in self._left_over:
             self._left_over[directory] = []
             with contextlib.suppress(OSError):
-                self._left_over[directory] = [name for name in os.listdir(directory) if base_of(name) is not None]
+                self._left_over[directory] = [
+                    name for name in os.listdir(directory) if base_of(name) is not None
+                ]
         for name in self._left_over[directory]:
             if base_of(name) == base:
                 self._recover(os.path.join(directory, name), found)
@@ -184,7 +222,9 @@ class FileListing(Listing):
     def _recover(self, path: bytes, found: Found) -> None:
         done = found_by(lambda: recover(path, self.may_write))
         found.add(done)
-        found.moved += 1  # A file may have come back to its name, which may be listed already.
+        found.moved += (
+            1  # A file may have come back to its name, which may be listed already.
+        )
         found.named += [(os.fsdecode(path), why) for _, why in done.named]
 
 

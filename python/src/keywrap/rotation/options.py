@@ -34,7 +34,8 @@ GONE = {
     "--new-kek-command": "--new-kek <(COMMAND)",
     "--objects": "--files-from MANIFEST with --get and --put",
     "--prefix-format": "--prefix with each text before old keys, as 'vault:v3:'",
-    "--new-version": "--new-prefix with the text before new keys, as 'vault:v4:'"}
+    "--new-version": "--new-prefix with the text before new keys, as 'vault:v4:'",
+}
 
 
 def _positive(text: str) -> int:
@@ -45,53 +46,158 @@ def _positive(text: str) -> int:
 
 def _shard(text: str) -> Tuple[int, int]:
     number, _, count = text.partition("/")
-    if not (number.isdecimal() and count.isdecimal() and 1 <= int(number) <= int(count)):
+    if not (
+        number.isdecimal() and count.isdecimal() and 1 <= int(number) <= int(count)
+    ):
         raise argparse.ArgumentTypeError("not I/N, with I from 1 to N")
     return int(number), int(count)
 
 
 def _parser() -> argparse.ArgumentParser:
-    parser = argparse.ArgumentParser("python -m keywrap.rotate", usage="%(prog)s [OPTION].. [FILE]..",
-                                     description=DESCRIPTION, epilog=EPILOG, add_help=False, allow_abbrev=False,
-                                     formatter_class=lambda prog: argparse.HelpFormatter(prog, max_help_position=23))
+    parser = argparse.ArgumentParser(
+        "python -m keywrap.rotate",
+        usage="%(prog)s [OPTION].. [FILE]..",
+        description=DESCRIPTION,
+        epilog=EPILOG,
+        add_help=False,
+        allow_abbrev=False,
+        formatter_class=lambda prog: argparse.HelpFormatter(prog, max_help_position=23),
+    )
     add = parser.add_argument
-    add("--kek", metavar="F", action="append", help="file of a KEK, in hex (default: $KEYWRAP_KEK)")
+    add(
+        "--kek",
+        metavar="F",
+        action="append",
+        help="file of a KEK, in hex (default: $KEYWRAP_KEK)",
+    )
     add("--new-kek", metavar="F", help="its successor (default: $KEYWRAP_NEW_KEK)")
     add("--raw-kek", action="store_true", help="KEK files are raw bytes")
     add("--keks", metavar="F", help="table of KEKs: each line is NAME=FILE")
     add("--new-keks", metavar="F", help="table of new KEKs, with the same names")
     add("--kek-name", metavar="C", help="column or member with the name of a key's KEK")
-    add("--new-challenge", metavar="F", help="key under the new KEK: refuses swapped KEKs")
-    add("--make-challenges", action="store_true", help="only write one beside each KEK file")
+    add(
+        "--new-challenge",
+        metavar="F",
+        help="key under the new KEK: refuses swapped KEKs",
+    )
+    add(
+        "--make-challenges",
+        action="store_true",
+        help="only write one beside each KEK file",
+    )
     notation = parser.add_mutually_exclusive_group()
-    for name, what in ("base64", ""), ("base64url", ", unpadded"), ("raw", ": a file is one key"):
+    for name, what in (
+        ("base64", ""),
+        ("base64url", ", unpadded"),
+        ("raw", ": a file is one key"),
+    ):
         notation.add_argument(f"--{name}", dest="notation", action="store_const", const=name, default="hex",
                               help=f"keys are {name}{what}")  # fmt: skip
-    add("--prefix", metavar="P", action="append", default=[], help="text before old keys, as vault:v3:")
+    add(
+        "--prefix",
+        metavar="P",
+        action="append",
+        default=[],
+        help="text before old keys, as vault:v3:",
+    )
     add("--new-prefix", metavar="P", default="", help="text before new keys")
     store = parser.add_mutually_exclusive_group()
-    store.add_argument("--one-key", action="store_true", help="a file is one key, which may span lines")
-    store.add_argument("--csv", metavar="C", help="files are CSV with this column of keys")
-    store.add_argument("--json", metavar="M", help="lines are JSON objects with this member")
-    store.add_argument("--table", metavar="T", help="files are SQLite databases with this table")
-    store.add_argument("--postgresql", metavar="T", help="table of the database of libpq's variables")
-    add("--column", metavar="C", default="key", help="column of a table's keys (default: key)")
-    store.add_argument("--get", metavar="COMMAND", help="writes object {name} to {file}, prints its version")
-    add("--put", metavar="COMMAND", help="puts {file} as {name} if it still is {version}")
+    store.add_argument(
+        "--one-key", action="store_true", help="a file is one key, which may span lines"
+    )
+    store.add_argument(
+        "--csv", metavar="C", help="files are CSV with this column of keys"
+    )
+    store.add_argument(
+        "--json", metavar="M", help="lines are JSON objects with this member"
+    )
+    store.add_argument(
+        "--table", metavar="T", help="files are SQLite databases with this table"
+    )
+    store.add_argument(
+        "--postgresql", metavar="T", help="table of the database of libpq's variables"
+    )
+    add(
+        "--column",
+        metavar="C",
+        default="key",
+        help="column of a table's keys (default: key)",
+    )
+    store.add_argument(
+        "--get",
+        metavar="COMMAND",
+        help="writes object {name} to {file}, prints its version",
+    )
+    add(
+        "--put",
+        metavar="COMMAND",
+        help="puts {file} as {name} if it still is {version}",
+    )
     add("--files-from", metavar="F", help="take the names that are the lines of F")
-    add("--exclude", metavar="GLOB", action="append", default=[], help="leave out files of this name or path")
-    add("--shard", metavar="I/N", type=_shard, default=(1, 1), help="take part I of N of the names")
+    add(
+        "--exclude",
+        metavar="GLOB",
+        action="append",
+        default=[],
+        help="leave out files of this name or path",
+    )
+    add(
+        "--shard",
+        metavar="I/N",
+        type=_shard,
+        default=(1, 1),
+        help="take part I of N of the names",
+    )
     add("--quiesced", action="store_true", help="nobody writes: do not exchange names")
     mode = parser.add_mutually_exclusive_group()
-    mode.add_argument("--dry-run", action="store_true", help="the same pass, and nothing is written")
-    mode.add_argument("--verify", action="store_true", help="the same pass, without the KEK")
-    add("--report", "--record", metavar="F", help="new file with a line of JSON for each unit")
-    add("--verify-record", metavar="F", help="with --verify: name what differs from a report")
-    add("--jobs", metavar="N", type=_positive, default=len(os.sched_getaffinity(0)), help="processes")
-    add("--dask", metavar="ADDRESS", help="scheduler of the Dask workers that do the units")
-    add("--rate", metavar="N", type=_positive, help="begin no unit while keys/s are more than N")
-    add("--timeout", metavar="S", type=_positive, default=600, help="give up a process without a sign of life")
-    add("--version", action="version", version=f"keywrap.rotate {keywrap.__version__}", help="print the version")
+    mode.add_argument(
+        "--dry-run", action="store_true", help="the same pass, and nothing is written"
+    )
+    mode.add_argument(
+        "--verify", action="store_true", help="the same pass, without the KEK"
+    )
+    add(
+        "--report",
+        "--record",
+        metavar="F",
+        help="new file with a line of JSON for each unit",
+    )
+    add(
+        "--verify-record",
+        metavar="F",
+        help="with --verify: name what differs from a report",
+    )
+    add(
+        "--jobs",
+        metavar="N",
+        type=_positive,
+        default=len(os.sched_getaffinity(0)),
+        help="processes",
+    )
+    add(
+        "--dask",
+        metavar="ADDRESS",
+        help="scheduler of the Dask workers that do the units",
+    )
+    add(
+        "--rate",
+        metavar="N",
+        type=_positive,
+        help="begin no unit while keys/s are more than N",
+    )
+    add(
+        "--timeout",
+        metavar="S",
+        type=_positive,
+        default=600,
+        help="give up a process without a sign of life",
+    )
+    add(
+        "--version",
+        action="version",
+        version=f"keywrap.rotate {keywrap.__version__}",
+        help="print the version",
+    )
     add("--help", action="help", help="print this help")
     add("files", metavar="FILE", nargs="*", help="a file, a directory or a database")
     return parser
@@ -141,41 +247,70 @@ def parse(words: Optional[Sequence[str]]) -> argparse.Namespace:
 
 def keks_of(options: argparse.Namespace) -> Keks:
     """Finds the files of the KEKs. To verify, the old ones are not needed."""
-    old = options.kek or [os.environ[name] for name in ("KEYWRAP_KEK",) if name in os.environ]
+    old = options.kek or [
+        os.environ[name] for name in ("KEYWRAP_KEK",) if name in os.environ
+    ]
     new = options.new_kek or os.environ.get("KEYWRAP_NEW_KEK", "")
     table = {} if options.keks is None else table_of(options.keks, "--keks")
-    new_table = {} if options.new_keks is None else table_of(options.new_keks, "--new-keks")
+    new_table = (
+        {} if options.new_keks is None else table_of(options.new_keks, "--new-keks")
+    )
     if options.verify:
         old, table = [], {}
     if not (new or new_table) or not (old or table or options.verify):
-        raise WrongKeks("give --kek and --new-kek, or set KEYWRAP_KEK and KEYWRAP_NEW_KEK")
+        raise WrongKeks(
+            "give --kek and --new-kek, or set KEYWRAP_KEK and KEYWRAP_NEW_KEK"
+        )
     if table and new_table and table.keys() != new_table.keys():
-        raise WrongKeks(f"--keks and --new-keks: only one of them has {min(table.keys() ^ new_table.keys())!r}")
+        raise WrongKeks(
+            f"--keks and --new-keks: only one of them has {min(table.keys() ^ new_table.keys())!r}"
+        )
     names: Sequence[Any] = sorted(table or new_table) or [None]
-    files = ((name, [table[name]] if name in table else old, new_table.get(name, new)) for name in names)
+    files = (
+        (name, [table[name]] if name in table else old, new_table.get(name, new))
+        for name in names
+    )
     path = os.path.abspath
-    return Keks({name: (tuple(map(path, olds)), path(its_new)) for name, olds, its_new in files}, options.raw_kek)
+    return Keks(
+        {
+            name: (tuple(map(path, olds)), path(its_new))
+            for name, olds, its_new in files
+        },
+        options.raw_kek,
+    )
 
 
 def store_of(options: argparse.Namespace) -> Store:
     """Makes the store. Only what it needs is imported: the others would double the time of the start."""
-    notation = Notation(options.notation, tuple(map(str.encode, options.prefix)), options.new_prefix.encode())
+    notation = Notation(
+        options.notation,
+        tuple(map(str.encode, options.prefix)),
+        options.new_prefix.encode(),
+    )
     names = Names(options.files, options.exclude, options.files_from, options.shard)
     digest = "0" if options.report or options.verify_record else None
     if options.table is not None:
         from .sqlite import Sqlite
 
-        return Sqlite(options.table, options.column, notation, names, options.kek_name, digest)
+        return Sqlite(
+            options.table, options.column, notation, names, options.kek_name, digest
+        )
     if options.postgresql is not None:
         from .postgresql import Postgresql
 
-        return Postgresql(options.postgresql, options.column, notation, options.kek_name, digest)
+        return Postgresql(
+            options.postgresql, options.column, notation, options.kek_name, digest
+        )
     if options.csv is not None or options.json is not None:
         from .fields import Fields
 
         is_csv = options.csv is not None
         name = options.csv if is_csv else options.json
-        return Files(Fields(is_csv, name, notation, options.kek_name).renewed, names, options.quiesced)
+        return Files(
+            Fields(is_csv, name, notation, options.kek_name).renewed,
+            names,
+            options.quiesced,
+        )
     if options.get is not None:
         from .objects import Objects
 

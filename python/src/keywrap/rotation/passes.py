@@ -16,16 +16,20 @@ from .report import Record, Report
 PASSES, IDLE, LISTINGS = 10, 3, 8
 
 
-def do(store: Store, keks: Keks, may_write: bool, number: int, units: List[Unit]) -> List[Found]:
+def do(
+    store: Store, keks: Keks, may_write: bool, number: int, units: List[Unit]
+) -> List[Found]:
     """Does some units of a pass, in any process on any machine that has the KEKs. It may run twice, at once, and be
-    killed at any point. The number of the pass keeps an executor from answering by what it has."""
+    killed at any point. The number of the pass keeps an executor from answering by what it has.
+    """
     rings = keks.rings()
     return [found_by(lambda: store.do(unit, rings, may_write)) for unit in units]
 
 
 class Passes:
     """Lists the store anew, and does every unit, until a pass had nothing to do: nothing that was written, lost or
-    left, and nothing that moved, or not in the pass before it either. A key that two passes miss was moved in both."""
+    left, and nothing that moved, or not in the pass before it either. A key that two passes miss was moved in both.
+    """
 
     def __init__(self, store: Store, keks: Keks, pool: Pool, report: Report, may_write: bool,
                  record: Optional[Record] = None) -> None:  # fmt: skip
@@ -37,13 +41,20 @@ class Passes:
 
     def run(self) -> None:
         idle, was_still = 0, False
-        while not self.is_settled and self.number < PASSES and idle < IDLE and not self.pool.stopped:
+        while (
+            not self.is_settled
+            and self.number < PASSES
+            and idle < IDLE
+            and not self.pool.stopped
+        ):
             self.number += 1
             is_quiet = self._pass()
             wrote = sum(self.last.old.values()) if self.may_write else 0
             self.rewrapped += wrote - self.last.unwritten
             self.old.update(self.last.old)
-            is_still = not (wrote or self.last.unwritten or self.last.lost or self.pool.stopped)
+            is_still = not (
+                wrote or self.last.unwritten or self.last.lost or self.pool.stopped
+            )
             self.is_settled = is_still and (is_quiet or was_still)
             was_still = is_still
             idle = 0 if wrote > self.last.unwritten or is_still else idle + 1
@@ -82,7 +93,13 @@ class Passes:
         if found.refused or found.lost:
             self.report.name(name, found)
         if name:
-            self.report.line(number=self.number, unit=name, **found.counts(), digest=found.digest, named=found.named)
+            self.report.line(
+                number=self.number,
+                unit=name,
+                **found.counts(),
+                digest=found.digest,
+                named=found.named
+            )
 
     def status(self) -> int:
         """A shard may be empty, but no store."""
@@ -90,6 +107,8 @@ class Passes:
             return INTERRUPTED
         if not self.is_settled or self.last.lost:
             return UNFINISHED
-        if self.last.refused or not (self.last.keys or self.last.others and not self.units):
+        if self.last.refused or not (
+            self.last.keys or self.last.others and not self.units
+        ):
             return REFUSED
         return DONE if self.last.new == self.last.keys else UNFINISHED

@@ -94,7 +94,9 @@ class Process:
         """Kills it, and waits a second for its end: a disk may hold it for longer."""
         self.socket.close()
         until = time.monotonic() + 1
-        with contextlib.suppress(OSError):  # If SIGCHLD is ignored, the system waited for it.
+        with contextlib.suppress(
+            OSError
+        ):  # If SIGCHLD is ignored, the system waited for it.
             os.kill(self.pid, signal.SIGKILL)
             while not os.waitpid(self.pid, os.WNOHANG)[0] and time.monotonic() < until:
                 time.sleep(0.001)
@@ -108,7 +110,9 @@ class Task:
 
     def begin(self, units: List[Unit]) -> None:
         # Not pure: no pass is answered from a cache.
-        self.units, self.future = units, self.client.submit(_answer, self.work, units, pure=False)
+        self.units, self.future = units, self.client.submit(
+            _answer, self.work, units, pure=False
+        )
 
     def answer(self) -> Answer:
         return _answer(lambda units: self.future.result(self.timeout), self.units)  # type: ignore[no-any-return]
@@ -118,20 +122,30 @@ class Pool:
     def __init__(self, jobs: int, dask: Optional[str], timeout: float, tick: Callable[[], None],
                  rate: Optional[int] = None) -> None:  # fmt: skip
         self.jobs, self.timeout, self.tick, self.rate = jobs, timeout, tick, rate
-        self._client: Any = importlib.import_module("distributed").Client(dask, timeout=10) if dask else None
+        self._client: Any = (
+            importlib.import_module("distributed").Client(dask, timeout=10)
+            if dask
+            else None
+        )
         #: Whether somebody asked for the end.
         self.stopped = False
         self._may_begin = 0.0
         self._running: Dict[Any, List[Unit]] = {}
         self._idle: List[Process] = []
 
-    def __call__(self, work: Work, units: Iterator[Unit], count: int) -> Iterator[Tuple[Unit, Found]]:
+    def __call__(
+        self, work: Work, units: Iterator[Unit], count: int
+    ) -> Iterator[Tuple[Unit, Found]]:
         """Yields what was found in each unit, in any order. A unit whose process died is tried again, alone: so it is
         known which unit ends its process."""
         size = min(self.jobs, max(count, 1))
-        make: Callable[[], Union[Process, Task]] = functools.partial(Process, work, self.timeout)
+        make: Callable[[], Union[Process, Task]] = functools.partial(
+            Process, work, self.timeout
+        )
         if self._client is not None:
-            threads = self._client.sync(self._client.scheduler.ncores, callback_timeout=self.timeout)
+            threads = self._client.sync(
+                self._client.scheduler.ncores, callback_timeout=self.timeout
+            )
             size = WINDOW * max(1, sum(threads.values()))
             make = functools.partial(Task, work, self._client, self.timeout)
         largest = 1 if self.rate else max(1, min(LARGEST, count // (8 * size)))
@@ -140,7 +154,11 @@ class Pool:
         try:
             while True:
                 while len(self._running) < size and not self.stopped:
-                    batch = [again.pop()] if again else list(itertools.islice(units, largest))
+                    batch = (
+                        [again.pop()]
+                        if again
+                        else list(itertools.islice(units, largest))
+                    )
                     if not batch:
                         break
                     worker = self._idle.pop() if self._idle else make()
@@ -157,7 +175,11 @@ class Pool:
                         continue
                     tries.update(unit.name for unit in batch)
                     again += [unit for unit in batch if tries[unit.name] < TRIES]
-                    yield from ((unit, Found("its process died")) for unit in batch if tries[unit.name] >= TRIES)
+                    yield from (
+                        (unit, Found("its process died"))
+                        for unit in batch
+                        if tries[unit.name] >= TRIES
+                    )
         except KeyboardInterrupt:
             self._running = {}  # Nobody waits for them: they end with this process.
             raise
@@ -172,7 +194,10 @@ class Pool:
         if self._client is None:
             return wait(list(self._running), 0.2)
         until = time.monotonic() + 0.2
-        while not (done := [task for task in self._running if task.future.done()]) and time.monotonic() < until:
+        while (
+            not (done := [task for task in self._running if task.future.done()])
+            and time.monotonic() < until
+        ):
             time.sleep(0.01)
         return done
 
@@ -186,12 +211,16 @@ class Pool:
             elif time.monotonic() > until:
                 given_up, self._running = self._running, {}
                 if self._client is not None:
-                    raise Unanswered(f"no worker of Dask answered in {self.timeout:g} seconds")
+                    raise Unanswered(
+                        f"no worker of Dask answered in {self.timeout:g} seconds"
+                    )
                 for process in given_up:
                     process.end()
                 return [(batch, None) for batch in given_up.values()]
         self.tick()
-        ended = [(self._running.pop(worker), worker, worker.answer()) for worker in ready]
+        ended = [
+            (self._running.pop(worker), worker, worker.answer()) for worker in ready
+        ]
         for _, worker, answer in ended:
             if answer is None:
                 worker.end()
@@ -203,7 +232,9 @@ class Pool:
         """Waits as long as the keys of these units may take, so that no unit begins earlier."""
         if self.rate is not None:
             rewrapped = sum(sum(each.old.values()) for each in found)
-            self._may_begin = max(self._may_begin, time.monotonic()) + rewrapped / self.rate
+            self._may_begin = (
+                max(self._may_begin, time.monotonic()) + rewrapped / self.rate
+            )
             while time.monotonic() < self._may_begin and not self.stopped:
                 time.sleep(0.02)
                 self.tick()

@@ -25,7 +25,9 @@ LOCK_SECONDS, BLOCK = 60.0, 1 << 17
 _DIGITS = 24
 #: The longest name of a file, so that its temporary name is none too long.
 LONGEST_NAME = 255 - len(f".rotating.{8 * '0'}.{_DIGITS * '0'}.{_DIGITS * '0'}.")
-_NAME = re.compile(rb"\.rotating\.[0-9a-f]{8}\.([0-9a-f]{24})\.([0-9a-f]{24})\.(.+)", re.DOTALL)
+_NAME = re.compile(
+    rb"\.rotating\.[0-9a-f]{8}\.([0-9a-f]{24})\.([0-9a-f]{24})\.(.+)", re.DOTALL
+)
 _AT_FDCWD, _RENAME_EXCHANGE = -100, 2
 _libc = ctypes.CDLL(None, use_errno=True)
 
@@ -33,10 +35,19 @@ _libc = ctypes.CDLL(None, use_errno=True)
 def exchange(one: bytes, other: bytes) -> None:
     """Exchanges two names in one step."""
     call = getattr(_libc, "renameat2", None)
-    if call is not None and call(_AT_FDCWD, one, _AT_FDCWD, other, _RENAME_EXCHANGE) == 0:
+    if (
+        call is not None
+        and call(_AT_FDCWD, one, _AT_FDCWD, other, _RENAME_EXCHANGE) == 0
+    ):
         return
-    if call is None or ctypes.get_errno() in (errno.ENOSYS, errno.EINVAL, errno.EOPNOTSUPP):
-        raise Refused("this file system cannot exchange two files: stop all writers, then use --quiesced")
+    if call is None or ctypes.get_errno() in (
+        errno.ENOSYS,
+        errno.EINVAL,
+        errno.EOPNOTSUPP,
+    ):
+        raise Refused(
+            "this file system cannot exchange two files: stop all writers, then use --quiesced"
+        )
     raise OSError(ctypes.get_errno(), os.strerror(ctypes.get_errno()))
 
 
@@ -48,7 +59,9 @@ def at_once(path: Any, flags: int) -> int:
 def blocks(descriptor: int, length: int = sys.maxsize) -> Iterator[bytes]:
     """Reads a file from its start, or its first bytes."""
     offset = 0
-    while offset < length and (block := os.pread(descriptor, min(BLOCK, length - offset), offset)):
+    while offset < length and (
+        block := os.pread(descriptor, min(BLOCK, length - offset), offset)
+    ):
         yield block
         offset += len(block)
         signs.beat()
@@ -66,11 +79,15 @@ def _digest_of(descriptor: int) -> str:
 
 
 @contextlib.contextmanager
-def opened(path: bytes, is_shared: bool = False, wait: bool = True) -> Iterator[Tuple[int, os.stat_result]]:
+def opened(
+    path: bytes, is_shared: bool = False, wait: bool = True
+) -> Iterator[Tuple[int, os.stat_result]]:
     """Opens and locks a regular file with one name. Raises `Changed`, `Refused` or `Unanswered`."""
     before = os.lstat(path)
     if not stat.S_ISREG(before.st_mode):
-        raise Refused("a symbolic link" if stat.S_ISLNK(before.st_mode) else "not a regular file")
+        raise Refused(
+            "a symbolic link" if stat.S_ISLNK(before.st_mode) else "not a regular file"
+        )
     if before.st_nlink != 1:
         raise Refused(f"the file has {before.st_nlink} hard links")
     descriptor = at_once(path, os.O_RDONLY)
@@ -78,13 +95,18 @@ def opened(path: bytes, is_shared: bool = False, wait: bool = True) -> Iterator[
         until = time.monotonic() + LOCK_SECONDS
         while True:
             try:
-                fcntl.flock(descriptor, (fcntl.LOCK_SH if is_shared else fcntl.LOCK_EX) | fcntl.LOCK_NB)
+                fcntl.flock(
+                    descriptor,
+                    (fcntl.LOCK_SH if is_shared else fcntl.LOCK_EX) | fcntl.LOCK_NB,
+                )
                 break
             except BlockingIOError:
                 if not wait or time.monotonic() > until:
                     raise Unanswered("another program has locked it") from None
                 time.sleep(0.02)
-        if identity(os.fstat(descriptor)) != identity(before) or not has_name(path, before):
+        if identity(os.fstat(descriptor)) != identity(before) or not has_name(
+            path, before
+        ):
             raise Changed
         yield descriptor, before
     finally:
@@ -119,7 +141,9 @@ def sync_directory(directory: bytes) -> None:
     except FileNotFoundError:
         pass  # It was renamed or removed: the listings differ.
     except OSError as error:
-        raise Unanswered(f"{os.fsdecode(directory)}: it was not synced: {error.strerror}") from None
+        raise Unanswered(
+            f"{os.fsdecode(directory)}: it was not synced: {error.strerror}"
+        ) from None
 
 
 class Successor:
@@ -127,13 +151,18 @@ class Successor:
 
     def __init__(self, path: bytes, before: os.stat_result) -> None:
         self.path, self.before, self.digest = path, before, hashlib.blake2b()
-        self.directory, self.base = os.path.dirname(path) or b".", os.path.basename(path)
+        self.directory, self.base = os.path.dirname(path) or b".", os.path.basename(
+            path
+        )
         self.name: Optional[bytes] = self._temporary("0" * _DIGITS, "0" * _DIGITS)
         self.descriptor = os.open(self.name, os.O_CREAT | os.O_EXCL | os.O_RDWR, 0o600)
         fcntl.flock(self.descriptor, fcntl.LOCK_EX)
 
     def _temporary(self, old: str, new: str) -> bytes:
-        return os.path.join(self.directory, f".rotating.{secrets.token_hex(4)}.{old}.{new}.".encode() + self.base)
+        return os.path.join(
+            self.directory,
+            f".rotating.{secrets.token_hex(4)}.{old}.{new}.".encode() + self.base,
+        )
 
     def write(self, content: bytes) -> None:
         self.digest.update(content)
@@ -155,21 +184,30 @@ class Successor:
                 os.unlink(self.name)
         os.close(self.descriptor)
 
-    def replace(self, old: int, digest: str, *, quiesced: bool = False) -> os.stat_result:
+    def replace(
+        self, old: int, digest: str, *, quiesced: bool = False
+    ) -> os.stat_result:
         """Puts the new file in the place of the old one, whose content had this digest, or raises `Changed`."""
         with contextlib.suppress(OSError):  # Some file systems ignore it.
             os.fchown(self.descriptor, self.before.st_uid, self.before.st_gid)
         with contextlib.suppress(OSError):
             os.fchmod(self.descriptor, stat.S_IMODE(self.before.st_mode))
         after = os.fstat(self.descriptor)
-        if any(getattr(after, part) != getattr(self.before, part) for part in ("st_uid", "st_gid", "st_mode")):
+        if any(
+            getattr(after, part) != getattr(self.before, part)
+            for part in ("st_uid", "st_gid", "st_mode")
+        ):
             raise Refused("its owner, group or mode cannot be kept")
         signs.sync(self.descriptor)
         assert self.name is not None
         name = self._temporary(digest, short(self.digest))
         os.rename(self.name, name)
         self.name = name
-        if not has_name(self.path, self.before) or quiesced and _digest_of(old) != digest:
+        if (
+            not has_name(self.path, self.before)
+            or quiesced
+            and _digest_of(old) != digest
+        ):
             raise Changed
         # Whatever happens in the exchange, nobody removes what may have come out of it uncompared.
         self.name = None
@@ -198,7 +236,9 @@ def _put_back(came_out: bytes, path: bytes, new: int) -> None:
             return os.unlink(came_out)
         # Somebody replaced the new file, too: theirs is the newest, and stays.
         exchange(came_out, path)
-    raise Refused(f"other programs wrote it twice meanwhile: compare it with {os.fsdecode(os.path.basename(came_out))}")
+    raise Refused(
+        f"other programs wrote it twice meanwhile: compare it with {os.fsdecode(os.path.basename(came_out))}"
+    )
 
 
 def base_of(name: bytes) -> Optional[bytes]:
@@ -211,7 +251,10 @@ def recover(path: bytes, may_write: bool) -> Found:
     or only a person can finish it."""
     directory, name = os.path.split(path)
     read, new, base = _NAME.fullmatch(name).groups()  # type: ignore[union-attr]
-    with contextlib.suppress(FileNotFoundError), opened(path, wait=False) as (left, status):
+    with contextlib.suppress(FileNotFoundError), opened(path, wait=False) as (
+        left,
+        status,
+    ):
         if not may_write:
             raise Refused("a killed run left it: a rotation finishes it")
         # The names were not exchanged, or what came out is what was read.
@@ -222,8 +265,13 @@ def recover(path: bytes, may_write: bool) -> Found:
         try:
             # A wait could be for this process: another run may have given `left` its name back by now.
             with opened(file, wait=False) as (current, its_status):
-                if _digest_of(current).encode() != new or its_status.st_uid != status.st_uid:
-                    raise Refused("a run left it, and others wrote the file since: compare it with the file")
+                if (
+                    _digest_of(current).encode() != new
+                    or its_status.st_uid != status.st_uid
+                ):
+                    raise Refused(
+                        "a run left it, and others wrote the file since: compare it with the file"
+                    )
                 _put_back(path, file, current)
         except FileNotFoundError:
             raise Refused("a run left it, and the file of that name is gone") from None

@@ -21,7 +21,10 @@ class ReportFailed(Failure):
 
 def shown(text: str) -> str:
     """Escapes what a terminal would not print."""
-    return "".join(c if c.isprintable() else c.encode("unicode_escape").decode("ascii") for c in text)
+    return "".join(
+        c if c.isprintable() else c.encode("unicode_escape").decode("ascii")
+        for c in text
+    )
 
 
 class Report:
@@ -33,13 +36,19 @@ class Report:
         self.percent = 0
         if name is not None:
             try:
-                self.file = open(os.open(name, os.O_WRONLY | os.O_CREAT | os.O_EXCL, 0o600), "w", encoding="utf-8")
+                self.file = open(
+                    os.open(name, os.O_WRONLY | os.O_CREAT | os.O_EXCL, 0o600),
+                    "w",
+                    encoding="utf-8",
+                )
             except OSError as error:
                 raise Failure(f"--report: {name}: {error.strerror}") from None
 
     def line(self, **content: Any) -> None:
         if self.file is not None:
-            now = datetime.datetime.now(datetime.timezone.utc).isoformat(timespec="milliseconds")
+            now = datetime.datetime.now(datetime.timezone.utc).isoformat(
+                timespec="milliseconds"
+            )
             try:
                 print(json.dumps({"time": now, **content}), file=self.file, flush=True)
                 if "status" in content:
@@ -62,12 +71,20 @@ class Report:
 
     def name(self, name: str, found: Found) -> None:
         """Names what was refused or lost in a unit, once in all passes."""
-        texts = [": ".join(filter(None, (name, place, why))) for place, why in found.named]
+        texts = [
+            ": ".join(filter(None, (name, place, why))) for place, why in found.named
+        ]
         if found.refused > len(found.named):
-            texts.append(f"{name}: {found.refused - len(found.named)} more keys were refused")
+            texts.append(
+                f"{name}: {found.refused - len(found.named)} more keys were refused"
+            )
         for text in texts:
             if hash(text) not in self.said and len(self.said) <= NAMED:
-                self.say(text if len(self.said) < NAMED else "more is refused: the report has the first of each unit")
+                self.say(
+                    text
+                    if len(self.said) < NAMED
+                    else "more is refused: the report has the first of each unit"
+                )
                 self.said.add(hash(text))
 
 
@@ -77,7 +94,9 @@ class Record:
     def __init__(self, name: str) -> None:
         self._database = sqlite3.connect("", isolation_level=None)
         for table in ("now", "before"):
-            self._database.execute(f"CREATE TABLE {table} (unit PRIMARY KEY, keys, digest) WITHOUT ROWID")
+            self._database.execute(
+                f"CREATE TABLE {table} (unit PRIMARY KEY, keys, digest) WITHOUT ROWID"
+            )
         self._database.execute("BEGIN")
         number, line = 0, None
         try:
@@ -90,12 +109,23 @@ class Record:
                         self.begin("before")
                     if line.get("digest") is not None:
                         self.add(line["unit"], line["keys"], line["digest"], "before")
-            if line is None or line["status"] != 0 or not line["passes"]:  # Version 1.1 wrote no passes.
+            if (
+                line is None or line["status"] != 0 or not line["passes"]
+            ):  # Version 1.1 wrote no passes.
                 raise ValueError
         except OSError as error:
             raise Failure(f"--verify-record: {name}: {error.strerror}") from None
-        except (ValueError, KeyError, TypeError, AttributeError, RecursionError, sqlite3.Error):
-            raise Failure(f"--verify-record: {name}: it is not a whole report of status 0, or is of 1.1") from None
+        except (
+            ValueError,
+            KeyError,
+            TypeError,
+            AttributeError,
+            RecursionError,
+            sqlite3.Error,
+        ):
+            raise Failure(
+                f"--verify-record: {name}: it is not a whole report of status 0, or is of 1.1"
+            ) from None
 
     def begin(self, table: str = "now") -> None:
         self._database.execute(f"DELETE FROM {table}")
@@ -104,12 +134,24 @@ class Record:
         """Adds a unit. The ranges of a table are one: their digests are numbers, which are added up."""
         name, is_range, _ = unit.partition(": blocks from ")
         name = json.dumps(name)
-        old = self._database.execute(f"SELECT keys, digest FROM {table} WHERE unit = ?", (name,)).fetchone()
+        old = self._database.execute(
+            f"SELECT keys, digest FROM {table} WHERE unit = ?", (name,)
+        ).fetchone()
         if old and is_range:
-            keys, digest = keys + old[0], f"{(int(old[1], 16) + int(digest, 16)) % (1 << 256):064x}"
-        self._database.execute(f"INSERT OR REPLACE INTO {table} VALUES (?, ?, ?)", (name, keys, digest))
+            keys, digest = (
+                keys + old[0],
+                f"{(int(old[1], 16) + int(digest, 16)) % (1 << 256):064x}",
+            )
+        self._database.execute(
+            f"INSERT OR REPLACE INTO {table} VALUES (?, ?, ?)", (name, keys, digest)
+        )
 
     def differences(self) -> Iterator[str]:
-        for one, other, word in (("before", "now", "missing or changed"), ("now", "before", "added or changed")):
-            for unit, keys, _ in self._database.execute(f"SELECT * FROM {one} EXCEPT SELECT * FROM {other}"):
+        for one, other, word in (
+            ("before", "now", "missing or changed"),
+            ("now", "before", "added or changed"),
+        ):
+            for unit, keys, _ in self._database.execute(
+                f"SELECT * FROM {one} EXCEPT SELECT * FROM {other}"
+            ):
                 yield f"{json.loads(unit)}: {word} since the record: {keys} keys"
