@@ -36,10 +36,10 @@ static int call(int side) {
     EVP_CIPHER_CTX *ctx = EVP_CIPHER_CTX_new();
     const int text_len = row->len + 8;
     int out_len = 0, more = 0;
-    int done = ctx != NULL && EVP_CipherInit_ex2(ctx, ciphers[side], kek, NULL, wraps, NULL)
-               && EVP_CipherUpdate(ctx, out, &out_len, wraps ? key : text,
-                                   wraps ? row->len : text_len)
-               && EVP_CipherFinal_ex(ctx, out + out_len, &more);
+    int done =
+        ctx != NULL && EVP_CipherInit_ex2(ctx, ciphers[side], kek, NULL, wraps, NULL)
+        && EVP_CipherUpdate(ctx, out, &out_len, wraps ? key : text, wraps ? row->len : text_len)
+        && EVP_CipherFinal_ex(ctx, out + out_len, &more);
     EVP_CIPHER_CTX_free(ctx);
     return done && out_len + more == (wraps ? text_len : row->len);
 }

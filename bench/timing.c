@@ -47,7 +47,8 @@ static void make(struct input *in, enum call call) {
     fill(in->kek, KEK);
     fill(in->key, KEY);
     fill(in->text, TEXT);
-    if (call == UNWRAP) must_be(keywrap_wrap(in->kek, KEK, in->key, KEY, in->text, TEXT), KEYWRAP_OK);
+    if (call == UNWRAP)
+        must_be(keywrap_wrap(in->kek, KEK, in->key, KEY, in->text, TEXT), KEYWRAP_OK);
 }
 
 static uint64_t measured(const struct input *in, enum call call) {
@@ -57,10 +58,8 @@ static uint64_t measured(const struct input *in, enum call call) {
     _mm_lfence();
     const uint64_t begun = __rdtsc();
     _mm_lfence();
-    if (call == WRAP)
-        status = keywrap_wrap(in->kek, KEK, in->key, KEY, out, TEXT);
-    else
-        status = keywrap_unwrap(in->kek, KEK, in->text, TEXT, out, KEY);
+    if (call == WRAP) status = keywrap_wrap(in->kek, KEK, in->key, KEY, out, TEXT);
+    else status = keywrap_unwrap(in->kek, KEK, in->text, TEXT, out, KEY);
     const uint64_t ended = __rdtscp(&processor);
     _mm_lfence();
     must_be(status, call == REFUSED ? KEYWRAP_INTEGRITY : KEYWRAP_OK);
@@ -115,7 +114,8 @@ static void run(enum call call, long calls) {
             /* The first batch only warms up, and chooses the crops: from half of the calls to almost all. */
             memcpy(sorted, times, sizeof sorted);
             qsort(sorted, BATCH, sizeof *sorted, compare);
-            for (int i = 0; i < CROPS; i++) most[i] = sorted[(int)(BATCH * (1 - pow(0.5, 1 + 0.5 * i)))];
+            for (int i = 0; i < CROPS; i++)
+                most[i] = sorted[(int)(BATCH * (1 - pow(0.5, 1 + 0.5 * i)))];
             continue;
         }
         for (int i = 0; i < BATCH; i++) {
@@ -126,8 +126,8 @@ static void run(enum call call, long calls) {
     }
     double largest = 0;
     for (int i = 0; i < CROPS; i++) largest = fmax(largest, t_of(&tests[i]));
-    printf("%-24s %12ld calls, %6ld cycles, |t| %6.2f cropped, %6.2f of all\n", NAMES[call], calls, (long)most[0],
-           largest, t_of(&tests[CROPS]));
+    printf("%-24s %12ld calls, %6ld cycles, |t| %6.2f cropped, %6.2f of all\n", NAMES[call], calls,
+           (long)most[0], largest, t_of(&tests[CROPS]));
     fflush(stdout);
 }
 

@@ -30,8 +30,8 @@ static struct aes256_ctx decrypting, encrypting;
 /*** Wraps and unwraps ***/
 
 /* A call with the arguments of keywrap_wrap or keywrap_unwrap, which returns 0 after success. */
-#define CALL(name)                                                                                 \
-    int32_t name(const uint8_t *kek, size_t kek_len, const uint8_t *in, size_t in_len,             \
+#define CALL(name)                                                                     \
+    int32_t name(const uint8_t *kek, size_t kek_len, const uint8_t *in, size_t in_len, \
                  uint8_t *out, size_t out_len)
 typedef CALL(wrap_call);
 
@@ -65,24 +65,24 @@ static CALL(nettle_unwrap) {
 }
 
 static CALL(nettle_kept_wrap) {
-    nist_keywrap16(&encrypting, (nettle_cipher_func *)aes256_encrypt, INITIAL_VALUE, out_len, out, in);
+    nist_keywrap16(&encrypting, (nettle_cipher_func *)aes256_encrypt, INITIAL_VALUE, out_len, out,
+                   in);
     return 0;
 }
 
 static CALL(nettle_kept_unwrap) {
-    return !nist_keyunwrap16(&decrypting, (nettle_cipher_func *)aes256_decrypt, INITIAL_VALUE, out_len,
-                             out, in);
+    return !nist_keyunwrap16(&decrypting, (nettle_cipher_func *)aes256_decrypt, INITIAL_VALUE,
+                             out_len, out, in);
 }
 
-#define GCRYPT(name, crypt)                                                                        \
-    static CALL(name) {                                                                            \
-        gcry_cipher_hd_t handle = NULL;                                                            \
-        int failed =                                                                               \
-            gcry_cipher_open(&handle, GCRY_CIPHER_AES256, GCRY_CIPHER_MODE_AESWRAP, 0)             \
-            || gcry_cipher_setkey(handle, kek, kek_len)                                            \
-            || crypt(handle, out, out_len, in, in_len);                                            \
-        gcry_cipher_close(handle);                                                                 \
-        return failed;                                                                             \
+#define GCRYPT(name, crypt)                                                                     \
+    static CALL(name) {                                                                         \
+        gcry_cipher_hd_t handle = NULL;                                                         \
+        int failed = gcry_cipher_open(&handle, GCRY_CIPHER_AES256, GCRY_CIPHER_MODE_AESWRAP, 0) \
+                     || gcry_cipher_setkey(handle, kek, kek_len)                                \
+                     || crypt(handle, out, out_len, in, in_len);                                \
+        gcry_cipher_close(handle);                                                              \
+        return failed;                                                                          \
     }
 GCRYPT(gcrypt_wrap, gcry_cipher_encrypt)
 GCRYPT(gcrypt_unwrap, gcry_cipher_decrypt)
@@ -109,7 +109,9 @@ static const struct peer {
     {"keywrap", "software", {keywrap_wrap, keywrap_unwrap, keywrap_wrap, keywrap_unwrap}},
     {"hardware", "AES inst.", {hw_wrap, hw_unwrap, hw_wrap, hw_unwrap}},
     {"portable", "software", {portable_wrap, portable_unwrap, portable_wrap, portable_unwrap}},
-    {"portable_hw", "AES inst.", {portable_hw_wrap, portable_hw_unwrap, portable_hw_wrap, portable_hw_unwrap}},
+    {"portable_hw",
+     "AES inst.",
+     {portable_hw_wrap, portable_hw_unwrap, portable_hw_wrap, portable_hw_unwrap}},
     /* Neither this call of OpenSSL nor a wrap by EVP uses AES instructions. */
     {"openssl", "software", {openssl_wrap, openssl_unwrap}},
     {"nettle", "AES inst.", {nettle_wrap, nettle_unwrap, nettle_kept_wrap, nettle_kept_unwrap}},
@@ -139,8 +141,9 @@ static void add_way(const struct peer *peer, int call, int at) {
     const size_t len = LENS[at], lens[] = {len, len + 8};
     const uint8_t *both[] = {key, texts[at]};
     if (peer->calls[call])
-        ways[way_count++] = (struct way){peer, peer->calls[call], call > 1, unwraps, len, lens[unwraps], lens[!unwraps],
-                                         both[unwraps], both[!unwraps]};
+        ways[way_count++] =
+            (struct way){peer,          peer->calls[call], call > 1,      unwraps,       len,
+                         lens[unwraps], lens[!unwraps],    both[unwraps], both[!unwraps]};
 }
 
 static double wrap_turn(int w, unsigned calls) {
@@ -162,7 +165,8 @@ static int time_wraps(double seconds) {
             for (int p = 0; p < PEER_COUNT; p++) add_way(PEERS + p, call, at);
     for (int w = 0; w < way_count; w++)
         if (wrap_turn(w, 1) >= 1e18 || memcmp(answer, ways[w].out, ways[w].out_len)) {
-            fprintf(stderr, "%s: other bytes, at a key of %zu bytes\n", ways[w].peer->name, ways[w].len);
+            fprintf(stderr, "%s: other bytes, at a key of %zu bytes\n", ways[w].peer->name,
+                    ways[w].len);
             return 1;
         }
     take_turns(way_count, wrap_turn, seconds * 1e9, best);

@@ -16,22 +16,22 @@ static int all, met;
 
 static void read_wish(void) {
     const char *digit = getenv("FAIL_ALLOC");
-    while (digit && *digit >= '0' && *digit <= '9')
-        first = 10 * first + (*digit++ - '0');
+    while (digit && *digit >= '0' && *digit <= '9') first = 10 * first + (*digit++ - '0');
     all = digit && *digit == '+';
-    for (digit = getenv("MET"); digit && *digit; digit++)
-        met = 10 * met + (*digit - '0');
+    for (digit = getenv("MET"); digit && *digit; digit++) met = 10 * met + (*digit - '0');
 }
 
 static int fails(void) {
-    if (calls++ == 0)
-        read_wish();
+    if (calls++ == 0) read_wish();
     int fails = calls == first || (all && calls > first);
-    if (fails)
-        (void)!write(met, ".", 1);
+    if (fails) (void)!write(met, ".", 1);
     return fails;
 }
 
-void *malloc(size_t size) { return fails() ? 0 : __libc_malloc(size); }
+void *malloc(size_t size) {
+    return fails() ? 0 : __libc_malloc(size);
+}
 
-void *realloc(void *old, size_t size) { return fails() ? 0 : __libc_realloc(old, size); }
+void *realloc(void *old, size_t size) {
+    return fails() ? 0 : __libc_realloc(old, size);
+}

@@ -12,8 +12,19 @@ extern long write(int descriptor, const void *bytes, unsigned long count);
 extern long syscall(long number, ...);
 extern int *__errno_location(void);
 
-enum { EIO = 5, SYS_FSYNC = 74, SYS_RENAME = 82, SYS_FCHMOD = 91, SYS_FCHOWN = 93, SYS_STATX = 332, MODE = 28,
-       SYS_STAT = 4, SYS_FSTAT = 5, SYS_LSTAT = 6, MODE_OF_STAT = 24 };
+enum {
+    EIO = 5,
+    SYS_FSYNC = 74,
+    SYS_RENAME = 82,
+    SYS_FCHMOD = 91,
+    SYS_FCHOWN = 93,
+    SYS_STATX = 332,
+    MODE = 28,
+    SYS_STAT = 4,
+    SYS_FSTAT = 5,
+    SYS_LSTAT = 6,
+    MODE_OF_STAT = 24
+};
 
 static long number(const char *digits) {
     long value = 0;
@@ -29,11 +40,9 @@ static int fails(const char *name, long call) {
     long wanted;
     (void)!write((int)number(getenv("MET")), name, length);
     (void)!write((int)number(getenv("MET")), "\n", 1);
-    if (!wish || strncmp(wish, name, length) != 0)
-        return 0;
+    if (!wish || strncmp(wish, name, length) != 0) return 0;
     wanted = number(wish + length);
-    if (wanted != 0 && (wish[strlen(wish) - 1] == '+' ? wanted > call : wanted != call))
-        return 0;
+    if (wanted != 0 && (wish[strlen(wish) - 1] == '+' ? wanted > call : wanted != call)) return 0;
     *__errno_location() = error ? (int)number(error) : EIO;
     return 1;
 }
@@ -77,8 +86,7 @@ int lstat64(const char *path, void *found) {
 }
 
 int fstat64(int descriptor, void *found) {
-    if (fails("statx", ++asked) || syscall(SYS_FSTAT, descriptor, found) != 0)
-        return -1;
+    if (fails("statx", ++asked) || syscall(SYS_FSTAT, descriptor, found) != 0) return -1;
     if (getenv("ONE_MODE"))
         *(unsigned *)((char *)found + MODE_OF_STAT) |= (unsigned)number(getenv("ONE_MODE"));
     return 0;

@@ -20,8 +20,7 @@ static long calls;
 static long wish(const char *name) {
     const char *digit = getenv(name);
     long number = 0;
-    while (digit && *digit >= '0' && *digit <= '9')
-        number = 10 * number + (*digit++ - '0');
+    while (digit && *digit >= '0' && *digit <= '9') number = 10 * number + (*digit++ - '0');
     return number;
 }
 
@@ -29,13 +28,12 @@ long read(int descriptor, void *bytes, unsigned long count) {
     static long all;
     static void *volatile kept;
     usleep(1000 * (unsigned)wish("SLOW_READ"));
-    while (wish("HOLD_READ") && all >= wish("HOLD_READ") && access("go", 0))
-        usleep(10000);
+    while (wish("HOLD_READ") && all >= wish("HOLD_READ") && access("go", 0)) usleep(10000);
     if (++calls != wish("FAIL_READ")) {
-        long got = syscall(SYS_READ, descriptor, bytes, count), keep = got > 0 ? got * wish("KEEP_READ") / 33 : 0;
+        long got = syscall(SYS_READ, descriptor, bytes, count),
+             keep = got > 0 ? got * wish("KEEP_READ") / 33 : 0;
         all += got > 0 ? got : 0;
-        if (!keep || (kept = malloc((unsigned long)keep)))
-            return got;
+        if (!keep || (kept = malloc((unsigned long)keep))) return got;
     }
     (void)!write((int)wish("MET"), ".", 1);
     *__errno_location() = EIO;
@@ -48,8 +46,7 @@ struct time {
 
 int clock_gettime(int clock, struct time *now) {
     long tick = wish("TICK_READ"), milliseconds = calls * tick;
-    if (!tick)
-        return (int)syscall(SYS_CLOCK_GETTIME, clock, now);
+    if (!tick) return (int)syscall(SYS_CLOCK_GETTIME, clock, now);
     now->seconds = milliseconds / 1000;
     now->nanoseconds = milliseconds % 1000 * 1000000;
     return 0;

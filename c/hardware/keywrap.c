@@ -26,7 +26,8 @@ static inline void run_steps(const uint8_t *kek, size_t kek_len, int decrypts, s
 }
 
 /* Makes all steps of a wrapping that has begun, and writes the first 8 bytes of the text. */
-static int32_t wrap(const uint8_t *kek, size_t kek_len, struct run *run, uint8_t *text, size_t text_len) {
+static int32_t wrap(const uint8_t *kek, size_t kek_len, struct run *run, uint8_t *text,
+                    size_t text_len) {
     run_steps(kek, kek_len, 0, run, text + 8, text_len - 8);
     const int32_t status = keywrap_end_wrap(text, text + 8, text_len - 8, run->steps, run->block);
     wipe(run, sizeof *run);
@@ -36,7 +37,8 @@ static int32_t wrap(const uint8_t *kek, size_t kek_len, struct run *run, uint8_t
 /* Copies the text after its first 8 bytes, and undoes all steps there. */
 static int32_t unwrap(const uint8_t *kek, size_t kek_len, struct run *run, const uint8_t *text,
                       uint8_t *registers, size_t len) {
-    const int32_t status = keywrap_begin_unwrap_padded(text, text + 8, len, &run->steps, run->block);
+    const int32_t status =
+        keywrap_begin_unwrap_padded(text, text + 8, len, &run->steps, run->block);
     if (status != KEYWRAP_OK) return status;
     memmove(registers, text + 8, len);
     run_steps(kek, kek_len, 1, run, registers, len);
@@ -46,7 +48,8 @@ static int32_t unwrap(const uint8_t *kek, size_t kek_len, struct run *run, const
 int32_t wrap_slot(const uint8_t *kek, size_t kek_len, uint32_t flags, uint8_t *text,
                   size_t text_len, size_t key_len) {
     struct run run;
-    const int32_t status = keywrap_begin_wrap_slot(flags, key_len, text + 8, text_len - 8, &run.steps, run.block);
+    const int32_t status =
+        keywrap_begin_wrap_slot(flags, key_len, text + 8, text_len - 8, &run.steps, run.block);
     return status == KEYWRAP_OK ? wrap(kek, kek_len, &run, text, text_len) : status;
 }
 
@@ -66,8 +69,9 @@ int32_t rewrap_slot(const uint8_t *old_kek, size_t old_kek_len, const uint8_t *n
     uint32_t phase;
     int32_t status = keywrap_begin_rewrap(flags, text, text_len, &phase, &run.steps, run.block);
     while (phase != 0) {
-        run_steps(phase & KEYWRAP_NEW ? new_kek : old_kek, phase & KEYWRAP_NEW ? new_kek_len : old_kek_len,
-                  phase & KEYWRAP_DECRYPT, &run, text + 8, text_len - 8);
+        run_steps(phase & KEYWRAP_NEW ? new_kek : old_kek,
+                  phase & KEYWRAP_NEW ? new_kek_len : old_kek_len, phase & KEYWRAP_DECRYPT, &run,
+                  text + 8, text_len - 8);
         status = keywrap_next_rewrap(flags, text, text_len, &phase, &run.steps, run.block);
     }
     wipe(&run, sizeof run);
@@ -94,7 +98,8 @@ int32_t keywrap_unwrap_with(const uint8_t *kek, size_t kek_len, const uint8_t *i
     struct run run;
     int32_t status = keywrap_check_plain(kek, kek_len, iv, iv_len, key_len, wrapped_len);
     if (status == KEYWRAP_OK) status = unwrap(kek, kek_len, &run, wrapped, key, key_len);
-    return status == KEYWRAP_OK ? keywrap_end_unwrap(iv, iv_len, key, key_len, run.steps, run.block) : status;
+    return status == KEYWRAP_OK ? keywrap_end_unwrap(iv, iv_len, key, key_len, run.steps, run.block)
+                                : status;
 }
 
 int32_t keywrap_wrap(const uint8_t *kek, size_t kek_len, const uint8_t *key, size_t key_len,
@@ -112,17 +117,21 @@ int32_t keywrap_unwrap(const uint8_t *kek, size_t kek_len, const uint8_t *wrappe
     struct run run;
     int32_t status = keywrap_check_plain(kek, kek_len, DEFAULT_IV, 8, key_len, wrapped_len);
     if (status == KEYWRAP_OK) status = unwrap(kek, kek_len, &run, wrapped, key, key_len);
-    return status == KEYWRAP_OK ? keywrap_end_unwrap(DEFAULT_IV, 8, key, key_len, run.steps, run.block) : status;
+    return status == KEYWRAP_OK
+               ? keywrap_end_unwrap(DEFAULT_IV, 8, key, key_len, run.steps, run.block)
+               : status;
 }
 
-int32_t keywrap_wrap_in_place(const uint8_t *kek, size_t kek_len, uint8_t *buffer, size_t wrapped_len) {
+int32_t keywrap_wrap_in_place(const uint8_t *kek, size_t kek_len, uint8_t *buffer,
+                              size_t wrapped_len) {
     OR_PROVED(wrap_in_place, kek, kek_len, buffer, wrapped_len);
     const size_t len = wrapped_len - 8;
     const int32_t status = keywrap_check_plain(kek, kek_len, DEFAULT_IV, 8, len, wrapped_len);
     return status == KEYWRAP_OK ? wrap_slot(kek, kek_len, 0, buffer, wrapped_len, len) : status;
 }
 
-int32_t keywrap_unwrap_in_place(const uint8_t *kek, size_t kek_len, uint8_t *buffer, size_t wrapped_len) {
+int32_t keywrap_unwrap_in_place(const uint8_t *kek, size_t kek_len, uint8_t *buffer,
+                                size_t wrapped_len) {
     OR_PROVED(unwrap_in_place, kek, kek_len, buffer, wrapped_len);
     size_t len = wrapped_len - 8;
     const int32_t status = keywrap_check_plain(kek, kek_len, DEFAULT_IV, 8, len, wrapped_len);
@@ -133,7 +142,9 @@ int32_t keywrap_wrap_padded_in_place(const uint8_t *kek, size_t kek_len, uint8_t
                                      size_t wrapped_len, size_t key_len) {
     OR_PROVED(wrap_padded_in_place, kek, kek_len, buffer, wrapped_len, key_len);
     const int32_t status = keywrap_check_padded(kek, kek_len, key_len, wrapped_len);
-    return status == KEYWRAP_OK ? wrap_slot(kek, kek_len, KEYWRAP_NEW_PADDED, buffer, wrapped_len, key_len) : status;
+    return status == KEYWRAP_OK
+               ? wrap_slot(kek, kek_len, KEYWRAP_NEW_PADDED, buffer, wrapped_len, key_len)
+               : status;
 }
 
 int32_t keywrap_unwrap_padded_in_place(const uint8_t *kek, size_t kek_len, uint8_t *buffer,
@@ -141,7 +152,9 @@ int32_t keywrap_unwrap_padded_in_place(const uint8_t *kek, size_t kek_len, uint8
     OR_PROVED(unwrap_padded_in_place, kek, kek_len, buffer, wrapped_len, key_len);
     *key_len = 0;
     const int32_t status = keywrap_check_room(kek, kek_len, wrapped_len - 8, wrapped_len);
-    return status == KEYWRAP_OK ? unwrap_slot(kek, kek_len, KEYWRAP_OLD_PADDED, buffer, wrapped_len, key_len) : status;
+    return status == KEYWRAP_OK
+               ? unwrap_slot(kek, kek_len, KEYWRAP_OLD_PADDED, buffer, wrapped_len, key_len)
+               : status;
 }
 
 int32_t keywrap_wrap_padded(const uint8_t *kek, size_t kek_len, const uint8_t *key, size_t key_len,
@@ -160,7 +173,9 @@ int32_t keywrap_unwrap_padded(const uint8_t *kek, size_t kek_len, const uint8_t 
     *key_len = 0;
     int32_t status = keywrap_check_room(kek, kek_len, room, wrapped_len);
     if (status == KEYWRAP_OK) status = unwrap(kek, kek_len, &run, wrapped, key, room);
-    return status == KEYWRAP_OK ? keywrap_end_unwrap_padded(key, room, run.steps, run.block, key_len) : status;
+    return status == KEYWRAP_OK
+               ? keywrap_end_unwrap_padded(key, room, run.steps, run.block, key_len)
+               : status;
 }
 
 int32_t keywrap_unwrap_any(const uint8_t *kek, size_t kek_len, const uint8_t *wrapped,
@@ -190,20 +205,25 @@ int32_t keywrap_kind(const uint8_t *kek, size_t kek_len, const uint8_t *wrapped,
 int32_t keywrap_rewrap(const uint8_t *old_kek, size_t old_kek_len, const uint8_t *new_kek,
                        size_t new_kek_len, uint8_t *buffer, size_t wrapped_len, uint32_t flags,
                        uint32_t *already) {
-    OR_PROVED(rewrap, old_kek, old_kek_len, new_kek, new_kek_len, buffer, wrapped_len, flags, already);
+    OR_PROVED(rewrap, old_kek, old_kek_len, new_kek, new_kek_len, buffer, wrapped_len, flags,
+              already);
     int32_t status = keywrap_check_keks(old_kek, old_kek_len, new_kek, new_kek_len);
     if (status == KEYWRAP_OK)
-        status = rewrap_slot(old_kek, old_kek_len, new_kek, new_kek_len, buffer, wrapped_len, flags);
+        status =
+            rewrap_slot(old_kek, old_kek_len, new_kek, new_kek_len, buffer, wrapped_len, flags);
     return keywrap_end_rewrap((uint32_t)status, already);
 }
 
 int32_t keywrap_rewrap_in_place(const uint8_t *old_kek, size_t old_kek_len, const uint8_t *new_kek,
                                 size_t new_kek_len, uint8_t *buffer, size_t wrapped_len,
                                 uint32_t forms) {
-    OR_PROVED(rewrap_in_place, old_kek, old_kek_len, new_kek, new_kek_len, buffer, wrapped_len, forms);
-    int32_t status = keywrap_check_rewrap_in_place(old_kek, old_kek_len, new_kek, new_kek_len, forms);
+    OR_PROVED(rewrap_in_place, old_kek, old_kek_len, new_kek, new_kek_len, buffer, wrapped_len,
+              forms);
+    int32_t status =
+        keywrap_check_rewrap_in_place(old_kek, old_kek_len, new_kek, new_kek_len, forms);
     if (status == KEYWRAP_OK)
-        status = rewrap_slot(old_kek, old_kek_len, new_kek, new_kek_len, buffer, wrapped_len, forms);
+        status =
+            rewrap_slot(old_kek, old_kek_len, new_kek, new_kek_len, buffer, wrapped_len, forms);
     return keywrap_end_rewrap_in_place((uint32_t)status, buffer, wrapped_len);
 }
 

@@ -34,21 +34,26 @@ static void next_turn(struct turn *turn, uint8_t *texts, size_t count) {
 /* Makes all steps of wrappings that have begun, or undoes those of unwrappings, over whole groups of
  * 8 blocks. */
 static void run_turn(const struct aes *aes, int decrypts, struct turn *turn) {
-    const size_t len = turn->text_len, texts_len = len * turn->count, of_blocks = BLOCK * turn->count;
+    const size_t len = turn->text_len, texts_len = len * turn->count,
+                 of_blocks = BLOCK * turn->count;
     const size_t grouped = (turn->count + 7) / 8 * 8;
     const uint64_t end = decrypts ? 0 : keywrap_step_count(turn->text_len - 8);
     int32_t status = KEYWRAP_OK;
     while (status == KEYWRAP_OK && turn->steps != end) {
-        decrypts ? aes_decrypt_many(aes, turn->blocks, grouped) : aes_encrypt_many(aes, turn->blocks, grouped);
-        status = decrypts ? keywrap_step_unwrap_many(turn->texts, texts_len, len, &turn->steps, turn->blocks, of_blocks)
-                          : keywrap_step_wrap_many(turn->texts, texts_len, len, &turn->steps, turn->blocks, of_blocks);
+        decrypts ? aes_decrypt_many(aes, turn->blocks, grouped)
+                 : aes_encrypt_many(aes, turn->blocks, grouped);
+        status = decrypts ? keywrap_step_unwrap_many(turn->texts, texts_len, len, &turn->steps,
+                                                     turn->blocks, of_blocks)
+                          : keywrap_step_wrap_many(turn->texts, texts_len, len, &turn->steps,
+                                                   turn->blocks, of_blocks);
     }
 }
 
 /* Begins to unwrap, and undoes all steps. The ends refuse what has not had all steps. */
 static void unwrap_turn(const struct aes *aes, struct turn *turn) {
-    const int32_t status = keywrap_begin_unwrap_many(turn->texts, turn->text_len * turn->count, turn->text_len,
-                                                     &turn->steps, turn->blocks, BLOCK * turn->count);
+    const int32_t status =
+        keywrap_begin_unwrap_many(turn->texts, turn->text_len * turn->count, turn->text_len,
+                                  &turn->steps, turn->blocks, BLOCK * turn->count);
     if (status == KEYWRAP_OK) run_turn(aes, 1, turn);
 }
 
@@ -74,7 +79,8 @@ static void copy_lanes(struct turn *turn, struct turn *part, const size_t *lanes
 
 /* Makes or undoes all steps of the lanes from the first one on that have its operation next, and turns
  * them to what comes next. If there are others, the steps are over copies behind each other. */
-static void run_lanes(struct rewraps *rewraps, struct turn *turn, size_t first, uint32_t flags, uint8_t *statuses) {
+static void run_lanes(struct rewraps *rewraps, struct turn *turn, size_t first, uint32_t flags,
+                      uint8_t *statuses) {
     const uint32_t operation = rewraps->phases[first] & OPERATION;
     uint8_t copies[COPIED * LANES];
     size_t lanes[LANES], count = 0;
@@ -103,25 +109,26 @@ static void run_lanes(struct rewraps *rewraps, struct turn *turn, size_t first, 
 }
 
 /* Rewraps the slots of a turn, until no lane has a phase. */
-static void rewrap_turn(struct rewraps *rewraps, struct turn *turn, uint32_t flags, uint8_t *statuses) {
+static void rewrap_turn(struct rewraps *rewraps, struct turn *turn, uint32_t flags,
+                        uint8_t *statuses) {
     memcpy(rewraps->before, turn->texts, turn->text_len * turn->count);
     for (size_t i = 0; i < turn->count; i++)
         statuses[i] = (uint8_t)keywrap_begin_rewrap(flags, text_of(turn, i), turn->text_len,
                                                     rewraps->phases + i, rewraps->steps + i,
                                                     turn->blocks + BLOCK * i);
     for (size_t first = 0; first < turn->count;)
-        if (rewraps->phases[first] == 0)
-            first++;
-        else
-            run_lanes(rewraps, turn, first, flags, statuses);
+        if (rewraps->phases[first] == 0) first++;
+        else run_lanes(rewraps, turn, first, flags, statuses);
     wipe(turn->blocks, sizeof turn->blocks);
 }
 
 int32_t keywrap_rewrap_many(const uint8_t *old_kek, size_t old_kek_len, const uint8_t *new_kek,
                             size_t new_kek_len, uint8_t *texts, size_t texts_len, uint32_t flags,
                             uint8_t *statuses, size_t count) {
-    OR_PROVED(rewrap_many, old_kek, old_kek_len, new_kek, new_kek_len, texts, texts_len, flags, statuses, count);
-    int32_t status = keywrap_check_rewrap_many(old_kek, old_kek_len, new_kek, new_kek_len, texts_len, flags, count);
+    OR_PROVED(rewrap_many, old_kek, old_kek_len, new_kek, new_kek_len, texts, texts_len, flags,
+              statuses, count);
+    int32_t status = keywrap_check_rewrap_many(old_kek, old_kek_len, new_kek, new_kek_len,
+                                               texts_len, flags, count);
     if (status != KEYWRAP_OK) return status;
     const size_t text_len = texts_len / count;
     if (text_len == 16 || text_len > COPIED) {
@@ -152,7 +159,8 @@ int32_t keywrap_wrap_many(const uint8_t *kek, size_t kek_len, uint8_t *texts, si
     const size_t text_len = texts_len / count;
     if (text_len == 16) {
         for (size_t i = 0; i < count; i++)
-            statuses[i] = (uint8_t)wrap_slot(kek, kek_len, flags, texts + text_len * i, text_len, key_len);
+            statuses[i] =
+                (uint8_t)wrap_slot(kek, kek_len, flags, texts + text_len * i, text_len, key_len);
         return KEYWRAP_OK;
     }
     struct aes aes;
@@ -177,13 +185,16 @@ int32_t keywrap_wrap_many(const uint8_t *kek, size_t kek_len, uint8_t *texts, si
 int32_t keywrap_unwrap_many(const uint8_t *kek, size_t kek_len, uint8_t *texts, size_t texts_len,
                             uint32_t flags, size_t *key_lens, size_t key_lens_count,
                             uint8_t *statuses, size_t count) {
-    OR_PROVED(unwrap_many, kek, kek_len, texts, texts_len, flags, key_lens, key_lens_count, statuses, count);
-    int32_t status = keywrap_check_unwrap_many(kek, kek_len, texts_len, flags, key_lens_count, count);
+    OR_PROVED(unwrap_many, kek, kek_len, texts, texts_len, flags, key_lens, key_lens_count,
+              statuses, count);
+    int32_t status =
+        keywrap_check_unwrap_many(kek, kek_len, texts_len, flags, key_lens_count, count);
     if (status != KEYWRAP_OK) return status;
     const size_t text_len = texts_len / count;
     if (text_len == 16) {
         for (size_t i = 0; i < count; i++)
-            statuses[i] = (uint8_t)unwrap_slot(kek, kek_len, flags, texts + text_len * i, text_len, key_lens + i);
+            statuses[i] = (uint8_t)unwrap_slot(kek, kek_len, flags, texts + text_len * i, text_len,
+                                               key_lens + i);
         return KEYWRAP_OK;
     }
     struct aes aes;
@@ -195,9 +206,9 @@ int32_t keywrap_unwrap_many(const uint8_t *kek, size_t kek_len, uint8_t *texts, 
         for (size_t lane = 0; lane < turn.count; lane++) {
             uint8_t *text = text_of(&turn, lane);
             memset(text, 0, 8);
-            statuses[i + lane] = (uint8_t)keywrap_end_unwrap_slot(
-                flags, text + 8, text_len - 8, turn.steps, turn.blocks + BLOCK * lane,
-                key_lens + i + lane);
+            statuses[i + lane] =
+                (uint8_t)keywrap_end_unwrap_slot(flags, text + 8, text_len - 8, turn.steps,
+                                                 turn.blocks + BLOCK * lane, key_lens + i + lane);
         }
         wipe(turn.blocks, sizeof turn.blocks);
     }
@@ -209,9 +220,10 @@ int32_t keywrap_kind_many(const uint8_t *kek, size_t kek_len, const uint8_t *tex
                           size_t texts_len, uint8_t *scratch, size_t room, uint8_t *forms,
                           size_t forms_count, size_t *key_lens, size_t key_lens_count,
                           uint8_t *statuses, size_t count) {
-    OR_PROVED(kind_many, kek, kek_len, texts, texts_len, scratch, room, forms, forms_count, key_lens, key_lens_count,
-              statuses, count);
-    const int32_t status = keywrap_check_kind_many(kek, kek_len, texts_len, room, forms_count, key_lens_count, count);
+    OR_PROVED(kind_many, kek, kek_len, texts, texts_len, scratch, room, forms, forms_count,
+              key_lens, key_lens_count, statuses, count);
+    const int32_t status =
+        keywrap_check_kind_many(kek, kek_len, texts_len, room, forms_count, key_lens_count, count);
     if (status != KEYWRAP_OK) return status;
     const size_t text_len = texts_len / count;
     uint32_t padded;

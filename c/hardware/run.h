@@ -9,8 +9,8 @@ static const uint8_t DEFAULT_IV[8] = {0xa6, 0xa6, 0xa6, 0xa6, 0xa6, 0xa6, 0xa6, 
 
 /* On a processor without the instructions a call is the proved one of the whole library, by its name in
  * c/hardware/names. */
-#define OR_PROVED(call, ...)                                                                       \
-    extern __typeof__(keywrap_##call) proved_keywrap_##call;                                       \
+#define OR_PROVED(call, ...)                                 \
+    extern __typeof__(keywrap_##call) proved_keywrap_##call; \
     if (!aes_works()) return proved_keywrap_##call(__VA_ARGS__)
 
 /* A wrapping or an unwrapping that has begun. */

@@ -83,12 +83,9 @@ BY_AES static void expand_32(struct aes *aes, __m128i a, __m128i b) {
 
 BY_AES void expand(struct aes *aes, const uint8_t *kek) {
     __m128i a = _mm_loadu_si128((const __m128i *)kek);
-    if (aes->rounds == 10)
-        expand_16(aes, a);
-    else if (aes->rounds == 12)
-        expand_24(aes, a, _mm_loadl_epi64((const __m128i *)(kek + 16)));
-    else
-        expand_32(aes, a, _mm_loadu_si128((const __m128i *)(kek + 16)));
+    if (aes->rounds == 10) expand_16(aes, a);
+    else if (aes->rounds == 12) expand_24(aes, a, _mm_loadl_epi64((const __m128i *)(kek + 16)));
+    else expand_32(aes, a, _mm_loadu_si128((const __m128i *)(kek + 16)));
 }
 
 /* In the other order, with all but the outer two mixed. */

@@ -11,7 +11,7 @@
 static const char VERSION[] =
     DOTTED(KEYWRAP_VERSION_MAJOR, KEYWRAP_VERSION_MINOR, KEYWRAP_VERSION_PATCH)
 #ifdef KEYWRAP_PRERELEASE
-    "-" KEYWRAP_PRERELEASE
+        "-" KEYWRAP_PRERELEASE
 #endif
     ;
 static const char NAME[] = "keywrap: AES Key Wrap, proved";

@@ -50,18 +50,17 @@ static int32_t unwrap(int padded, const uint8_t *kek, size_t kek_len, const uint
                       size_t wrapped_len, uint8_t *key, size_t *key_len) {
     size_t room = KEYWRAP_ROOM(wrapped_len);
     *key_len = room;
-    return padded
-               ? keywrap_unwrap_padded(kek, kek_len, wrapped, wrapped_len, key, room, key_len)
-               : keywrap_unwrap(kek, kek_len, wrapped, wrapped_len, key, room);
+    return padded ? keywrap_unwrap_padded(kek, kek_len, wrapped, wrapped_len, key, room, key_len)
+                  : keywrap_unwrap(kek, kek_len, wrapped, wrapped_len, key, room);
 }
 
 static int is_right(const struct vector *vector) {
     uint8_t kek[32], key[LONGEST], wrapped[LONGEST], found[LONGEST];
     size_t kek_len = from_hex(vector->kek, kek), key_len = from_hex(vector->key, key);
     size_t wrapped_len = from_hex(vector->wrapped, wrapped), found_len;
-    int32_t status =
-        vector->padded ? keywrap_wrap_padded(kek, kek_len, key, key_len, found, wrapped_len)
-                       : keywrap_wrap(kek, kek_len, key, key_len, found, wrapped_len);
+    int32_t status = vector->padded
+                         ? keywrap_wrap_padded(kek, kek_len, key, key_len, found, wrapped_len)
+                         : keywrap_wrap(kek, kek_len, key, key_len, found, wrapped_len);
     if (status != KEYWRAP_OK || memcmp(found, wrapped, wrapped_len)) return 0;
     status = unwrap(vector->padded, kek, kek_len, wrapped, wrapped_len, found, &found_len);
     if (status != KEYWRAP_OK || found_len != key_len || memcmp(found, key, key_len)) return 0;

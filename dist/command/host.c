@@ -46,15 +46,16 @@ static void put(u64 address, unsigned len, u64 value) {
 static const struct {
     int linux_number, number;
 } errors[] = {
-    {1, EPERM},      {2, ENOENT},     {3, ESRCH},   {4, EINTR},      {5, EIO},         {6, ENXIO},
-    {7, E2BIG},      {8, ENOEXEC},    {9, EBADF},   {10, ECHILD},    {11, EAGAIN},     {12, ENOMEM},
-    {13, EACCES},    {14, EFAULT},    {16, EBUSY},  {17, EEXIST},    {18, EXDEV},      {19, ENODEV},
-    {20, ENOTDIR},   {21, EISDIR},    {22, EINVAL}, {23, ENFILE},    {24, EMFILE},     {25, ENOTTY},
-    {26, ETXTBSY},   {27, EFBIG},     {28, ENOSPC}, {29, ESPIPE},    {30, EROFS},      {31, EMLINK},
-    {32, EPIPE},     {33, EDOM},      {34, ERANGE}, {35, EDEADLK},   {36, ENAMETOOLONG}, {37, ENOLCK},
-    {38, ENOSYS},    {39, ENOTEMPTY}, {40, ELOOP},  {75, EOVERFLOW}, {84, EILSEQ},     {88, ENOTSOCK},
-    {95, EOPNOTSUPP}, {104, ECONNRESET}, {107, ENOTCONN}, {110, ETIMEDOUT}, {116, ESTALE}, {122, EDQUOT},
-    {125, ECANCELED},
+    {1, EPERM},       {2, ENOENT},    {3, ESRCH},       {4, EINTR},        {5, EIO},
+    {6, ENXIO},       {7, E2BIG},     {8, ENOEXEC},     {9, EBADF},        {10, ECHILD},
+    {11, EAGAIN},     {12, ENOMEM},   {13, EACCES},     {14, EFAULT},      {16, EBUSY},
+    {17, EEXIST},     {18, EXDEV},    {19, ENODEV},     {20, ENOTDIR},     {21, EISDIR},
+    {22, EINVAL},     {23, ENFILE},   {24, EMFILE},     {25, ENOTTY},      {26, ETXTBSY},
+    {27, EFBIG},      {28, ENOSPC},   {29, ESPIPE},     {30, EROFS},       {31, EMLINK},
+    {32, EPIPE},      {33, EDOM},     {34, ERANGE},     {35, EDEADLK},     {36, ENAMETOOLONG},
+    {37, ENOLCK},     {38, ENOSYS},   {39, ENOTEMPTY},  {40, ELOOP},       {75, EOVERFLOW},
+    {84, EILSEQ},     {88, ENOTSOCK}, {95, EOPNOTSUPP}, {104, ECONNRESET}, {107, ENOTCONN},
+    {110, ETIMEDOUT}, {116, ESTALE},  {122, EDQUOT},    {125, ECANCELED},
 };
 enum { ERRORS = sizeof errors / sizeof *errors, OTHERS = 4096 };
 
@@ -147,12 +148,11 @@ u64 host_rattle_env(u64 name, u64 to, u64 len) {
 u32 host_open(u64 path, u32 flags, u64 rest) {
     enum { CREATE = 0100, NEW = 0200, NO_TERMINAL = 0400, CLOSE_ON_EXEC = 02000000, WRITE = 1 };
     switch (flags) {
-    case NO_TERMINAL | CLOSE_ON_EXEC:
-        return (u32)open(AT(path), O_RDONLY | O_NOCTTY | O_CLOEXEC);
+    case NO_TERMINAL | CLOSE_ON_EXEC: return (u32)open(AT(path), O_RDONLY | O_NOCTTY | O_CLOEXEC);
     case WRITE | CREATE | NEW | NO_TERMINAL | CLOSE_ON_EXEC:
-        return (u32)open(AT(path), O_WRONLY | O_CREAT | O_EXCL | O_NOCTTY | O_CLOEXEC, (mode_t)get(rest, 4));
-    default:
-        abort();
+        return (u32)open(AT(path), O_WRONLY | O_CREAT | O_EXCL | O_NOCTTY | O_CLOEXEC,
+                         (mode_t)get(rest, 4));
+    default: abort();
     }
 }
 
@@ -290,7 +290,8 @@ static void put_pair(u64 to, u64 low, u64 high) {
 }
 
 void host___multi3(u64 result, u64 a, u64 a_high, u64 b, u64 b_high) {
-    u64 low = (a & 0xffffffff) * (b & 0xffffffff), middle = (a >> 32) * (b & 0xffffffff) + (low >> 32);
+    u64 low = (a & 0xffffffff) * (b & 0xffffffff),
+        middle = (a >> 32) * (b & 0xffffffff) + (low >> 32);
     u64 other = (a & 0xffffffff) * (b >> 32) + (middle & 0xffffffff);
     u64 high = (a >> 32) * (b >> 32) + (middle >> 32) + (other >> 32);
     put_pair(result, a * b, high + a * b_high + a_high * b);

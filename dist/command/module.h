@@ -66,19 +66,21 @@ INLINE u64 reversed(u64 value, unsigned len) {
 #define MULTIPLE(pointer, size) (pointer)
 #endif
 #define ANY(pointer, size) (pointer)
-#define LOAD_BY(name, type, result, how)                                                            \
-    INLINE result name(u32 offset, u64 address) {                                                   \
-        type value;                                                                                 \
-        memcpy(&value, how(POINTER(address + offset), sizeof value), sizeof value);                 \
-        return (result)(type)MODULE_ORDER(value, sizeof value);                                     \
+#define LOAD_BY(name, type, result, how)                                            \
+    INLINE result name(u32 offset, u64 address) {                                   \
+        type value;                                                                 \
+        memcpy(&value, how(POINTER(address + offset), sizeof value), sizeof value); \
+        return (result)(type)MODULE_ORDER(value, sizeof value);                     \
     }
-#define STORE_BY(name, type, given, how)                                                            \
-    INLINE void name(u32 offset, u64 address, given wide) {                                         \
-        type value = (type)MODULE_ORDER((type)wide, sizeof value);                                  \
-        memcpy(how(POINTER(address + offset), sizeof value), &value, sizeof value);                 \
+#define STORE_BY(name, type, given, how)                                            \
+    INLINE void name(u32 offset, u64 address, given wide) {                         \
+        type value = (type)MODULE_ORDER((type)wide, sizeof value);                  \
+        memcpy(how(POINTER(address + offset), sizeof value), &value, sizeof value); \
     }
-#define LOAD(name, type, result) LOAD_BY(name, type, result, MULTIPLE) LOAD_BY(name##_any, type, result, ANY)
-#define STORE(name, type, given) STORE_BY(name, type, given, MULTIPLE) STORE_BY(name##_any, type, given, ANY)
+#define LOAD(name, type, result) \
+    LOAD_BY(name, type, result, MULTIPLE) LOAD_BY(name##_any, type, result, ANY)
+#define STORE(name, type, given) \
+    STORE_BY(name, type, given, MULTIPLE) STORE_BY(name##_any, type, given, ANY)
 LOAD(i32_load, u32, u32)
 LOAD(i64_load, u64, u64)
 LOAD_BY(i32_load8_u, u8, u32, ANY)
@@ -114,7 +116,8 @@ INLINE u64 i64_reinterpret_f64(f64 value) {
 #define f64_load(offset, address) f64_reinterpret_i64(i64_load(offset, address))
 #define f64_load_any(offset, address) f64_reinterpret_i64(i64_load_any(offset, address))
 #define f64_store(offset, address, value) i64_store(offset, address, i64_reinterpret_f64(value))
-#define f64_store_any(offset, address, value) i64_store_any(offset, address, i64_reinterpret_f64(value))
+#define f64_store_any(offset, address, value) \
+    i64_store_any(offset, address, i64_reinterpret_f64(value))
 
 INLINE void memory_fill(u64 to, u32 byte, u64 len) {
     if (len > 0) memset(POINTER(to), (int)(byte & 255), (size_t)len);
@@ -151,10 +154,10 @@ INLINE u64 i64_ctz(u64 word) {
 #define i32_ctz(word) ((u32)i64_ctz((u64)(word) | (u64)1 << 32))
 
 /* The program divides by no zero. */
-#define DIVIDE(name, type, operator)                                                                \
-    INLINE type name(type number, type by) {                                                        \
-        if (by == 0) abort();                                                                       \
-        return number operator by;                                                                  \
+#define DIVIDE(name, type, operator)         \
+    INLINE type name(type number, type by) { \
+        if (by == 0) abort();                \
+        return number operator by;           \
     }
 DIVIDE(i32_div_u, u32, /)
 DIVIDE(i32_rem_u, u32, %)

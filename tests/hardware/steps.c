@@ -79,7 +79,8 @@ static void plain(size_t kek_len, size_t len) {
         return;
     }
     check(begun == KEYWRAP_OK && done == 0, "plain, begun", len);
-    check(wrapped_by(text, len, block) == STEPS_OF_WORD * (len / 8), "plain, the number of steps", len);
+    check(wrapped_by(text, len, block) == STEPS_OF_WORD * (len / 8), "plain, the number of steps",
+          len);
     check(!memcmp(text, expected, len + 8), "plain, wrapped", len);
 
     int opened = keywrap_begin_unwrap(text, text + 8, len, &left, block);
@@ -140,7 +141,9 @@ static void all_blocks(EVP_CIPHER_CTX *context, size_t count) {
 }
 
 /* The text that is damaged, and at which byte: the last, the first, or one between. */
-static int is_damaged(size_t lane) { return lane % 3 == 1; }
+static int is_damaged(size_t lane) {
+    return lane % 3 == 1;
+}
 
 static void damage(uint8_t *text, size_t lane, size_t text_len) {
     if (is_damaged(lane)) text[lane % 2 ? text_len - 1 : lane % text_len] ^= 0x10;
@@ -190,10 +193,10 @@ static void many(size_t kek_len, size_t len, size_t count) {
         check(keywrap_wrap(kek, kek_len, key, len, expected + i * text_len, text_len) == KEYWRAP_OK,
               "the call for one", len);
     }
-    int is = keywrap_begin_wrap_many(IV, 8, texts, count * text_len, text_len, &done, blocks,
-                                     16 * count)
-                 == KEYWRAP_OK
-             && done == 0;
+    int is =
+        keywrap_begin_wrap_many(IV, 8, texts, count * text_len, text_len, &done, blocks, 16 * count)
+            == KEYWRAP_OK
+        && done == 0;
     while (is && done < 6 * (len / 8)) {
         all_blocks(encrypting, count);
         is = keywrap_step_wrap_many(texts, count * text_len, text_len, &done, blocks, 16 * count)

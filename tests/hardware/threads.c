@@ -41,9 +41,8 @@ static void wraps(struct work *work) {
                                  work->wanted[i], TEXT_LEN)
                         == KEYWRAP_OK);
     }
-    const int32_t status =
-        keywrap_wrap_many(work->old_kek, sizeof work->old_kek, *work->texts, sizeof work->texts,
-                          KEY_LEN, 0, work->statuses, SLOTS);
+    const int32_t status = keywrap_wrap_many(work->old_kek, sizeof work->old_kek, *work->texts,
+                                             sizeof work->texts, KEY_LEN, 0, work->statuses, SLOTS);
     check(work, are_statuses(work, status, SLOTS));
     check(work, memcmp(work->texts, work->wanted, sizeof work->texts) == 0);
 }
@@ -55,9 +54,9 @@ static void rewraps(struct work *work, size_t damaged) {
                                          sizeof work->new_kek, *work->texts, sizeof work->texts,
                                          KEYWRAP_KEEP_FORM, work->statuses, SLOTS);
     check(work, are_statuses(work, status, damaged));
-    status = keywrap_unwrap_many(work->new_kek, sizeof work->new_kek, *work->texts,
-                                 sizeof work->texts, 0, work->key_lens, SLOTS, work->statuses,
-                                 SLOTS);
+    status =
+        keywrap_unwrap_many(work->new_kek, sizeof work->new_kek, *work->texts, sizeof work->texts,
+                            0, work->key_lens, SLOTS, work->statuses, SLOTS);
     check(work, are_statuses(work, status, damaged));
     memset(work->keys[damaged], 0, KEY_LEN);
     for (size_t i = 0; i < SLOTS; i++)

@@ -7,25 +7,21 @@
 void *memcpy(void *to, const void *from, size_t n) {
     char *t = to;
     const char *f = from;
-    while (n--)
-        *t++ = *f++;
+    while (n--) *t++ = *f++;
     return to;
 }
 
 void *memset(void *to, int c, size_t n) {
     char *t = to;
-    while (n--)
-        *t++ = (char)c;
+    while (n--) *t++ = (char)c;
     return to;
 }
 
 void *memmove(void *to, const void *from, size_t n) {
     char *t = to;
     const char *f = from;
-    if (t <= f)
-        return memcpy(to, from, n);
-    while (n--)
-        t[n] = f[n];
+    if (t <= f) return memcpy(to, from, n);
+    while (n--) t[n] = f[n];
     return to;
 }
 
@@ -33,6 +29,5 @@ static uint8_t kek[32], key[16], wrapped[24];
 
 void _start(void) {
     for (;;)
-        if (keywrap_wrap(kek, 32, key, 16, wrapped, 24))
-            return;
+        if (keywrap_wrap(kek, 32, key, 16, wrapped, 24)) return;
 }

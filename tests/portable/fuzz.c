@@ -20,8 +20,8 @@ static uint32_t any(uint32_t below) {
 }
 
 static size_t any_kek_len(void) {
-    static const size_t LENS[] = {16, 24, 32, 184, 216, 248, 16, 24, 32, 184, 216, 248,
-                                  0, 8, 17, 33, 40, 176, 185, 264};
+    static const size_t LENS[] = {16,  24,  32, 184, 216, 248, 16, 24,  32,  184,
+                                  216, 248, 0,  8,   17,  33,  40, 176, 185, 264};
     return LENS[any(20)];
 }
 
@@ -60,12 +60,13 @@ static void fill(struct world *w, const struct choice *c, uint8_t *text) {
     const size_t kek_len = is_new ? c->new_kek_len : c->kek_len;
     int32_t status;
     if (c->call == UNWRAP_WITH)
-        status = keywrap_wrap_with(kek, kek_len, w->iv, c->iv_len, w->key, c->key_len, text, c->text_len);
+        status = keywrap_wrap_with(kek, kek_len, w->iv, c->iv_len, w->key, c->key_len, text,
+                                   c->text_len);
     else if (padded)
         status = keywrap_wrap_padded(kek, kek_len, w->key, c->key_len, text, c->text_len);
-    else
-        status = keywrap_wrap(kek, kek_len, w->key, c->key_len, text, c->text_len);
-    if (status == KEYWRAP_OK && any(6) == 0) text[any((uint32_t)c->text_len)] ^= (uint8_t)(1 << any(8));
+    else status = keywrap_wrap(kek, kek_len, w->key, c->key_len, text, c->text_len);
+    if (status == KEYWRAP_OK && any(6) == 0)
+        text[any((uint32_t)c->text_len)] ^= (uint8_t)(1 << any(8));
 }
 
 static void fill_all(struct world *w, const struct choice *c) {
@@ -100,7 +101,8 @@ int main(int argc, char **argv) {
         one = two = before;
         const int32_t expected = library_call(&one, &choice), status = dist_call(&two, &choice);
         if (status != expected || memcmp(&one, &two, sizeof one) != 0) {
-            printf("FAILED: case %ld, call %d: %d for %d\n", i, choice.call, (int)status, (int)expected);
+            printf("FAILED: case %ld, call %d: %d for %d\n", i, choice.call, (int)status,
+                   (int)expected);
             return 1;
         }
         (status == KEYWRAP_OK ? done : refused)[choice.call]++;

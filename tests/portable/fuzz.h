@@ -7,7 +7,8 @@ enum { SLOTS = 60, LONGEST = 136 };
 
 /* The buffers, and the numbers that a call returns or changes. */
 struct world {
-    uint8_t kek[272], new_kek[272], iv[16], key[LONGEST + 8], text[LONGEST + 8], first[8], block[16];
+    uint8_t kek[272], new_kek[272], iv[16], key[LONGEST + 8], text[LONGEST + 8], first[8],
+        block[16];
     uint8_t texts[SLOTS * LONGEST], forms[SLOTS], statuses[SLOTS];
     size_t lens[SLOTS], key_len;
     uint64_t steps;
@@ -16,12 +17,37 @@ struct world {
 
 /* The calls of keywrap.h and keywrap_steps.h. */
 enum {
-    WRAP, UNWRAP, WRAP_WITH, UNWRAP_WITH, WRAP_PADDED, UNWRAP_PADDED, WRAP_IN_PLACE, UNWRAP_IN_PLACE,
-    WRAP_PADDED_IN_PLACE, UNWRAP_PADDED_IN_PLACE, KIND, UNWRAP_ANY, REWRAP, REWRAP_IN_PLACE, KEK_INIT, KEK_CLEAR,
+    WRAP,
+    UNWRAP,
+    WRAP_WITH,
+    UNWRAP_WITH,
+    WRAP_PADDED,
+    UNWRAP_PADDED,
+    WRAP_IN_PLACE,
+    UNWRAP_IN_PLACE,
+    WRAP_PADDED_IN_PLACE,
+    UNWRAP_PADDED_IN_PLACE,
+    KIND,
+    UNWRAP_ANY,
+    REWRAP,
+    REWRAP_IN_PLACE,
+    KEK_INIT,
+    KEK_CLEAR,
     STATUS_TEXT,
-    REWRAP_MANY, WRAP_MANY, UNWRAP_MANY, KIND_MANY,
-    BEGIN_WRAP, BEGIN_WRAP_PADDED, STEP_WRAP, END_WRAP, BEGIN_UNWRAP, BEGIN_UNWRAP_PADDED, STEP_UNWRAP,
-    END_UNWRAP, END_UNWRAP_PADDED, CALLS
+    REWRAP_MANY,
+    WRAP_MANY,
+    UNWRAP_MANY,
+    KIND_MANY,
+    BEGIN_WRAP,
+    BEGIN_WRAP_PADDED,
+    STEP_WRAP,
+    END_WRAP,
+    BEGIN_UNWRAP,
+    BEGIN_UNWRAP_PADDED,
+    STEP_UNWRAP,
+    END_UNWRAP,
+    END_UNWRAP_PADDED,
+    CALLS
 };
 
 struct choice {

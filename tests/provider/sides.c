@@ -119,10 +119,8 @@ int run_update(struct side *side, struct place place, const uint8_t *input, int 
     for (int i = 0; i < ARENA; i++) arena[i] = (uint8_t)(i * 31 + 7);
     memcpy(in, input, (size_t)len);
     memcpy(before, arena, ARENA);
-    if (once)
-        status = EVP_Cipher(side->ctx, out, in, (unsigned)len);
-    else
-        status = EVP_CipherUpdate(side->ctx, out, &out_len, in, len);
+    if (once) status = EVP_Cipher(side->ctx, out, in, (unsigned)len);
+    else status = EVP_CipherUpdate(side->ctx, out, &out_len, in, len);
     /* EVP_Cipher returns what OpenSSL's own returns: 1 after a refusal, too. */
     if (once && side == sides && ERR_peek_error() != 0) status = 0;
     if (out != NULL) put_back(side, out, before + place.out, len, status);

@@ -9,7 +9,8 @@
 /* The KEKs, and what the calls take: the first bytes of them, or kept KEKs. */
 static uint8_t from[32], new_from[32], kek[KEYWRAP_KEK_LEN(32)], new_kek[KEYWRAP_KEK_LEN(32)];
 static uint8_t key[ROOM], text[2 * ROOM], out[2 * ROOM], iv[8];
-static const size_t KEK_LENS[] = {16, 24, 32, KEYWRAP_KEK_LEN(16), KEYWRAP_KEK_LEN(24), KEYWRAP_KEK_LEN(32)};
+static const size_t KEK_LENS[] = {
+    16, 24, 32, KEYWRAP_KEK_LEN(16), KEYWRAP_KEK_LEN(24), KEYWRAP_KEK_LEN(32)};
 /* `whole` is the length of a wrapped key, and so is text_len, if that is not the length that is wrong. */
 static size_t kek_len, new_kek_len, key_len, whole, text_len, out_len;
 static uint32_t forms, padded, already;
@@ -47,7 +48,10 @@ static int32_t of_slots(int32_t answer) {
 }
 
 /* A function that makes the call, and keeps its status. */
-#define CALL(name, call) static void name(void) { status = (call); }
+#define CALL(name, call)     \
+    static void name(void) { \
+        status = (call);     \
+    }
 
 CALL(kek_init, keywrap_kek_init(kek, kek_len, out, KEYWRAP_KEK_LEN(kek_len) + text_len - whole))
 CALL(wrap, keywrap_wrap(kek, kek_len, key, key_len, out, text_len))
@@ -62,17 +66,18 @@ CALL(unwrap_padded, keywrap_unwrap_padded(kek, kek_len, text, text_len, out, who
 CALL(unwrap_padded_in_place, keywrap_unwrap_padded_in_place(kek, kek_len, out, text_len, &out_len))
 /* The wrong length is the scratch buffer's, or the key's buffer's. */
 CALL(kind, keywrap_kind(kek, kek_len, text, whole, out, text_len - 8, &padded, &out_len))
-CALL(unwrap_any, keywrap_unwrap_any(kek, kek_len, text, whole, out, text_len - 8, &padded, &out_len))
-CALL(rewrap_in_place, keywrap_rewrap_in_place(kek, kek_len, new_kek, new_kek_len, out, text_len, forms))
+CALL(unwrap_any,
+     keywrap_unwrap_any(kek, kek_len, text, whole, out, text_len - 8, &padded, &out_len))
+CALL(rewrap_in_place,
+     keywrap_rewrap_in_place(kek, kek_len, new_kek, new_kek_len, out, text_len, forms))
 CALL(rewrap, keywrap_rewrap(kek, kek_len, new_kek, new_kek_len, out, text_len, forms, &already))
 /* A wrapped key that is already under the new KEK. */
 CALL(wrap_new, keywrap_wrap(new_kek, kek_len, key, key_len, out, text_len))
-CALL(wrap_many, of_slots(
-    keywrap_wrap_many(kek, kek_len, out, slots * text_len, key_len, forms, statuses, slots)))
-CALL(unwrap_many, of_slots(
-    keywrap_unwrap_many(kek, kek_len, out, slots * text_len, forms, slot_lens, slots, statuses, slots)))
-CALL(kind_many, of_slots(
-    keywrap_kind_many(kek, kek_len, text, slots * whole, out, text_len - 8, slot_forms, slots, slot_lens, slots,
-                      statuses, slots)))
-CALL(rewrap_many, of_slots(
-    keywrap_rewrap_many(kek, kek_len, new_kek, new_kek_len, out, slots * text_len, forms, statuses, slots)))
+CALL(wrap_many, of_slots(keywrap_wrap_many(kek, kek_len, out, slots *text_len, key_len, forms,
+                                           statuses, slots)))
+CALL(unwrap_many, of_slots(keywrap_unwrap_many(kek, kek_len, out, slots *text_len, forms, slot_lens,
+                                               slots, statuses, slots)))
+CALL(kind_many, of_slots(keywrap_kind_many(kek, kek_len, text, slots *whole, out, text_len - 8,
+                                           slot_forms, slots, slot_lens, slots, statuses, slots)))
+CALL(rewrap_many, of_slots(keywrap_rewrap_many(kek, kek_len, new_kek, new_kek_len, out,
+                                               slots *text_len, forms, statuses, slots)))

@@ -23,10 +23,9 @@ struct outcome {
 };
 struct outcome I_WRAP_SONAME_FNNAME_ZZ(NONE, key_wrap_coreZcZcchecksZcZcdecide)(uint64_t, uint8_t *,
                                                                                 size_t);
-struct outcome I_WRAP_SONAME_FNNAME_ZZ(NONE,
-                                       key_wrap_coreZcZcchecksZcZcdecide)(uint64_t difference,
-                                                                          uint8_t *bytes,
-                                                                          size_t len) {
+struct outcome I_WRAP_SONAME_FNNAME_ZZ(NONE, key_wrap_coreZcZcchecksZcZcdecide)(uint64_t difference,
+                                                                                uint8_t *bytes,
+                                                                                size_t len) {
     OrigFn decide;
     uint64_t answer;
     VALGRIND_GET_ORIG_FN(decide);
@@ -82,7 +81,8 @@ static const struct watched {
     {"keywrap_unwrap_any, padded", unwrap_any, wrap_padded, PADDED, 0, 0},
     {"keywrap_rewrap_in_place", rewrap_in_place, wrap, PLAIN, 0, 0},
     {"keywrap_rewrap_in_place, to padded", rewrap_in_place, wrap, PLAIN, KEYWRAP_NEW_PADDED, 0},
-    {"keywrap_rewrap_in_place, to plain", rewrap_in_place, wrap_padded, PLAIN, KEYWRAP_OLD_PADDED, 0},
+    {"keywrap_rewrap_in_place, to plain", rewrap_in_place, wrap_padded, PLAIN, KEYWRAP_OLD_PADDED,
+     0},
     {"keywrap_rewrap_in_place, padded", rewrap_in_place, wrap_padded, PADDED, BOTH_PADDED, 0},
     {"keywrap_rewrap", rewrap, wrap, PLAIN, 0, 0},
     {"keywrap_rewrap, to padded", rewrap, wrap, PLAIN, KEYWRAP_NEW_PADDED, 0},
@@ -93,7 +93,8 @@ static const struct watched {
     {"keywrap_rewrap, plain and kept", rewrap, wrap, PLAIN, KEYWRAP_KEEP_FORM, 0},
     {"keywrap_rewrap, padded and kept", rewrap, wrap_padded, PADDED, KEYWRAP_KEEP_FORM, 0},
     {"keywrap_rewrap, plain and new", rewrap, wrap_new, PLAIN, KEYWRAP_PASS_NEW, 0},
-    {"keywrap_rewrap, padded and new", rewrap, wrap_new_padded, PADDED, KEYWRAP_KEEP_FORM | KEYWRAP_PASS_NEW, 0},
+    {"keywrap_rewrap, padded and new", rewrap, wrap_new_padded, PADDED,
+     KEYWRAP_KEEP_FORM | KEYWRAP_PASS_NEW, 0},
     {"keywrap_wrap_many", wrap_many, NULL, PLAIN, 0, 0},
     {"keywrap_wrap_many, padded", wrap_many, NULL, PADDED, KEYWRAP_NEW_PADDED, 0},
     {"keywrap_unwrap_many", unwrap_many, wrap, PLAIN, 0, 0},
@@ -103,8 +104,10 @@ static const struct watched {
     {"keywrap_rewrap_many", rewrap_many, wrap, PLAIN, 0, 0},
     {"keywrap_rewrap_many, to plain", rewrap_many, wrap_padded, PLAIN, KEYWRAP_OLD_PADDED, 0},
     {"keywrap_rewrap_many, padded", rewrap_many, wrap_padded, PADDED, BOTH_PADDED, 0},
-    {"keywrap_rewrap_many, padded and kept", rewrap_many, wrap_padded, PADDED, KEYWRAP_KEEP_FORM, 0},
-    {"keywrap_rewrap_many, plain and new", rewrap_many, wrap_new, PLAIN, KEYWRAP_KEEP_FORM | KEYWRAP_PASS_NEW, 0},
+    {"keywrap_rewrap_many, padded and kept", rewrap_many, wrap_padded, PADDED, KEYWRAP_KEEP_FORM,
+     0},
+    {"keywrap_rewrap_many, plain and new", rewrap_many, wrap_new, PLAIN,
+     KEYWRAP_KEEP_FORM | KEYWRAP_PASS_NEW, 0},
     {"tables", tables, NULL, 16, 8, 48, 0, 0},
 };
 
@@ -160,7 +163,8 @@ static void watch(const struct watched *watched, size_t longest, int damage) {
              len <= longest && len <= watched->most && (i < 3 || len <= LONGEST_DAMAGED);
              len += watched->step, calls++)
             found += reports(watched, KEK_LENS[i], len, damage);
-    printf("%s%s: %u reports in %u calls\n", watched->name, damage ? ", damaged" : "", found, calls);
+    printf("%s%s: %u reports in %u calls\n", watched->name, damage ? ", damaged" : "", found,
+           calls);
     fflush(stdout);
 }
 
@@ -177,7 +181,8 @@ int main(int argc, char **argv) {
     for (size_t i = 0; i < sizeof key; i++) key[i] = (uint8_t)(11 * i + 3);
     for (size_t c = 0; c < sizeof CALLS / sizeof *CALLS; c++) {
         watch(CALLS + c, longest, 0);
-        if (CALLS[c].prepare) watch(CALLS + c, longest < LONGEST_DAMAGED ? longest : LONGEST_DAMAGED, 1);
+        if (CALLS[c].prepare)
+            watch(CALLS + c, longest < LONGEST_DAMAGED ? longest : LONGEST_DAMAGED, 1);
     }
     return 0;
 }

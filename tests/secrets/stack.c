@@ -17,7 +17,18 @@ enum { STACK = 1 << 16, KEY_LEN = 32, ROOM = 128 };
 #include "calls.h"
 
 /* The ways in which a call ends, each with its status. */
-enum way { DONE, DAMAGED, BAD_IV, BAD_KEK, BAD_NEW_KEK, SHORT, BAD_FLAGS, BAD_KEY, NOT_PLAIN, WAYS };
+enum way {
+    DONE,
+    DAMAGED,
+    BAD_IV,
+    BAD_KEK,
+    BAD_NEW_KEK,
+    SHORT,
+    BAD_FLAGS,
+    BAD_KEY,
+    NOT_PLAIN,
+    WAYS
+};
 
 static const struct {
     const char *name;
@@ -44,7 +55,8 @@ static void rewrap_two(void) {
     memcpy(two, out, text_len);
     status = keywrap_wrap(kek, kek_len, key, KEY_LEN, two + text_len, text_len);
     if (status != KEYWRAP_OK) return;
-    status = keywrap_rewrap_many(kek, kek_len, new_kek, kek_len, two, 2 * text_len, forms, statuses, 2);
+    status =
+        keywrap_rewrap_many(kek, kek_len, new_kek, kek_len, two, 2 * text_len, forms, statuses, 2);
     if (statuses[0] != KEYWRAP_ALREADY_NEW || statuses[1] != KEYWRAP_OK) status = KEYWRAP_INTEGRITY;
 }
 
@@ -52,7 +64,8 @@ static void kind_two(void) {
     static uint8_t two[128];
     memcpy(two, text, whole);
     memcpy(two + whole, text, whole);
-    status = keywrap_kind_many(kek, kek_len, two, 2 * whole, out, whole - 8, slot_forms, 2, slot_lens, 2, statuses, 2);
+    status = keywrap_kind_many(kek, kek_len, two, 2 * whole, out, whole - 8, slot_forms, 2,
+                               slot_lens, 2, statuses, 2);
     if (statuses[1] != KEYWRAP_OK) status = KEYWRAP_INTEGRITY;
 }
 
@@ -87,7 +100,8 @@ static const struct watched {
     {"unwrap_any,padded", unwrap_any, wrap_padded, 0, UNWRAPS},
     {"rewrap_in_place,plain", rewrap_in_place, wrap, 0, REWRAPS},
     {"rewrap_in_place,to_padded", rewrap_in_place, wrap, KEYWRAP_NEW_PADDED, REWRAPS},
-    {"rewrap_in_place,to_plain", rewrap_in_place, wrap_padded, KEYWRAP_OLD_PADDED, REWRAPS | 1 << BAD_KEY},
+    {"rewrap_in_place,to_plain", rewrap_in_place, wrap_padded, KEYWRAP_OLD_PADDED,
+     REWRAPS | 1 << BAD_KEY},
     {"rewrap_in_place,padded", rewrap_in_place, wrap_padded, BOTH_PADDED, REWRAPS},
     {"rewrap,plain", rewrap, wrap, 0, REWRAPS},
     {"rewrap,to_plain", rewrap, wrap_padded, KEYWRAP_OLD_PADDED, REWRAPS | 1 << NOT_PLAIN},
@@ -102,7 +116,8 @@ static const struct watched {
     {"kind_many,padded", kind_many, wrap_padded, 0, UNWRAPS},
     {"kind_many,two", kind_two, wrap, 0, 1 << DONE},
     {"rewrap_many,plain", rewrap_many, wrap, 0, REWRAPS},
-    {"rewrap_many,to_plain", rewrap_many, wrap_padded, KEYWRAP_OLD_PADDED, REWRAPS | 1 << NOT_PLAIN},
+    {"rewrap_many,to_plain", rewrap_many, wrap_padded, KEYWRAP_OLD_PADDED,
+     REWRAPS | 1 << NOT_PLAIN},
     {"rewrap_many,keep_padded", rewrap_many, wrap_padded, KEYWRAP_KEEP_FORM, REWRAPS},
     {"rewrap_many,pass_new", rewrap_many, wrap_new, KEYWRAP_PASS_NEW, REWRAPS},
     {"rewrap_many,apart", rewrap_two, wrap_new, KEYWRAP_PASS_NEW, 1 << DONE},

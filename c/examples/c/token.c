@@ -36,7 +36,7 @@ static void run_steps(CK_OBJECT_HANDLE under, int decrypts, uint8_t *registers, 
          "C_EncryptInit, C_DecryptInit");
     for (uint64_t left = keywrap_step_count(room); left > 0; left--) {
         must((decrypts ? token->C_DecryptUpdate : token->C_EncryptUpdate)(session, block, 16, block,
-                                                                         &len)
+                                                                          &len)
                      == CKR_OK
                  && len == 16,
              "the token's AES");

@@ -40,8 +40,8 @@ static int padded(const uint8_t *kek, size_t kek_len, const uint8_t key[7]) {
     print("wrap, padded", status, wrapped, sizeof wrapped);
     if (status != KEYWRAP_OK) return 0;
 
-    status = keywrap_unwrap_padded(kek, kek_len, wrapped, sizeof wrapped, back, sizeof back,
-                                   &key_len);
+    status =
+        keywrap_unwrap_padded(kek, kek_len, wrapped, sizeof wrapped, back, sizeof back, &key_len);
     print("unwrap, padded", status, back, key_len);
     return status == KEYWRAP_OK && key_len == 7 && memcmp(back, key, 7) == 0;
 }
