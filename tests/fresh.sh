@@ -10,9 +10,15 @@
 set -u
 # shellcheck source=tests/lib/workdir.sh
 . "${BASH_SOURCE[0]%/*}/lib/workdir.sh"
-[ -n "${KEYWRAP_FRESH:-}" ] || { finish; exit; }
+[ -n "${KEYWRAP_FRESH:-}" ] || {
+    finish
+    exit
+}
 verdict 'what a root directory needs' "$(lacks root debootstrap git rt 'overlay of the root directory')" ||
-    { finish; exit; }
+    {
+        finish
+        exit
+    }
 [[ $KEYWRAP_FRESH = /* ]] && fresh=$KEYWRAP_FRESH || fresh=$workdir/fresh
 kit=$(dirname "$(dirname "$(readlink -f "$(command -v rt)")")")
 mkdir -p "$fresh/packages" "$fresh/built" machine over
@@ -51,13 +57,19 @@ problem() { [ "$1" = 0 ] || { echo "status $1:" && tail -n 5 said; }; }
 if [ ! -e "$fresh/minimal/etc/apt/apt.conf.d/machine" ]; then
     rm -rf "$fresh/minimal"
     debootstrap --variant=minbase "$(. /etc/os-release && echo "$VERSION_CODENAME")" "$fresh/minimal" >said 2>&1
-    verdict 'debootstrap, with a Debian mirror' "$(problem $?)" || { finish; exit; }
+    verdict 'debootstrap, with a Debian mirror' "$(problem $?)" || {
+        finish
+        exit
+    }
     # This machine's way to the mirror. README's line asks, and here nobody answers.
     apt-config dump | grep -E '^Acquire::(http|https|Check-|Retries)' >machine.conf
     echo 'APT::Get::Assume-Yes "yes";' >>machine.conf
     cp /etc/resolv.conf "$fresh/minimal/etc"
     as_root "$fresh/minimal" "cat >/etc/apt/apt.conf.d/machine && apt-get update" <machine.conf >said 2>&1
-    verdict 'its mirror' "$(problem $?)" || { finish; exit; }
+    verdict 'its mirror' "$(problem $?)" || {
+        finish
+        exit
+    }
 fi
 
 ### README, with the kit
@@ -88,7 +100,10 @@ readme() {
     verdict 'README: what is left out is said in one line' "$(tail -n 2 said | grep -E '^.{121}|^SKIPPED')"
     verdict 'README: nothing is written beside the sources' "$(beside_the_sources)"
     [ "$fresh" = "$workdir/fresh" ] ||
-        (cd machine/home/user/keywrap && cp out/passed "$fresh"; cd crates && cp -a --parents -- */out "$fresh/built")
+        (
+            cd machine/home/user/keywrap && cp out/passed "$fresh"
+            cd crates && cp -a --parents -- */out "$fresh/built"
+        )
 }
 [ $# -gt 0 ] || readme
 

@@ -9,7 +9,10 @@
 set -u
 # shellcheck source=tests/lib/stand_in.sh
 . "${BASH_SOURCE[0]%/*}/lib/stand_in.sh"
-needs 'the launcher' pgrep /proc || { finish; exit; }
+needs 'the launcher' pgrep /proc || {
+    finish
+    exit
+}
 # No script is run after the gate.
 printf '#!/bin/sh\n' >scripts/tests.sh
 
@@ -38,8 +41,11 @@ order=(:)
 launched() {
     LC_ALL=C "${order[@]}"
     sed -i '/^mktemp: /d; s/(logs: .*)/(logs: LOGS)/' err
-    verdict "$1" "$([ "$status" = "$2" ] || echo "status $status, not $2"
-        diff out <(printf %s "$3"); diff err <(printf %s "${4:+$4$'\n'}"))"
+    verdict "$1" "$(
+        [ "$status" = "$2" ] || echo "status $status, not $2"
+        diff out <(printf %s "$3")
+        diff err <(printf %s "${4:+$4$'\n'}")
+    )"
     noted "$1" "${@:5}"
     verdict "$1: what is left" "$(left)"
 }
@@ -49,14 +55,16 @@ said() { printf '%s\n' "the first line of $1" 'the second line'; }
 
 ### When it is built, and from where it is called
 
-fresh; PATH=$tree/tmp launch
+fresh
+PATH=$tree/tmp launch
 launched 'neither rt nor make' 70 '' \
     'keywrap: not built yet: neither rt, which proves and builds it, nor make, which builds dist/, is on the PATH'
 mkdir alone && cp bin/rt alone && PATH=$tree/alone launch
 launched 'no make' 70 '' 'keywrap: not built yet, and make, which builds it, is not on the PATH'
 # Without rt: the cc of this fake writes a program that prints its arguments.
 mkdir plain && ln -s /usr/bin/* plain && rm -f plain/cc plain/rt
-fresh; PATH=$tree/plain launch
+fresh
+PATH=$tree/plain launch
 launched 'neither rt nor cc' 70 '' \
     'keywrap: not built yet: neither rt, which proves and builds it, nor cc, which builds dist/, is on the PATH'
 install -m 755 /dev/stdin plain/cc <<'END_OF_CC'
@@ -71,13 +79,23 @@ PATH=$tree/plain launch a 'b c'
 launched 'without the kit' 5 'compiled, 2 words: a b c'$'\n' "$compiles" compiled
 PATH=$tree/plain launch a
 launched 'without the kit, again' 5 'compiled, 1 words: a'$'\n' '' compiled
-: >notes; append dist/command/host.c; PATH=$tree/plain launch a
+: >notes
+append dist/command/host.c
+PATH=$tree/plain launch a
 launched 'without the kit, after a change' 5 'compiled, 1 words: a'$'\n' "$compiles" compiled
-: >notes; append dist/command/host.c; PATH=$tree/plain make -s -C dist keywrap; PATH=$tree/plain launch a
+: >notes
+append dist/command/host.c
+PATH=$tree/plain make -s -C dist keywrap
+PATH=$tree/plain launch a
 launched 'without the kit, after make' 5 'compiled, 1 words: a'$'\n' '' compiled
-append dist/command/host.c; touch broken; PATH=$tree/plain launch
-verdict 'the compiler fails' "$([ "$status" = 70 ] || echo "status $status"
-    grep -q '^error: of the compiler' err || cat err; tail -n 1 err | grep -vx 'keywrap: the build failed: dist/')"
+append dist/command/host.c
+touch broken
+PATH=$tree/plain launch
+verdict 'the compiler fails' "$(
+    [ "$status" = 70 ] || echo "status $status"
+    grep -q '^error: of the compiler' err || cat err
+    tail -n 1 err | grep -vx 'keywrap: the build failed: dist/'
+)"
 rm -r dist/keywrap.built_from broken plain
 : >notes
 TMPDIR=$tree/missing launch
@@ -94,7 +112,10 @@ echo '$(error this file is read)' >far/stops.mk
 find crates -name '*.rt' -exec touch {} +
 for way in far/link "PATH='$tree':\$PATH && cd / && keywrap" \
     "cd .. && CDPATH='$tree/far' 'a tree/keywrap'"; do
-    verdict "$way" "$(eval "$way --version" 2>&1 | grep -vx 'child of [0-9]*, 1 words: --version'; cat notes)"
+    verdict "$way" "$(
+        eval "$way --version" 2>&1 | grep -vx 'child of [0-9]*, 1 words: --version'
+        cat notes
+    )"
 done
 for way in far/link 'MAKEFLAGS=n MAKEFILES=far/stops.mk GNUMAKEFLAGS=n JOBS=7 ./keywrap' \
     'make -s -j3 build && ./keywrap'; do
@@ -131,7 +152,8 @@ fresh; at='a tree' event='cd crates/keywrap' make gate
 append crates/aes_block/must-fail/edit
 END_OF_CHANGES
 # Without a kit on the PATH, what one built is run. A program of the current directory is not.
-fresh; ./keywrap --version >/dev/null 2>&1
+fresh
+./keywrap --version >/dev/null 2>&1
 row 'no kit on the PATH' env PATH=/usr/bin:/bin "$tree/keywrap" --version
 for shell in sh bash; do
     : >notes
@@ -142,17 +164,24 @@ for shell in sh bash; do
     rm far/keywrap
 done
 # A kit that refuses an option of rattle.
-fresh; takes='--statements --antt-project --logic-built --backend' launch
+fresh
+takes='--statements --antt-project --logic-built --backend' launch
 launched 'another kind of kit' 5 "child of $$, 0 words: "$'\n' "$starts" 'keywrap: lib --backend rattle' 'ends keywrap'
 
 # rt takes this lock while it works.
 fresh
-{ flock 8; ./keywrap --version >second 2>&1 8<&- & until_true grep -qs waiting second; } 8<crates/keywrap
-row 'an rt at work' [ $? = 0 ]; wait $!
+{
+    flock 8
+    ./keywrap --version >second 2>&1 8<&- &
+    until_true grep -qs waiting second
+} 8<crates/keywrap
+row 'an rt at work' [ $? = 0 ]
+wait $!
 noted 'an rt at work' "${steps[@]}"
 
 # Another launcher begins while this one is at work: it waits, and then runs the same program.
-fresh; at=keywrap event='at= "$tree/keywrap" --version >"$tree/second" 2>&1 9<&- &
+fresh
+at=keywrap event='at= "$tree/keywrap" --version >"$tree/second" 2>&1 9<&- &
     until_true grep -q waiting "$tree/second"' launch
 launched 'two at once' 5 "child of $$, 0 words: "$'\n' "$starts" "${steps[@]}"
 until_true grep -q words second
@@ -172,9 +201,13 @@ at=keywrap event='exit 5' launch
 launched 'the program is not proved' 70 '' "$starts
 $(said keywrap)
 keywrap: the build failed: keywrap" "${steps[@]:2:3}"
-mv scripts/first_use.mk kept.mk && fresh; launch
-verdict 'make itself fails' "$(left; [ "$status" = 70 ] || echo "status $status"
-    grep -c '^make: .*first_use.mk' err | grep -vx '[1-9]')"
+mv scripts/first_use.mk kept.mk && fresh
+launch
+verdict 'make itself fails' "$(
+    left
+    [ "$status" = 70 ] || echo "status $status"
+    grep -c '^make: .*first_use.mk' err | grep -vx '[1-9]'
+)"
 mv kept.mk scripts/first_use.mk
 
 ### Side by side
@@ -188,22 +221,29 @@ all_ended=('ended first_four' 'ended fourth_four' 'ended second_four' 'ended thi
 # The notes of crates that are built side by side may come in any order.
 order=(sort -o notes notes)
 # Four crates are built at once, with one job each. The program comes last, with more.
-fresh; processors=9 at='.*_four' event='until_true begun 4; sleep 0.2' launch
-verdict 'side by side' "$([ "$status" = 5 ] || cat err
+fresh
+processors=9 at='.*_four' event='until_true begun 4; sleep 0.2' launch
+verdict 'side by side' "$(
+    [ "$status" = 5 ] || cat err
     sed -n 's/.*_.*: build --jobs //p' notes | grep -vx 1
     LC_ALL=C sort notes | sed -n 's/: build .*//p' | paste -sd ' ' |
         diff - <(echo above_second first_four fourth_four keywrap second_four third_four)
-    tail -n 2 notes | diff - <(printf '%s\n' "keywrap: build --jobs 4" 'ends keywrap'))"
+    tail -n 2 notes | diff - <(printf '%s\n' "keywrap: build --jobs 4" 'ends keywrap')
+)"
 
-fresh; at='(first|third|fourth)_four' event='until_true grep -q "^ends above" "$tree/notes"' launch
-verdict 'a crate begins where those below it are proved' "$([ "$status" = 5 ] || cat err
+fresh
+at='(first|third|fourth)_four' event='until_true grep -q "^ends above" "$tree/notes"' launch
+verdict 'a crate begins where those below it are proved' "$(
+    [ "$status" = 5 ] || cat err
     grep -e '^ends second' -e above notes |
         diff - <(printf '%s\n' 'ends second_four' 'above_second: build --jobs 1' 'ends above_second')
-    grep -A 9 '^ends above' notes | grep -c '^ends .*_four' | grep -vx 3)"
+    grep -A 9 '^ends above' notes | grep -c '^ends .*_four' | grep -vx 3
+)"
 
 # If a proof fails, the proofs beside it are ended, and no other begins. The second ends once make, which waits for its
 # children, has seen that the first failed.
-fresh; at='(first|second)_four' event='until_true begun 4
+fresh
+at='(first|second)_four' event='until_true begun 4
     [ $crate = second_four ] || { echo $$ >../../failed; exit 1; }
     until_true [ -s ../../failed ]; until_true eval "[ ! -e /proc/$(<../../failed) ]"' launch
 launched 'a proof fails beside others' 70 '' "$starts
@@ -232,9 +272,11 @@ on_screen() {
 states() { grep -oP '\e\[Kkeywrap: [0-9]+ s, \K[^\r\e]+' screen | uniq; }
 if needs 'the launcher on a terminal' script pseudo-terminals; then
     at='.*_four' event='until_true begun 4; until_true grep -q "first_four fourth" "$tree/screen"' on_screen
-    verdict 'the progress of crates side by side' "$([ "$status" = 5 ] || cat err
+    verdict 'the progress of crates side by side' "$(
+        [ "$status" = 5 ] || cat err
         states | grep -q '^0 of 6 crates proved, at work: first_four fourth_four second_four' || states
-        grep -oP '\e\[K\K[^\r\e]{80,}' screen)"
+        grep -oP '\e\[K\K[^\r\e]{80,}' screen
+    )"
     at='.*_four' event='until_true begun 4
         [ $crate != first_four ] || printf "\003" >../../keys; until_true false' on_screen
     launched 'Ctrl-C' 130 '' "$starts" "${all_ended[@]}" "${begins[@]}"

@@ -116,7 +116,10 @@ rebuilds "$make wheel && cmp library/python/libkeywrap_hw.a $archive" "${linked[
 rebuilds "$make install && cmp stage/usr/bin/keywrap $program && cmp stage/usr/lib/libkeywrap.so $archive" \
     "${steps[@]}" "${linked[@]}" <<<'append crates/aes_block/src/lib.rt'
 same 'make install keeps to DESTDIR and PREFIX' $'bin\ninclude\nlib\nshare' "$(ls stage/usr)"
-verdict 'make uninstall leaves nothing' "$($make uninstall; find stage ! -type d)"
+verdict 'make uninstall leaves nothing' "$(
+    $make uninstall
+    find stage ! -type d
+)"
 rebuilds "$make dist-command dist-library wheel && cat packed/*.tar.gz | tar -xzif - &&
     cmp keywrap-1.2.3-dev-*/bin/keywrap $program && cmp keywrap-library-1.2.3-dev-*/lib/libkeywrap.so $archive &&
     cmp library/python/libkeywrap_hw.a $archive" "${steps[@]:2}" "${linked[@]}" <<<'append crates/aes_block/src/lib.rt'
@@ -184,7 +187,8 @@ x86=TARGET=x86_64-unknown-linux-gnu
 wasm=('keywrap_wasm: lib --target wasm64-unknown-unknown --backend llvm' 'ends keywrap_wasm')
 mkdir -p sysroot/usr/include/{,aarch64-linux-gnu/}python3.11
 all='make -s DIST=packed CC=linker SYSROOT=sysroot'
-rm -r packed; fresh
+rm -r packed
+fresh
 does 'make dist' 0 packed/SHA256SUMS $all dist -- "${steps[@]}" "${linked[@]}" "${linked_for_arm[@]}"
 does 'make dist, again' 0 packed/SHA256SUMS $all dist --
 rm -r packed
@@ -223,11 +227,17 @@ rm $archive kept.a
 ### What fails
 
 rm -r stage packed
-{ ./keywrap --version; $make library; } >/dev/null 2>&1
+{
+    ./keywrap --version
+    $make library
+} >/dev/null 2>&1
 does 'no wheel' 2 '' $make wheel PYTHON=false --
 no_wheel=1 does 'a wheel that cannot be built' 2 '' $make wheel --
 verdict 'it is not named, and what the build wrote is shown' \
-    "$(grep whl wrote; grep -qx 'no wheel here' err || cat err)"
+    "$(
+        grep whl wrote
+        grep -qx 'no wheel here' err || cat err
+    )"
 no_wheel=1 does 'nor is one packed' 2 '' $make dist $x86 --
 verdict 'no checksums of it' "$(ls packed/SHA256SUMS 2>/dev/null)"
 rm -r packed
@@ -248,7 +258,10 @@ done
 verdict 'nothing is installed or packed' "$(find packed stage -type f 2>/dev/null)"
 
 mkdir -p out/library && make -s clean
-verdict 'make clean' "$(ls -d out crates/*/out 2>/dev/null; for crate in crates/*/; do [ -f "$crate/src/lib.rt" ] ||
-    echo "$crate"; done)"
+verdict 'make clean' "$(
+    ls -d out crates/*/out 2>/dev/null
+    for crate in crates/*/; do [ -f "$crate/src/lib.rt" ] ||
+        echo "$crate"; done
+)"
 
 finish

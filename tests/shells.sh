@@ -10,7 +10,11 @@ set -u
 # The built program starts faster than ./keywrap.
 [[ ${KEYWRAP:-/} = /* ]] || KEYWRAP=$OLDPWD/$KEYWRAP
 program=${KEYWRAP:-$root/crates/keywrap/out/keywrap}
-"${KEYWRAP:-$root/keywrap}" --version >/dev/null || { failed=1; finish; exit; }
+"${KEYWRAP:-$root/keywrap}" --version >/dev/null || {
+    failed=1
+    finish
+    exit
+}
 
 ### The options in the help
 
@@ -19,7 +23,10 @@ options_of() {
     "$program" "$@" --help 2>/dev/null | sed -nE 's/^ +((-[A-Za-z], )?--[a-z0-9-]+)( <[A-Z]+>)?$/\1/p' | sed 's/, /\n/'
 }
 commands=$("$program" --help | sed -n '/^Commands:/,/^$/s/^  \([a-z]*\) .*/\1/p')
-options=$(options_of; for command in $commands; do options_of "$command"; done)
+options=$(
+    options_of
+    for command in $commands; do options_of "$command"; done
+)
 options=$(echo "$options" | sort -u)
 
 ### The completions

@@ -7,7 +7,10 @@ passed=0 failed=0 skipped=0
 # verdict NAME PROBLEM: counts a row, and prints the start of the problem, if there is one.
 verdict() {
     local problem=${2//$'\n'/ }
-    [ -n "$2" ] || { passed=$((passed + 1)); return; }
+    [ -n "$2" ] || {
+        passed=$((passed + 1))
+        return
+    }
     failed=$((failed + 1))
     echo "FAILED: $1: ${problem:0:600}"
     return 1
@@ -25,7 +28,10 @@ row() {
 # needs PART TOOL..: whether these tools of tests/packages.txt are here. If not, the part is skipped.
 needs() {
     local missing
-    missing=$(lacks "${@:2}") || { verdict "$1" "$missing"; return 1; }
+    missing=$(lacks "${@:2}") || {
+        verdict "$1" "$missing"
+        return 1
+    }
     [ -z "$missing" ] || { skipped=$((skipped + 1)) && echo "SKIPPED: $missing" && false; }
 }
 

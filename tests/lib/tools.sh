@@ -59,7 +59,10 @@ is_here() (
 lacks() {
     local tool missing='' packages=''
     for tool in "$@"; do
-        [ -n "${packages_of[$tool]+known}" ] || { echo "tests/packages.txt does not have $tool"; return 1; }
+        [ -n "${packages_of[$tool]+known}" ] || {
+            echo "tests/packages.txt does not have $tool"
+            return 1
+        }
         is_here "$tool" && continue
         missing+="${missing:+, }no $tool" packages+=" ${packages_of[$tool]}"
     done

@@ -19,7 +19,10 @@ LOGS=$(mktemp -d) && export LOGS && trap 'rm -rf "$LOGS"' EXIT && exec 8<crates/
 jobs=$(nproc) && [ "$jobs" -le 4 ] || jobs=4
 crates=$(sed -n 's/^keywrap_[a-z]* staticlib: *//p' crates.txt | tr ' ' '\n' | sort -u | paste -sd ' ')
 make -s -f scripts/first_use.mk -j "$((jobs + 2))" JOBS="$jobs" CRATES="$crates" ARCHIVES="${archives[*]}" \
-    "${archives[@]}" || { cat "$LOGS"/*.log >&2; exit 1; }
+    "${archives[@]}" || {
+    cat "$LOGS"/*.log >&2
+    exit 1
+}
 for name in "${archives[@]}"; do
     cp "crates/keywrap/out/kept/$name" "$1/new" && mv "$1/new" "$1/$name" || exit
 done
