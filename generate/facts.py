@@ -1,10 +1,11 @@
 #!/usr/bin/env python3
 """Writes what follows from the sources: the synopsis of the manual page; the map of the crates and the hundreds of
-edits in docs/ARCHITECTURE.md; the names of the calls for linkers; the calls in Rust; the numbers and texts of
-statuses, the flags and the lengths in each language; and the version.
+edits in docs/ARCHITECTURE.md; the names of the calls for linkers; the exports over another AES; the calls in Rust;
+the numbers and texts of statuses, the flags and the lengths in each language; and the version.
 
 The sources are the options and the help in crates/keywrap_args, the statuses and their texts in
-crates/keywrap_calls/src, crates.txt, the prototypes and flags of keywrap.h and keywrap_steps.h, and VERSION.
+crates/keywrap_calls/src, the exports of crates/keywrap_c, crates.txt, the prototypes and flags of keywrap.h and
+keywrap_steps.h, and VERSION.
 
 usage: generate/facts.py             writes the files
        generate/facts.py --check     fails if a file is another
@@ -16,6 +17,7 @@ import sys
 import textwrap
 
 import completions
+import exports
 from completions import TOP
 from synopsis import synopsis
 
@@ -313,6 +315,7 @@ def results():
     )
     yield "c/include/keywrap.map", export_map()
     yield "c/hardware/names", renamed()
+    yield from exports.results()
     for name in sorted({*STATUSES, *NUMBERS, *TEXTS}):
         text = rust() if name == RUST else read(name)
         for patterns, values in (
