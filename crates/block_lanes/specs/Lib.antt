@@ -1,0 +1,2 @@
+-- The definitions of many blocks.
+pub mod Blocks

@@ -1,0 +1,4 @@
+-- The lemmas.
+mod Legal
+pub mod Turns
+pub mod Finished

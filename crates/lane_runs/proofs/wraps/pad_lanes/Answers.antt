@@ -1,0 +1,24 @@
+-- One lane after the other begins.
+use Rattle.std.proofs.Common.{rules, ◌≡◌, ◌/◌, ◌≤◌, ◌<◌, ℕ, List, length, arith, refl, ◌∙◌}
+use Rattle.key_wrap_lanes.proofs.Parts.{text_writes, block_writes, part_next}
+use Rattle.lane_runs.proofs.wraps.pad_lanes.Goals as goal
+
+pub loop-lane-init : goal.loop-lane-init
+loop-lane-init c = record { changed = λ j below. absurd (omega arith); left = λ j from. refl; left' = λ j from. refl }
+
+pub loop-lane-preserved : goal.loop-lane-preserved
+loop-lane-preserved c =
+    let n : ℕ = c.args.text_len in
+    let i : ℕ = c.loop-lane.lane in
+    let texts : List ℕ = c.loop-lane.texts in
+    let blocks : List ℕ = c.loop-lane.blocks in
+    let same : length texts ≡ length c.args.texts.now = c.loop-lane.auto.texts in
+    let same' : length blocks ≡ length c.args.blocks.now = c.loop-lane.auto.blocks in
+    let below : i < length c.args.blocks.now / 16 = c.loop-lane-test.true in
+    part_next c.loop-lane.invariant
+    (text_writes n i (length c.args.blocks.now / 16) texts c.pad_lane.new.text c.pad_lane.auto.text below (same ∙ c.requires.lanes.2))
+    (block_writes i blocks c.pad_lane.new.block c.pad_lane.auto.block (omega arith))
+    c.pad_lane.ensures
+
+pub returns : goal.returns
+returns c = λ i below. let end : length c.args.blocks.now / 16 ≤ c.loop-lane.lane = search rules in c.loop-lane.invariant.changed i (omega (arith, below, end))
