@@ -9,14 +9,14 @@ pub use Rattle.std.specs.List.{concat, filter, list_all, prefix_len, suffix_len}
 pub use Rattle.std.specs.Prelude.{IfErr, OnOk, ◌⊎◌}
 pub use Rattle.key_files.specs.Decoding.{DecodesText, fault_behind}
 pub use Rattle.key_files.specs.declared.fault.FileFault.{FileFault}
-pub use Rattle.key_lines.specs.Block.{Sends}
+pub use Rattle.key_lines.specs.Block.{MayReadOn, Sends}
 pub use Rattle.key_lines.specs.LineAnswers.{Answer, AreLines, AreOneEach, IsAnswered, Logs, answered, line_fault_of, notes_of, output_of, refusal_of, refusals_of}
 unfoldable pub use Rattle.key_lines.specs.LineMeaning.{blank_ended_meaning}
 pub use Rattle.key_lines.specs.LineMeaning.{LinesAreFiles, PrintsBack, is_blank, line_limit, line_meaning, meaning_behind, text_meaning, text_of}
 pub use Rattle.key_lines.specs.LineReading.{HasNoLf, IsAllOf, MovesPart, ReadsLine, TakesLine, TakesPart}
 unfoldable pub use Rattle.key_lines.specs.Lines.{lines_of}
 pub use Rattle.key_lines.specs.Lines.{EndsLine, EndsWithLf, before_first}
-pub use Rattle.key_lines.specs.Running.{AreResults, Counts, FindsLine, LineAnswer, LineResult, MakesAnswer, MakesOutput, RunsLines, StepEnds, Steps, StepsLine, StopsFor, WritesAnswers, is_own, written_for}
+pub use Rattle.key_lines.specs.Running.{AreResults, Counts, FindsLine, LineAnswer, LineResult, MakesAnswer, MakesOutput, RunsLines, StandsAfter, StepEnds, Steps, StepsLine, StopsFor, WritesAnswers, is_own, written_for}
 pub use Rattle.key_lines.specs.Summary.{CanAddLine, Summarizes, counted, counted_all, first_of, first_or}
 pub use Rattle.key_lines.specs.declared.fault.LineFault.{LineFault}
 pub use Rattle.key_lines.specs.declared.fault.RefusedLine.{RefusedLine}

@@ -1,5 +1,5 @@
 -- What a run has answered, and how it ends.
-use Rattle.key_lines.proofs.Common.{◌≡◌, ◌≢◌, ℕ, ◌+◌, ◌<◌, true, false, List, [], ◌∷◌, ◌++◌, length, map, Option, None, Result, Ok, Err, inl, inr, refl, sym, ap, ◌∙◌, arith, subst, append_assoc, append-nil, ◌⊎◌, concat, Consumes, Consumes-trans, Consumes-nil, Appends-nil, map-append, FileFault, Answer, Logs, answered, line_fault_of, output_of, refusal_of, refusals_of, Sends, lines_of, EndsWithLf, EndsLine, line_limit, IsAllOf, ReadsLine, TakesLine, AreResults, FindsLine, LineAnswer, LineResult, MakesOutput, RunsLines, StepEnds, Steps, StepsLine, StopsFor, is_own, written_for, CanAddLine, counted, counted_all, Line, LineFault, RefusedLine, RunFault, Note, RunOptions, RunSummary}
+use Rattle.key_lines.proofs.Common.{◌≡◌, ◌≢◌, ℕ, ◌+◌, ◌<◌, ◌≤◌, true, false, List, [], ◌∷◌, ◌++◌, length, map, Option, None, Result, Ok, Err, inl, inr, refl, sym, ap, ◌∙◌, arith, subst, append_assoc, append-nil, ◌⊎◌, concat, Consumes, Consumes-trans, Consumes-nil, Appends-nil, map-append, FileFault, Answer, Logs, answered, line_fault_of, output_of, refusal_of, refusals_of, Sends, lines_of, EndsWithLf, EndsLine, line_limit, IsAllOf, ReadsLine, TakesLine, AreResults, FindsLine, LineAnswer, LineResult, MakesOutput, RunsLines, StandsAfter, StepEnds, Steps, StepsLine, StopsFor, is_own, written_for, CanAddLine, counted, counted_all, Line, LineFault, RefusedLine, RunFault, Note, RunOptions, RunSummary}
 use Rattle.std.proofs.lemmas.List.Folds.{concat-append}
 use Rattle.key_files.specs.declared.fault.FileFault.TheVariants as files
 use Rattle.key_lines.specs.declared.line.Line.TheVariants.{Ended, Last, Missing}
@@ -21,6 +21,11 @@ module _ {R : Type 0} (options : RunOptions) (answers : List ℕ → Result Answ
   taken_of a b line Ended some r = (r.0, (r.1, refl))
   taken_of a b line Last some r = (r.0, (r.1, Consumes-nil b))
   taken_of a b line Missing some r = absurd (some refl)
+
+  within_limit : (a b : Option (List ℕ)) (line : List ℕ) (met : Line) → met ≢ Missing → ReadsLine line_limit a b line (Ok met) → length line ≤ line_limit
+  within_limit a b line Ended some r = r.2
+  within_limit a b line Last some r = r.2
+  within_limit a b line Missing some r = absurd (some refl)
 
   whole_line : (a : Option (List ℕ)) (taken : List ℕ) → EndsWithLf taken ⊎ IsAllOf taken a → EndsLine taken ⊎ IsAllOf taken a
   whole_line a taken (inl lf) = inl (inr lf)
@@ -80,8 +85,8 @@ module _ {R : Type 0} (options : RunOptions) (answers : List ℕ → Result Answ
   pub stops_unread : (a c : Option (List ℕ)) (line : List ℕ) (fault : FileFault) → ReadsLine line_limit a c line (Err fault)
       → StopsFor options answers a c (line_fault_of fault)
   stops_unread a c line files.TooLong r = (line, r.0, r.1)
-  stops_unread a c line files.Read r = (line, r.0)
-  stops_unread a c line files.Memory r = (line, r.0.stands_after)
+  stops_unread a c line files.Read r = (line, r.0, r.1)
+  stops_unread a c line files.Memory r = (line, inl r.0, r.1)
   stops_unread a c line (files.BadDigit at) r = absurd r
   stops_unread a c line files.OddDigits r = absurd r
   stops_unread a c line (files.BadCharacter at) r = absurd r
@@ -97,9 +102,12 @@ module _ {R : Type 0} (options : RunOptions) (answers : List ℕ → Result Answ
       t : TakesLine a c shown
       t = subst (TakesLine a c) (sym same) (taken_of a c line met some r).0
 
+      fits : length shown ≤ line_limit
+      fits = subst (λ l. length l ≤ line_limit) (sym same) (within_limit a c line met some r)
+
       at : (f : LineFault R) → (f ≡ Memory) ⊎ ((options.keep_going ≡ false) × (is_own f ≡ true) × LineAnswer options.notation answers shown (Err f))
           → StopsFor options answers a c f
-      at f (inl is) = subst (StopsFor options answers a c) (sym is) (t.taken, t.stands_after)
+      at f (inl is) = subst (StopsFor options answers a c) (sym is) (shown, inr t, fits)
       at (Refused refusal) (inr m) = (shown, t, m.2, m.0)
       at (Input (files.BadDigit place)) (inr m) = (shown, t, m.2, m.0)
       at (Input files.OddDigits) (inr m) = (shown, t, m.2, m.0)
@@ -224,23 +232,12 @@ module _ {R : Type 0} (options : RunOptions) (answers : List ℕ → Result Answ
           let first = first_ended front in
           filled (lines_of taken) first.0 first.1 results (ap lines_of is ∙ first.2) h
 
-  next_of : (found : Result Line (LineFault R)) (taken : List ℕ) (a b c : Option (List ℕ)) → StepEnds options answers taken a b c found
-      → (next : List ℕ) × Consumes b c next
-  next_of (Ok Ended) taken a b c e = ([], subst (λ o. Consumes b o []) e.1 (Consumes-nil b))
-  next_of (Ok Last) taken a b c e = ([], e.1)
-  next_of (Ok Missing) taken a b c e = ([], e.1)
-  next_of (Err (Input files.TooLong)) taken a b c e = (e.0, e.1.stands_after)
-  next_of (Err (Input files.Read)) taken a b c e = (e.0, e.1.stands_after)
-  next_of (Err (Input files.Memory)) taken a b c e = (e.1.taken, e.1.stands_after)
-  next_of (Err (Input (files.BadDigit at))) taken a b c e = (e.1.taken, e.1.stands_after)
-  next_of (Err (Input files.OddDigits)) taken a b c e = (e.1.taken, e.1.stands_after)
-  next_of (Err (Input (files.BadCharacter at))) taken a b c e = (e.1.taken, e.1.stands_after)
-  next_of (Err (Input (files.BehindPadding at))) taken a b c e = (e.1.taken, e.1.stands_after)
-  next_of (Err (Input files.BadBase64Length)) taken a b c e = (e.1.taken, e.1.stands_after)
-  next_of (Err (Input files.TrailingBits)) taken a b c e = (e.1.taken, e.1.stands_after)
-  next_of (Err (Refused refusal)) taken a b c e = (e.1.taken, e.1.stands_after)
-  next_of (Err Memory) taken a b c e = e
-  next_of (Err TooManyLines) taken a b c e = ([], subst (λ o. Consumes b o []) (sym e) (Consumes-nil b))
+  stands_after : (found : Result Line (LineFault R)) (taken : List ℕ) (a b c : Option (List ℕ)) → StepEnds options answers taken a b c found
+      → StandsAfter options answers b c
+  stands_after (Ok Ended) taken a b c e = inl (subst (λ o. Consumes b o []) e.1 (Consumes-nil b))
+  stands_after (Ok Last) taken a b c e = inl e.1
+  stands_after (Ok Missing) taken a b c e = inl e.1
+  stands_after (Err fault) taken a b c e = inr (fault, e)
 
   -- the end of the input
   pub RunsLines-done : {a b c o p q : Option (List ℕ)} {l m n : Option (List (RefusedLine R))} {mid after : List ℕ} {s s' : RunSummary R}
@@ -286,7 +283,7 @@ module _ {R : Type 0} (options : RunOptions) (answers : List ℕ → Result Answ
       record {
         left = f.left;
         lines = all.lines;
-        ends = (count ∙ (summarizes_all all.lines.results _ all.counts).lines, next_of found f.steps.lines.taken b f.left c f.ends);
+        ends = (count ∙ (summarizes_all all.lines.results _ all.counts).lines, stands_after found f.steps.lines.taken b f.left c f.ends);
         logs = all.logs;
         unsent = after;
         sends = all.sends;

@@ -1,6 +1,6 @@
 -- What a run over the lines of an input does. A job is known by `answers`: what it answers to the bytes that a line
 -- denotes, which is a text to be written or a refusal.
-use Rattle.std.specs.Prelude.{◌≡◌, ◌≢◌, ℕ, ◌+◌, ◌<◌, ◌⊎◌, ⊤, Bool, true, false, List, [], ◌∷◌, ◌++◌, length, map, Option, Result, Ok, Err}
+use Rattle.std.specs.Prelude.{◌≡◌, ◌≢◌, ℕ, ◌+◌, ◌<◌, ◌≤◌, ◌⊎◌, ⊤, Bool, true, false, List, [], ◌∷◌, ◌++◌, length, map, Option, Result, Ok, Err}
 use Rattle.std.specs.List.{concat}
 use Rattle.std.specs.Io.KnownBytes.{Consumes}
 use Rattle.key_lines.specs.LineAnswers.{Answer, AreLines, AreOneEach, Logs, answered, output_of, refusals_of}
@@ -60,11 +60,15 @@ AreResults options answers lines results = ⊥
 abbrev pub written_for : {R : Type 0} → List (Result Answer (LineFault R)) → List ℕ
 written_for results = concat (map output_of results)
 
+-- at most one line was taken from the input: a part of it, or all
+abbrev pub TakesUpToLine : Option (List ℕ) → Option (List ℕ) → Type 0
+TakesUpToLine input input' = (line : List ℕ) × (TakesPart input input' line ⊎ TakesLine input input' line) × (length line ≤ line_limit)
+
 -- A run stops at a line for this fault: what it takes of the line. One that continues after refusals stops for none of these.
 abbrev pub StopsFor : {R : Type 0} → RunOptions → (List ℕ → Result Answer R → Type 0) → Option (List ℕ) → Option (List ℕ) → LineFault R → Type 0
 StopsFor options answers input input' (Input files.TooLong) = (part : List ℕ) × TakesPart input input' part × (length part ≡ line_limit + 1)
-StopsFor options answers input input' (Input files.Read) = (part : List ℕ) × TakesPart input input' part
-StopsFor options answers input input' Memory = (taken : List ℕ) × Consumes input input' taken
+StopsFor options answers input input' (Input files.Read) = (part : List ℕ) × TakesPart input input' part × (length part ≤ line_limit)
+StopsFor options answers input input' Memory = TakesUpToLine input input'
 StopsFor options answers input input' TooManyLines = input' ≡ input
 StopsFor options answers input input' fault =
     (line : List ℕ) × TakesLine input input' line × LineAnswer options.notation answers line (Err fault) × (options.keep_going ≡ false)
@@ -80,6 +84,12 @@ MakesOutput options answers line output (Ok made) = LineResult options answers l
 MakesOutput options answers line output (Err fault) =
     (fault ≡ Memory) ⊎ ((options.keep_going ≡ false) × (is_own fault ≡ true) × LineAnswer options.notation answers line (Err fault))
 
+-- Where the input stands after the writer refused answers: after the last line that was answered, or where the run would
+-- have stopped at the next line.
+abbrev pub StandsAfter : {R : Type 0} → RunOptions → (List ℕ → Result Answer R → Type 0) → Option (List ℕ) → Option (List ℕ) → Type 0
+StandsAfter {R} options answers left input' =
+    Consumes left input' [] ⊎ ((fault : LineFault R) × StopsFor options answers left input' fault)
+
 -- How a run ends whose lines had these results: at the end of the input, with a summary of them, or at the next line.
 abbrev pub RunEnds : {R : Type 0} → RunOptions → (List ℕ → Result Answer R → Type 0) → List (Result Answer (LineFault R)) → (at_end : Type 0)
     → Option (List ℕ) → Option (List ℕ) → Result (RunSummary R) (RunFault R) → Type 0
@@ -87,7 +97,7 @@ RunEnds options answers results at_end input input' (Ok summary) = Summarizes re
 RunEnds options answers results at_end input input' (Err (AtLine refused)) =
     (refused.line ≡ length results + 1) × StopsFor options answers input input' refused.fault
 RunEnds options answers results at_end input input' (Err (Write answered unsent)) =
-    (answered ≡ length results) × ((next : List ℕ) × Consumes input input' next)
+    (answered ≡ length results) × StandsAfter options answers input input'
 
 -- The bytes of the answers that did not go out: none, unless the writer refused them.
 abbrev pub AreUnsent : {R : Type 0} → List ℕ → Result (RunSummary R) (RunFault R) → Type 0

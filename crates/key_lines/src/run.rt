@@ -2,6 +2,7 @@
 
 ghost use Rattle.std.specs.Prelude.{◌≡◌, ◌≢◌, ◌≤◌, ℕ, List, Option};
 ghost use Rattle.std.specs.Prelude.{Ok, Err, false, length, IfSome};
+ghost use Rattle.key_lines.specs.Block.{MayReadOn};
 ghost use Rattle.key_lines.specs.LineAnswers.{answered};
 ghost use Rattle.key_lines.specs.LineMeaning.{LinesAreFiles, PrintsBack};
 ghost use Rattle.key_lines.specs.Running.{FindsLine, MakesAnswer, MakesOutput, RunsLines};
@@ -60,8 +61,9 @@ impl<J: LineJob> LineRun<J> {
     /// answer, and `log` receives the refusal. It still stops at a line that is too long or cannot
     /// be read, and if an allocation or a write fails.
     ///
-    /// The answers are gathered in a block, so `out` needs no buffer. They are written before each
-    /// read that may wait, so another process can send a line and wait for its answer.
+    /// The answers are gathered in a block, so `out` needs no buffer. They are written once the block
+    /// has 65,536 bytes, and before each read that may wait, so another process can send a line and
+    /// wait for its answer.
     pub fn run<L: RefusalLog<J::Refusal>, R: LineSource, W: Write>(
         &self,
         alloc: Global,
@@ -109,7 +111,7 @@ impl<J: LineJob> LineRun<J> {
     }
 
     // Answers the next line, if there is one. Writes the block unless it is small and another line
-    // is there.
+    // is buffered.
     fn step<L: RefusalLog<J::Refusal>, R: LineSource, W: Write>(
         &self,
         log: &mut L,
@@ -118,7 +120,10 @@ impl<J: LineJob> LineRun<J> {
         buffers: &mut Buffers,
         summary: &mut RunSummary<J::Refusal>,
     ) -> Result<Line, RunFault<J::Refusal>>
-        requires { CanAddLine summary.old }
+        requires room { CanAddLine summary.old }
+        requires sent { MayReadOn (R.buffered input.old) buffers.old.block.items }
+        ensures sent { result ≡ Ok Line.Ended
+            → MayReadOn (R.buffered input.new) buffers.new.block.items }
         ensures steps { StepsLine self.now.options (J.answers self.now.job)
             (R.remaining input.old) (R.remaining input.new)
             (W.contents out.old) (W.contents out.new)
@@ -148,7 +153,8 @@ impl<J: LineJob> LineRun<J> {
         }
     }
 
-    // Answers the next line, if there is one, in the block.
+    // Answers the next line, if there is one, in the block. This may wait for the line, so until then
+    // no answer may be held back.
     fn next<L: RefusalLog<J::Refusal>, R: LineSource>(
         &self,
         summary: &mut RunSummary<J::Refusal>,
@@ -156,7 +162,8 @@ impl<J: LineJob> LineRun<J> {
         input: &mut R,
         buffers: &mut Buffers,
     ) -> Result<Line, LineFault<J::Refusal>>
-        requires { CanAddLine summary.old }
+        requires room { CanAddLine summary.old }
+        requires sent { MayReadOn (R.buffered input.old) buffers.old.block.items }
         ensures finds { (out : Option (List ℕ)) → FindsLine self.now.options
             (J.answers self.now.job) (R.remaining input.old) (R.remaining input.new) out out
             (L.received log.old) (L.received log.new)

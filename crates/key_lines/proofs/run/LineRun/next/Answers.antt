@@ -4,11 +4,11 @@ use Rattle.key_lines.proofs.Runs.{FindsLine-line, FindsLine-none, line_fault-cou
 use Rattle.key_lines.proofs.run.LineRun.next.Goals as goal
 
 pub returns-then-summary-clause-finds : goal.returns-then-summary-clause-finds
-returns-then-summary-clause-finds g c = λ out. FindsLine-none c.args.self.now.options _ out _ _ _ _ refl c.requires
+returns-then-summary-clause-finds g c = λ out. FindsLine-none c.args.self.now.options _ out _ _ _ _ refl c.requires.room
     refl
 
 pub returns-in-Err-clause-finds : goal.returns-in-Err-clause-finds
-returns-in-Err-clause-finds g c = λ out. rw c.line_fault.ensures (FindsLine-none c.args.self.now.options _ out _ _ _ _ refl c.requires
+returns-in-Err-clause-finds g c = λ out. rw c.line_fault.ensures (FindsLine-none c.args.self.now.options _ out _ _ _ _ refl c.requires.room
     (stops_unread c.args.self.now.options (g.J.LineJob.answers c.args.self.now.job) _ _ _ c.in-Err.fault c.in-Err.ensures.line))
 
 pub returns-in-Err-clause-read : goal.returns-in-Err-clause-read
@@ -20,17 +20,17 @@ returns-in-Err-clause-too_many g c = λ e. absurd (line_fault-counted c.in-Err.f
 pub returns-in-Missing-clause-finds : goal.returns-in-Missing-clause-finds
 returns-in-Missing-clause-finds g c = λ out.
     let end = rw c.in-Missing.is at c.in-Ok.ensures.line in
-    FindsLine-none c.args.self.now.options _ out _ _ _ _ refl c.requires (end.1, end.0)
+    FindsLine-none c.args.self.now.options _ out _ _ _ _ refl c.requires.room (end.1, end.0)
 
 pub returns-in-Err-make-clause-finds : goal.returns-in-Err-make-clause-finds
-returns-in-Err-make-clause-finds g c = λ out. FindsLine-none c.args.self.now.options _ out _ _ _ _ refl c.requires
+returns-in-Err-make-clause-finds g c = λ out. FindsLine-none c.args.self.now.options _ out _ _ _ _ refl c.requires.room
     (stops_refused c.args.self.now.options (g.J.LineJob.answers c.args.self.now.job) _ _ _ _ c.in-Ok.met c.in-Err-make.fault c.in_default.not-Missing
     c.in-Ok.ensures.line c.deref.ensures.value c.in-Err-make.ensures)
 
 pub returns-then-is_err-clause-finds : goal.returns-then-is_err-clause-finds
 returns-then-is_err-clause-finds g c = λ out.
     let same : c.extend_from_slice.new.self.items ≡ c.args.buffers.now.block.items = search rules in
-    FindsLine-none c.args.self.now.options _ out _ _ _ _ same c.requires
+    FindsLine-none c.args.self.now.options _ out _ _ _ _ same c.requires.room
     (stops_refused c.args.self.now.options (g.J.LineJob.answers c.args.self.now.job) _ _ _ _ c.in-Ok.met _ c.in_default.not-Missing
     c.in-Ok.ensures.line refl (inl refl))
 
