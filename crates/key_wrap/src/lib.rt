@@ -22,11 +22,12 @@ mod rewrapping;
 pub use faults::{KindFault, UnwrapFault, WrapFault};
 pub use key_wrap_core::{
     AgreedForm, Form, FoundKey, InPlaceFault, InitialValue, Kind, MAX_KEY, Refusal, ReservedIv,
-    RewrapForms, Rewrapped, key_length_ok, kind_into, kind_into_with, one_key_law, one_result_law,
-    one_text_law, padded_length_ok, padded_text_length_ok, rewrap as rewrap_in_place,
-    rewrap_length_ok, text_length_ok, unwrap_any_in_place, unwrap_any_into, unwrap_in_place,
-    unwrap_into, unwrap_into_with, unwrap_padded_in_place, unwrap_padded_into, wrap_in_place,
-    wrap_into, wrap_into_with, wrap_padded_in_place, wrap_padded_into,
+    RewrapForms, Rewrapped, key_length_ok, kind_into, kind_into_with, one_form_law, one_key_law,
+    one_result_law, one_text_law, padded_length_ok, padded_text_length_ok,
+    rewrap as rewrap_in_place, rewrap_length_ok, text_length_ok, unwrap_any_in_place,
+    unwrap_any_into, unwrap_in_place, unwrap_into, unwrap_into_with, unwrap_padded_in_place,
+    unwrap_padded_into, wrap_in_place, wrap_into, wrap_into_with, wrap_padded_in_place,
+    wrap_padded_into,
 };
 pub use key_wrap_steps::{
     begin_unwrap, begin_unwrap_padded, begin_wrap, begin_wrap_padded, end_unwrap,

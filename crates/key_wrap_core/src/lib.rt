@@ -42,7 +42,7 @@ pub use initial_value::InitialValue;
 pub use into::{unwrap_into, unwrap_padded_into, wrap_into, wrap_padded_into};
 pub use into_with::{unwrap_into_with, wrap_into_with};
 pub use kinds::{kind_into, kind_into_with};
-pub use laws::{one_key_law, one_text_law};
+pub use laws::{one_form_law, one_key_law, one_text_law};
 pub use lengths::{
     MAX_KEY, WORD, key_length_ok, padded_length_ok, padded_text_length_ok, text_len, text_length_ok,
 };
