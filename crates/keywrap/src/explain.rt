@@ -1,5 +1,8 @@
 //! Why a run was refused: the fault, the file that caused it, and the reason.
 
+ghost use Rattle.std.specs.Prelude.{◌≡◌, ◌≢◌};
+ghost use Rattle.keywrap_cli.specs.Faults.{program_status};
+
 use crate::command::Run;
 use key_files::{FileFault, MAX_FILE};
 use key_lines::LineFault;
@@ -50,7 +53,10 @@ pub fn open_fault(role: FileRole) -> ProgramFault {
 
 /// Prints the line of a fault, and returns its exit status. Nothing is left to do if standard error
 /// is closed.
-pub fn print_fault<R: Eprint>(rt: &R, fault: &ProgramFault) -> u8 {
+pub fn print_fault<R: Eprint>(rt: &R, fault: &ProgramFault) -> u8
+    ensures status { result ≡ program_status fault.now }
+    ensures failed { result ≢ 0 }
+{
     let _ = rt.eprintln(fault);
     fault.status()
 }

@@ -1,5 +1,8 @@
 //! The program, from its arguments to its exit status.
 
+ghost use Rattle.std.specs.Prelude.{◌≡◌, ◌≢◌, MatchResult};
+ghost use Rattle.keywrap_cli.specs.Faults.{program_status};
+
 use crate::cli::{CommandStop, read_command};
 use crate::command::Command;
 use crate::explain::print_fault;
@@ -46,7 +49,11 @@ fn run_command<R: System>(rt: &R, command: &Command<'_>, streams: Streams) -> u8
     status_of(rt, result)
 }
 
-fn status_of<R: Eprint>(rt: &R, done: Result<u8, ProgramFault>) -> u8 {
+// No fault has status 0.
+fn status_of<R: Eprint>(rt: &R, done: Result<u8, ProgramFault>) -> u8
+    ensures { MatchResult done (λ status. result ≡ status)
+        (λ fault. (result ≡ program_status fault) × (result ≢ 0)) }
+{
     match done {
         Ok(status) => status,
         Err(fault) => print_fault(rt, &fault),
