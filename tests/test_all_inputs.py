@@ -10,7 +10,7 @@ import sys
 
 import pytest
 
-from all_inputs import bugs
+from all_inputs import bugs, planted
 from builds import VERSION, run
 from program import all_of, slow
 from tools import missing, need
@@ -27,6 +27,15 @@ def check(*words):
     return run(PYTHON, "-B", CHECKER / "check.py", *words)
 
 
+def checker(*words):
+    """How the checker ended."""
+    return subprocess.run(
+        [sys.executable, "-B", CHECKER / "check.py", *map(str, words)],
+        capture_output=True,
+        text=True,
+    )
+
+
 @pytest.fixture
 def made(once, built):
     """made(NAME) is an object that the checker reads."""
@@ -38,6 +47,9 @@ def made(once, built):
                 shutil.copy(ROOT / "dist" / file, directory)
             run("make", "-s", "-C", directory, "shared", "CC=gcc")
             (directory / "libkeywrap.so.1").rename(directory / "object")
+        elif name == "back doors":
+            need("gcc")
+            planted.main(directory / "object")
         elif name == "keywrap.c by clang for wasm32":
             need("clang", "wasm-ld")
             run(
@@ -84,8 +96,8 @@ OBJECTS = {
 BRANCHING = set(
     """
 unwrap unwrap_in_place unwrap_padded unwrap_padded_in_place unwrap_any unwrap_many kind kind_many rewrap
-rewrap_in_place rewrap_steps rewrap_many end_unwrap end_unwrap_padded end_unwrap_any end_unwrap_many
-wrap_with unwrap_with begin_wrap begin_wrap_many unmarked""".split()
+rewrap_in_place rewrap_same_kek unwrap_of_kek rewrap_steps rewrap_many end_unwrap end_unwrap_padded
+end_unwrap_any end_unwrap_many wrap_with unwrap_with begin_wrap begin_wrap_many unmarked""".split()
 )
 
 
@@ -98,20 +110,18 @@ def test_needs_only_python():
 
 
 def test_what_must_be_believed_is_counted():
-    """The table of README.md, with at most 2,700 lines that are not blank."""
-    rows = re.findall(
-        r"^\| ([^|]*`[^|]*) \| (\d+) \|", (CHECKER / "README.md").read_text(), re.M
-    )
-    total = 0
-    for files, count in rows:
-        lines = [
-            line
-            for name in re.findall("`([^`]*)`", files)
-            for line in (CHECKER / name).read_text().splitlines()
-        ]
-        assert sum(map(bool, map(str.strip, lines))) == int(count), files
-        total += int(count)
-    assert 2000 < total <= 2700
+    """README.md names every file and says, to the nearest hundred, how many lines they have."""
+    text = (CHECKER / "README.md").read_text()
+    believed = text[text.index("## What you have to believe") :]
+    rows = re.findall(r"^\| ([^|]*`[^|]*) \|", believed, re.M)
+    files = [name for row in rows for name in re.findall("`([^`]*)`", row)]
+    only_to_test = {"hints.py", "second.py", "test_checker.py"}
+    assert {*files} | only_to_test == {path.name for path in CHECKER.glob("*.py")}
+    lines = [
+        line for name in files for line in (CHECKER / name).read_text().split("\n")
+    ]
+    said = int(re.search(r"about ([\d,]+) lines", believed)[1].replace(",", ""))
+    assert abs(sum(map(bool, map(str.strip, lines))) - said) <= 50
 
 
 @pytest.mark.parametrize("name", all_of(list(OBJECTS), [], in_gate=["keywrap.wasm"]))
@@ -125,7 +135,7 @@ def test_checker(made, name):
 def branching(said):
     """The calls that branch on input bytes, by the lines of the output."""
     return {
-        line.split()[1]
+        line.split()[1].removesuffix("_at_every_length")
         for line in said.splitlines()
         if line.startswith("[") and "branches: none" not in line
     }
@@ -158,7 +168,10 @@ def test_short_list_of_each_object(made, name):
         "libkeywrap_hw": "none",
     }.get(name, ".*")
     assert re.search(f"^look-ups in tables: {tables}$", said, re.M)
-    shuffling = set(re.findall(r"^\[\S+ (\w+).* [1-9]\d* in registers", said, re.M))
+    with_aes = [line for line in said.splitlines() if ", a processor that" not in line]
+    shuffling = set(
+        re.findall(r"^\[\S+ (\w+).* [1-9]\d* in registers", "\n".join(with_aes), re.M)
+    )
     assert name != "libkeywrap_hw" or shuffling == {"kek_init"}
 
 
@@ -177,7 +190,9 @@ def test_evidence_is_of_this_object(made, name):
         ), f"of another object: run scripts/evidence.sh {output.name}"
 
 
-@pytest.mark.parametrize("name", all_of(["keywrap.wasm", "libkeywrap_hw"], []))
+@pytest.mark.parametrize(
+    "name", all_of(["keywrap.wasm", "libkeywrap_hw"], [], in_gate=["libkeywrap_hw"])
+)
 def test_long_list(made, name):
     check(made(name), "long")
     if name == "libkeywrap_hw":  # a lane of 48, and the slot behind them
@@ -204,6 +219,43 @@ def test_bug_is_refused(tmp_path, name):
     assert bugs.refused_by(bugs.planted(MODULE, name, tmp_path))
 
 
+@pytest.mark.needs("wasm2wat")
+@pytest.mark.parametrize(
+    "name",
+    all_of(
+        list(bugs.AT_SOME_LENGTHS),
+        ["wrap: a key of 4,000 bytes"],
+        in_gate=[*bugs.AT_SOME_LENGTHS][::3],
+    ),
+)
+def test_bug_at_some_lengths_is_refused(tmp_path, name):
+    """Most of them pass every list of lengths."""
+    bugs.planted(MODULE, name, tmp_path)
+    checked = bugs.check.load(tmp_path / "bug.wasm", seed=1)
+    call = name.split(":")[0]
+    assert refusals(checked, f"{call}_at_every_length 16")
+
+
+def refusals(checked, call):
+    """What a loaded object is refused for by a call, in each setting."""
+    name, *numbers = call.split()
+    todo = bugs.check.all_todo(checked.module, name, [int(n) for n in numbers])
+    results = [result for result, _ in map(checked.tried, todo)]
+    return [result for result in results if isinstance(result, str)]
+
+
+@slow
+def test_back_doors_in_machine_code_are_refused(made):
+    """Code that could tell a check from a run, and calls that no list made before 1.3."""
+    checked = bugs.check.load(made("back doors"), seed=1)
+    missed = []
+    for bug in planted.BUGS:
+        said = refusals(checked, bug.call)
+        if not any(re.search(bug.said, text) for text in said):
+            missed.append((bug.name, said))
+    assert not missed
+
+
 # In portable C: the call that refuses it, what it says, and the edits.
 IN_C = [
     (
@@ -222,7 +274,7 @@ IN_C = [
         "",
         [
             (r"(int32_t keywrap_rewrap\([^;{]*)uint32_t flags", r"\1uint64_t flags"),
-            (r" +OR_PROVED\(rewrap, .*", "    if (flags > 15) wrapped_len = 1;"),
+            (r" +OR_PROVED\(rewrap, [^;]*;", "    if (flags > 15) wrapped_len = 1;"),
         ],
     ),
 ]
@@ -248,18 +300,85 @@ def test_bug_in_machine_code_is_refused(tmp_path, call, said, edits):
         "-o",
         tmp_path / "bug.so",
     )
-    ended = subprocess.run(
-        [
-            sys.executable,
-            "-B",
-            CHECKER / "check.py",
-            tmp_path / "bug.so",
-            *call.split(),
-        ],
-        capture_output=True,
-        text=True,
-    )
+    ended = checker(tmp_path / "bug.so", *call.split())
     assert ended.returncode == 1 and f"REFUSED: {said}" in ended.stdout, ended.stdout
+
+
+@pytest.fixture
+def addresses(made):
+    """The addresses of the exports of keywrap.c by gcc."""
+    said = run("nm", "-D", "--defined-only", made("keywrap.c by gcc"))
+    return {name: int(at, 16) for at, _, name in map(str.split, said.splitlines())}
+
+
+@slow
+def test_exports_are_what_the_loader_finds(made, addresses, tmp_path):
+    """The table of all symbols, which the loader does not read, still has the right address."""
+    names = "keywrap_wrap", "keywrap_unwrap"
+    content = made("keywrap.c by gcc").read_bytes()
+    path = tmp_path / "object.so"
+    path.write_bytes(planted.with_other_symbol(content, *map(addresses.get, names)))
+    ended = checker(path, "wrap", "16", "24")
+    assert ended.returncode == 1 and "REFUSED" in ended.stdout
+
+
+@slow
+def test_code_is_what_the_loader_takes(made, addresses, tmp_path):
+    """The sections still show the right code, which objdump prints."""
+    at = addresses["keywrap_wrap"]
+    content = made("keywrap.c by gcc").read_bytes()
+    relocated = run("objdump", "-R", made("keywrap.c by gcc"))
+    place = int(re.search(r"^(\w+) R_X86_64_RELATIVE", relocated, re.M)[1], 16)
+    path = tmp_path / "object.so"
+    for changed, said in (
+        (
+            planted.with_other_code(content, at, b"\x31\xc0\xc3"),
+            "the loader puts there",
+        ),
+        (
+            planted.with_relocated_code(content, place, at),
+            "a relocation of code or constants",
+        ),
+    ):
+        path.write_bytes(changed)
+        ended = checker(path, "wrap", "16", "16")
+        assert ended.returncode == 2 and said in ended.stderr, ended
+
+
+@slow
+def test_reads_a_stripped_library(made, tmp_path):
+    path = tmp_path / "object.so"
+    run("strip", "-o", path, made("keywrap.c by gcc"))
+    assert "REFUSED" not in check(path, "wrap", "16", "16")
+
+
+@pytest.mark.needs("wasm2wat")
+@pytest.mark.parametrize("name", ["keywrap_kind", "keywrap_begin_wrap_slot"])
+def test_names_unknown_and_missing_exports(tmp_path, name):
+    """An export that is missed only if keywrap.h has it, and one that nobody knows."""
+    text = run("wasm2wat", MODULE).replace(f'"{name}"', f'"{name}s"')
+    (tmp_path / "other.wat").write_text(text)
+    run("wat2wasm", tmp_path / "other.wat", "-o", tmp_path / "other.wasm")
+    wrong = bugs.check.wrong_exports(bugs.wasm.Module(tmp_path / "other.wasm"))
+    missing = [f"{name}: not exported"] * (name == "keywrap_kind")
+    assert wrong == [*missing, f"{name}s: an export that is not in the headers"]
+
+
+def test_look_ups_can_be_refused():
+    """Without the option they are counted. With it, a call that is not named may not have them."""
+    for options, status in ([], 0), (["--look-ups=none"], 1), (["--look-ups=wrap"], 0):
+        assert checker(MODULE, "wrap", "16", "16", *options).returncode == status
+
+
+def test_same_seed_same_places():
+    """A run with the seed that another one printed has its lines, but for their seconds."""
+    said = check(MODULE, "unwrap", "16", "16")
+    seed = re.search("--seed=\\d+", said)[0]
+    again = check(MODULE, "unwrap", "16", "16", seed)
+    without_seconds = [
+        re.sub(r"[\d.]+ s( of|$)", "", text, flags=re.M) for text in (said, again)
+    ]
+    assert without_seconds[0] == without_seconds[1]
 
 
 @pytest.mark.needs("wasm2wat")
@@ -283,13 +402,11 @@ def test_refuses_other_objects(tmp_path):
         [MODULE, "wrap", "16", "x"],
         [MODULE, *"short 1 1".split()],
         [MODULE, "short", "x"],
+        [MODULE, "wrap", "16", "16", "--look-ups=encrypt"],
+        [MODULE, "wrap", "16", "16", "--seed=x"],
         [],
     ]:
-        ended = subprocess.run(
-            [sys.executable, "-B", CHECKER / "check.py", *words],
-            capture_output=True,
-            text=True,
-        )
+        ended = checker(*words)
         assert (ended.returncode, ended.stdout) == (
             2,
             "",

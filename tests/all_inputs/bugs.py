@@ -20,12 +20,19 @@ import lists  # noqa: E402
 import wasm  # noqa: E402
 from terms import Refused  # noqa: E402
 
-ROWS = [
-    [part.strip() for part in line.split(" | ")]
-    for line in (HERE / "bugs.txt").read_text().splitlines()
-    if line.strip() and not line.startswith("#")
-]
-BUGS = {name: what for name, *what in ROWS}
+
+def rows(name):
+    """Returns the rows of a file, by their names."""
+    lines = (HERE / name).read_text().splitlines()
+    split = [
+        [part.strip() for part in line.split(" | ")]
+        for line in lines
+        if line.strip() and not line.startswith("#")
+    ]
+    return {name: what for name, *what in split}
+
+
+BUGS, AT_SOME_LENGTHS = rows("bugs.txt"), rows("lengths.txt")
 FUNCTION = re.compile(
     r"  \(func \(;(\d+);\)((?:.*\n)*?)(?=  \((?:func|table|memory|global|export) )"
 )
@@ -103,7 +110,7 @@ class Text:
 
 def planted(file, name, directory):
     """Returns the module with this bug."""
-    where, old, new = BUGS[name]
+    where, old, new = (BUGS | AT_SOME_LENGTHS)[name]
     result = pathlib.Path(directory, "bug.wasm")
     if where == "data":
         content, before = bytearray(pathlib.Path(file).read_bytes()), bytes.fromhex(old)
@@ -122,9 +129,9 @@ def planted(file, name, directory):
 
 
 def refused_by(module):
-    """Returns the first call of the short list that is refused and the reason, or None."""
-    for name, *numbers in lists.short_list():
-        if check.is_exported(module, name):
+    """Returns the first call of one length in the short list that is refused and the reason, or None."""
+    for name, *numbers in lists.parsed(lists.SHORT):
+        if check.is_made(module, name):
             try:
                 calls.perform(module, name, numbers)
             except Refused as reason:

@@ -47,7 +47,7 @@ def noted(kind, what, met):
 
 class Sweep:
     def __init__(self, path):
-        self.module = check.load(path)
+        self.module = check.load(path, seed=0).module
         self.bodies = (
             [body for _, body in self.module.code]
             if isinstance(self.module, wasm.Module)
@@ -57,8 +57,8 @@ class Sweep:
         self.steps = 0
         found = [
             self.followed(call)
-            for call in lists.short_list()
-            if check.is_exported(self.module, call[0])
+            for call in lists.parsed(lists.SHORT)
+            if check.is_made(self.module, call[0])
         ]
         for _, call, met in sorted(found, key=lambda one: one[0]):
             for use in met:

@@ -1,27 +1,35 @@
 """The calls of the library: what each returns and writes by keywrap.h and keywrap_steps.h, in terms of standard.py."""
 
+import re
+from pathlib import Path
+
 import standard
 import terms
 import wasm
 import x86
 from paths import byte_of, cell_of
-from terms import Known, Refused, input_byte, shl, xor
+from places import place
+from terms import Known, Refused, and_, input_byte, shl, xor
 from turns import Turns
 
 STACK = 40960
-OK, ALREADY_NEW, BAD_IV, BAD_KEK, BAD_LENGTH, INTEGRITY, KEY_NOT_PLAIN = (
+OK, ALREADY_NEW, BAD_IV, BAD_KEK, BAD_LENGTH, INTEGRITY, NO_MEMORY, KEY_NOT_PLAIN = (
     0,
     1,
     2,
     3,
     4,
     5,
+    7,
     8,
 )
+KNOWN_STATUSES = OK, BAD_IV, BAD_KEK, BAD_LENGTH, INTEGRITY, NO_MEMORY, KEY_NOT_PLAIN
+NO_STATUS = 6
 OLD_PADDED, NEW_PADDED, KEEP_FORM, PASS_NEW = 1, 2, 4, 8
 LONGEST = 1048576
 PLAIN, PADDED = 0, 1
 KEPT_KEKS, MARK = (184, 216, 248), list(b"kept KEK")
+HEADER = Path(__file__).resolve().parents[2] / "keywrap.h"
 
 
 def any_bytes(name, n):
@@ -53,17 +61,27 @@ class Result:
 
 
 class Call:
-    """A call of an export. Its arguments are added in the order of the header. `gap` bytes are between two buffers."""
+    """A call of an export. Its arguments are added in the order of the header. At least `gap` bytes are between two
+    buffers. If it is 0, then none is, and the first buffer is where the memory of a caller begins.
+    """
 
     def __init__(self, given, name):
         self.module, self.gap, self.result = given.module, given.gap, given.result
-        self.name, self.args, self.inputs, self.writes = name, [], {}, {}
-        self.at = -(-self.module.heap // 8) * 8 + 16
+        self.name, self.args, self.inputs, self.writes, self.result_bits = (
+            name,
+            [],
+            {},
+            {},
+            32,
+        )
+        self.at = place(self.module.heap, 65536) if self.gap else self.module.heap
 
     def place(self, content, to, *numbers):
         to.update(enumerate(map(cell_of, content), self.at))
         self.args += [self.at, *numbers]
-        self.at += len(content) + self.gap
+        self.at += len(content)
+        if self.gap:
+            self.at = place(self.at + self.gap, 64)
         return self
 
     def reads(self, content, sized=True):
@@ -107,6 +125,7 @@ class Call:
         run = (x86 if isinstance(self.module, x86.Module) else wasm).Run(
             self.module, self.inputs, STACK
         )
+        run.keep_apart(self.writes)
         for path, status in run.call(self.name, self.args, self.writes, before):
             self.result.stack = max(self.result.stack, run.reached(path))
             left = {
@@ -118,7 +137,10 @@ class Call:
             ):
                 raise Refused("a variable that depends on the inputs")
             self.result.variables = left
-            status = 0 if self.name == "keywrap_kek_clear" else run.place(path, status)
+            if self.name == "keywrap_kek_clear":
+                status = OK
+            else:
+                status = run.place(path, and_(status, (1 << self.result_bits) - 1))
             yield path, status, [byte_of(path.memory[at]) for at in self.writes]
         self.result.steps += run.steps
         self.result.lookups += run.lookups
@@ -270,6 +292,40 @@ def wrap(given, kek_len, key_len, out_len=None, iv_len=None):
 def forks_with_iv(more):
     """Returns how often a call with an initial value may branch: whether it is reserved, and then `more` times."""
     return lambda status: 1 if status == BAD_IV else 1 + more
+
+
+def wrap_claiming(given, kek_len, key_len, out_len):
+    """A wrap with lengths that are not those of the buffers, and so long that the call has to refuse them unread."""
+    call = (
+        Call(given, "keywrap_wrap").reads(any_bytes("kek", 16), False).number(kek_len)
+    )
+    call.reads(any_bytes("key", 16), False).number(key_len)
+    call.changes(any_bytes("old", 24), False).number(out_len)
+    call.check(lambda _: (BAD_LENGTH if is_kek(kek_len) else BAD_KEK, None))
+
+
+def wrap_of_kek(given, kek_len):
+    """The key is the KEK, in the same buffer."""
+    kek = any_bytes("kek", kek_len)
+    call = Call(given, "keywrap_wrap").reads(kek)
+    call.args += call.args
+    call.changes(any_bytes("old", kek_len + 8)).check(
+        lambda _: (OK, standard.wrapped(kek, kek))
+    )
+
+
+def unwrap_of_kek(given, kek_len):
+    """The wrapped key is the KEK, in the same buffer."""
+    kek = any_bytes("kek", kek_len)
+    a, key = standard.unwrap_process(kek, kek)
+    call = Call(given, "keywrap_unwrap").reads(kek)
+    call.args += call.args
+    call.changes(any_bytes("old", kek_len - 8)).check(
+        lambda is_zero: (OK, key)
+        if standard.is_plain(a, is_zero)
+        else (INTEGRITY, [0] * (kek_len - 8)),
+        1,
+    )
 
 
 def unwrap(given, kek_len, key_len, text_len=None, iv_len=None):
@@ -535,7 +591,18 @@ class Rewrap:
 
 
 def rewrap(given, old_len, new_len, text_len, flags):
-    old_kek, new_kek = any_kek("kek", old_len), any_kek("new", new_len)
+    rewrap_under(
+        any_kek("kek", old_len), any_kek("new", new_len), given, text_len, flags
+    )
+
+
+def rewrap_same_kek(given, kek_len, text_len, flags):
+    """Both KEKs are the same buffer, as in a rewrap from form to form."""
+    kek = any_kek("kek", kek_len)
+    rewrap_under(kek, kek, given, text_len, flags)
+
+
+def rewrap_under(old_kek, new_kek, given, text_len, flags):
     text = any_bytes("text", text_len)
     one = Rewrap(old_kek, new_kek, text, flags)
 
@@ -543,13 +610,12 @@ def rewrap(given, old_len, new_len, text_len, flags):
         status, after, already = one.of(is_zero)
         return status, after + little(already, 4)
 
-    call = (
-        Call(given, "keywrap_rewrap")
-        .reads(old_kek)
-        .reads(new_kek)
-        .changes(text)
-        .number32(flags)
-    )
+    call = Call(given, "keywrap_rewrap").reads(old_kek)
+    if new_kek is old_kek:
+        call.args += call.args
+    else:
+        call.reads(new_kek)
+    call.changes(text).number32(flags)
     call.changes_numbers(any_bytes("form", 4)).check(expected, lambda _: one.forks)
 
 
@@ -820,6 +886,68 @@ def uneven_kind_many(given, texts_len, lens, forms, count):
 
 def self_test(given):
     Call(given, "keywrap_self_test").check(lambda _: (OK, None))
+
+
+# Calls without keys
+
+
+def version(given):
+    numbers = [
+        int(n)
+        for n in re.findall(
+            r"#define KEYWRAP_VERSION_(?:MAJOR|MINOR|PATCH) (\d+)", HEADER.read_text()
+        )
+    ]
+    major, minor, patch = numbers
+    Call(given, "keywrap_version").check(
+        lambda _: (major << 16 | minor << 8 | patch, None)
+    )
+
+
+def step_count(given, n):
+    call = Call(given, "keywrap_step_count").number(n)
+    call.result_bits = 64
+    call.check(lambda _: (steps_of(n), None))
+
+
+def status_text(given, status, capacity):
+    """keywrap.h does not say the texts: each is of 1 to 79 printable characters, and no two statuses share one."""
+    texts = {}
+    for each in KNOWN_STATUSES:
+        length, content = written_text(each, given, 80)
+        texts[each] = bytes(content[:length])
+        if not (
+            0 < length < 80
+            and texts[each].isascii()
+            and texts[each].decode().isprintable()
+        ):
+            raise Refused(f"the text of status {each}")
+    if len({*texts.values()}) != len(texts):
+        raise Refused("two statuses with the same text")
+    unknown = written_text(NO_STATUS, given, 80)
+    text = texts.get(status, bytes(unknown[1][: unknown[0]]))
+    length, content = written_text(status, given, capacity)
+    kept = text[: max(capacity - 1, 0)]
+    old = any_bytes("old", capacity)
+    if length != len(text) or content != [
+        *kept,
+        *[0] * (capacity > 0),
+        *old[len(kept) + 1 :],
+    ]:
+        raise Refused(f"the text of status {status} in {capacity} bytes")
+    given.result.paths.append((length, []))
+
+
+def written_text(status, given, capacity):
+    """Returns the length that the call returns, and what it leaves in the buffer."""
+    call = (
+        Call(given, "keywrap_status_text")
+        .number32(status % 2**32)
+        .changes(any_bytes("old", capacity))
+    )
+    call.result_bits = 8 * given.module.size_bytes
+    ((_, length, content),) = call.ends()
+    return length, content
 
 
 # The steps. n is the length of the registers, `done` or `left` a number of steps.

@@ -2,27 +2,35 @@
 
 import itertools
 
-from calls import is_plain_key
+from calls import LONGEST, is_plain_key
 
 KEKS, KEPT = (16, 24, 32), (184, 216, 248)
 SHORT = """
 kek_init 16 184,kek_init 24 216,kek_init 32 248,kek_init 17 184,kek_init 16 183,kek_clear 184,unmarked 184
-wrap 184 16,unwrap 184 16,wrap 216 16,unwrap_padded 216 16,unwrap_any 248 16,rewrap 184 248 24 9
-begin_wrap 16 8,begin_wrap_padded 5 8,step_wrap 16 3,step_unwrap 16 3,step_wrap 87392 65535,step_unwrap 87392 65537
-step_wrap 8 0,end_wrap 16 12,begin_unwrap 16 0,begin_unwrap 88192,begin_unwrap 8 1,end_unwrap 16 0
-end_unwrap_padded 16 0,end_unwrap_any 16 0,wrap 17 16,wrap 16 8,wrap 16 17,wrap 16 20,wrap 16 16 23,unwrap 16 16 23
-wrap_padded 16 16 23,unwrap_padded 16 16 23,unwrap 16 8,unwrap_padded 16 15,wrap_padded 16 0,unwrap_padded 16 8
-wrap_padded 16 1,wrap_padded 16 17,wrap 16 16,unwrap 16 16,wrap 24 24,unwrap 24 24,wrap 32 16,unwrap 32 16
-unwrap_padded 32 16,wrap_with 16 16,unwrap_with 16 16,wrap_in_place 16 16,unwrap_in_place 16 16
-wrap_padded_in_place 16 9,unwrap_padded_in_place 16 16,unwrap_any 16 16,kind 16 16,rewrap 16 24 24 1,rewrap 16 24 24 5
-rewrap 16 32 24 8,rewrap_in_place 16 16 24 2,rewrap_steps 16 24 24 9,rewrap_steps 16 16 16 4 1,wrap_many 16 16 0 2
-unwrap_many 16 24 0 2,rewrap_many 16 16 24 0 1,kind_many 16 16 1,begin_wrap_many 16 2 2,step_wrap_many 16 3 2 2
-end_wrap_many 16 12 2 2,begin_unwrap_many 16 2 2,step_unwrap_many 16 3 2 2,end_unwrap_many 16 0 2 2
-uneven_wrap_many 49 2,uneven_unwrap_many 48 1 2,uneven_rewrap_many 49 2,uneven_kind_many 48 2 1 2,self_test,wrap 16 352
-unwrap 16 352
+wrap 16 16,wrap 184 16,wrap 216 16,wrap 24 24,wrap 32 16,wrap 32 32,wrap 16 352,wrap 17 16,wrap 17 8 8,wrap 16 8
+wrap 16 17,wrap 16 20,wrap 16 16 23,wrap_claiming 16 4294967312 24,wrap_claiming 4294967312 16 24
+wrap_claiming 16 18446744073709551608 0,wrap_claiming 16 16 4294967320,wrap_of_kek 16
+unwrap 16 16,unwrap 184 16,unwrap 24 24,unwrap 24 32,unwrap 32 16,unwrap 32 32,unwrap 16 352,unwrap 16 16 23,unwrap 16 8
+unwrap_of_kek 24,wrap_with 16 16,unwrap_with 16 16
+wrap_padded 16 1,wrap_padded 16 17,wrap_padded 32 9,wrap_padded 16 65,wrap_padded 16 0,wrap_padded 16 16 23
+unwrap_padded 16 8,unwrap_padded 32 16,unwrap_padded 216 16,unwrap_padded 16 15,unwrap_padded 16 16 23
+wrap_in_place 16 16,wrap_in_place 184 16,unwrap_in_place 16 16
+wrap_padded_in_place 16 9,wrap_padded_in_place 24 9,unwrap_padded_in_place 16 16
+unwrap_any 16 16,unwrap_any 184 16,unwrap_any 248 16,kind 16 16,kind 248 16
+rewrap 16 24 24 1,rewrap 16 24 24 5,rewrap 16 32 24 8,rewrap 32 32 40 8,rewrap 184 248 24 9,rewrap 16 24 24 65536
+rewrap_same_kek 16 24 1,rewrap_in_place 16 16 24 2,rewrap_in_place 16 32 24 1
+rewrap_steps 16 24 24 9,rewrap_steps 16 16 16 4 1,rewrap_steps 16 24 40 0
+wrap_many 16 16 0 2,wrap_many 16 16 0 3,wrap_many 24 16 0 3,unwrap_many 16 24 0 2,rewrap_many 16 16 24 0 1
+kind_many 16 16 1,uneven_wrap_many 49 2,uneven_unwrap_many 48 1 2,uneven_rewrap_many 49 2,uneven_kind_many 48 2 1 2
+begin_wrap 16 8,begin_wrap_padded 5 8,step_wrap 16 3,step_wrap 8 0,step_wrap 87392 65535,end_wrap 16 12
+begin_unwrap 16 0,begin_unwrap 88192,begin_unwrap 8 1,step_unwrap 16 3,step_unwrap 87392 65537,end_unwrap 16 0
+end_unwrap_padded 16 0,end_unwrap_any 16 0,begin_wrap_many 16 2 2,step_wrap_many 16 3 2 2,end_wrap_many 16 12 2 2
+begin_unwrap_many 16 2 2,step_unwrap_many 16 3 2 2,end_unwrap_many 16 0 2 2
+version,status_text 5 80,status_text 0 3,status_text -1 0,self_test
+step_count 8,step_count 16,step_count 4096,step_count 1048576
 """
 FLAGS = (0, 1, 2, 3, 4, 8, 9, 10, 11, 12)
-NO_FLAGS = (5, 6, 7, 13, 14, 15, 16, 32, 256, 1 << 31)
+NO_FLAGS = (5, 6, 7, 13, 14, 15, *(1 << bit for bit in range(4, 32)))
 IN_PLACE = (
     "wrap_in_place",
     "unwrap_in_place",
@@ -70,8 +78,32 @@ def parsed(text):
             yield name, *map(int, numbers)
 
 
+def every_length_list():
+    """The calls for one key at every length, of a module."""
+    for kek, name in itertools.product((*KEKS, *KEPT), FOR_ONE_KEY):
+        yield f"{name}_at_every_length", kek
+
+
+def is_covered(name, *numbers):
+    """Whether a call is one of those at every length: of a key of two registers or more, with the right lengths."""
+    if name not in FOR_ONE_KEY or len(numbers) != 2:
+        return False
+    kek, length = numbers
+    is_whole = name.startswith("wrap_padded") or length % 8 == 0
+    return kek in (*KEKS, *KEPT) and is_whole and 8 < length <= LONGEST
+
+
 def short_list():
-    return parsed(SHORT)
+    yield from parsed(SHORT)
+    yield from every_length_list()
+
+
+def one_of_each():
+    """The first call of the short list for each name."""
+    found = {}
+    for name, *numbers in short_list():
+        found.setdefault(name, (name, *numbers))
+    return found.values()
 
 
 def lengths_list(keks, most, most_in_place):
@@ -234,6 +266,7 @@ def refusals_list():
 
 
 def long_list():
+    yield from every_length_list()
     yield from middle_list()
     yield from kept_list()
     yield from lengths_list(KEKS, 24, 16)
@@ -248,6 +281,7 @@ def long_list():
 
 
 def full_list():
+    yield from every_length_list()
     yield from parsed(FAR)
     yield from middle_list()
     yield from kept_list()

@@ -104,7 +104,7 @@ class Path:
     the call before, if there is one."""
 
     def __init__(self, memory, state, before=None):
-        self.memory, self.state = memory, state
+        self.memory, self.state, self.stopped = memory, state, None
         self.known, self.excluded, self.forks = (
             (before.known, before.excluded, before.forks)
             if before
@@ -159,14 +159,39 @@ class Machine:
 
     def __init__(self, module, inputs, stack):
         self.module, self.stack = module, stack
-        self.unwritten = module.variables | inputs | module.constants
+        self.unwritten = module.variables | inputs
         self.steps = self.lookups = self.shuffles = 0
         self.tables = {}
 
+    def keep_apart(self, memory):
+        """Refuses places that have two meanings: of what is only read, what is written, variables, constants, stack."""
+        constants, stack, variables = (
+            self.module.constants,
+            self.stack,
+            self.module.variables,
+        )
+        places = [
+            *self.unwritten,
+            *(at for at in memory if at not in stack and at not in variables),
+        ]
+        if len({*places}) != len(places) or any(
+            at in constants or at in stack for at in places
+        ):
+            raise Refused("places with two meanings")
+
     def cells(self, path, at, n):
-        memory, unwritten, found = path.memory, self.unwritten, []
+        memory, unwritten, constants, found = (
+            path.memory,
+            self.unwritten,
+            self.module.constants,
+            [],
+        )
         for i in range(at, at + n):
-            cell = memory[i] if i in memory else unwritten.get(i)
+            cell = memory.get(i)
+            if cell is None:
+                cell = unwritten.get(i)
+            if cell is None:
+                cell = constants.get(i)
             if cell is None:
                 if i not in self.stack:
                     raise Refused(f"a load at {i:#x}")

@@ -533,7 +533,7 @@ class Known:
 
     def reduced(self, v):
         """Returns the value without pivots."""
-        if isinstance(v, int) or not self.rows:
+        if not isinstance(v, (V, N)) or not self.rows:
             return v
         if isinstance(v, N):
             if v not in self.memo:
@@ -704,12 +704,17 @@ def zero_cases(v, known):
     raise Refused(f"a decision over {show(v)[:200]}")
 
 
+def less_by(a, i, w):
+    """Returns a - i, as a value of w bits. lengths.py adds numbers that are not known."""
+    return a - i & 2**w - 1
+
+
 def less_cases(v, limit, known):
     """Returns systems of equations. For an input for which `known` holds, v < limit if and only if one holds."""
     if isinstance(v, N) and isinstance(limit, int) and limit <= 256:
         a, b, *w = v.args
-        if v.op == "sub" and isinstance(a, int):
-            values = [(b, a - i & 2 ** w[0] - 1) for i in range(limit)]
+        if v.op == "sub" and not isinstance(a, (V, N)):
+            values = [(b, less_by(a, i, w[0])) for i in range(limit)]
         elif v.op == "add" and (isinstance(a, int) or isinstance(b, int)):
             a, b = (b, a) if isinstance(a, int) else (a, b)
             values = [(a, i - b & 2 ** w[0] - 1) for i in range(limit)]

@@ -13,6 +13,7 @@ import subprocess
 import sys
 import tempfile
 
+import linear
 import second
 import standard
 import terms
@@ -329,6 +330,34 @@ def older_atoms():
     assert both.implies(one) and not one.implies(both)
 
 
+def inequalities(count):
+    """What follows from inequalities is true for all small numbers for which they hold, and little more is."""
+    rng, found, possible = random.Random(6), 0, 0
+    for _ in range(count):
+        sums = [
+            linear.settled(
+                rng.randint(-6, 6), {name: rng.randint(-3, 3) for name in "xyz"}
+            )
+            for _ in range(rng.randint(1, 5))
+        ]
+        sums += [linear.unknown(name) + 3 for name in "xyz"]
+        sums += [3 - linear.unknown(name) for name in "xyz"]
+        holds = any(
+            all(number_of(total, dict(zip("xyz", point))) >= 0 for total in sums)
+            for point in itertools.product(range(-3, 4), repeat=3)
+        )
+        contradict = linear.contradict(sums)
+        assert not (holds and contradict), sums
+        found += contradict
+        possible += not holds
+    assert found > 0.9 * possible > 0
+
+
+def number_of(total, numbers):
+    constant, factors = linear.parts(total)
+    return constant + sum(k * numbers[name] for name, k in factors.items())
+
+
 GENERAL = [
     "rax",
     "rcx",
@@ -408,8 +437,6 @@ def aimed(operand, state, middle):
 
 def instructions(module, file, directory):
     """Compares each distinct instruction that uses only registers and memory at registers, with random numbers."""
-    with open(file, "rb") as opened:
-        data = opened.read()  # the code is at the same places in the file and in memory
     texts = {}
     for line in subprocess.run(
         ["objdump", "-d", "-w", "-M", "intel", "--no-show-raw-insn", file],
@@ -418,11 +445,17 @@ def instructions(module, file, directory):
         check=True,
     ).stdout.splitlines():
         if ":\t" in line:
-            op, operands, following, place = module.code[int(line.split(":")[0], 16)]
+            op, operands, following, place = module.code[
+                module.base + int(line.split(":")[0], 16)
+            ]
             text = line.split("\t", 1)[1]
             if op != "nop" and op in x86.SCALAR | x86.VECTOR or USES_FLAGS.match(op):
                 if not re.search(r"rip|[er]?sp\b|spl\b|rep|push|pop|cpuid", text):
-                    texts[text] = op, operands, data[place:following]
+                    texts[text] = (
+                        op,
+                        operands,
+                        bytes(module.constants[i] for i in range(place, following)),
+                    )
     cases = [(text, *what) for text, what in texts.items()]
     first = [x86.Operand(name, 0) for name in ("rax", "rcx")]
     with open(f"{directory}/test.s", "w") as file:
@@ -523,7 +556,7 @@ def whole_calls(module):
     random.seed(3)
     numbers = {
         (name, i): random.randrange(256)
-        for name in ("kek", "key", "old", "stack", "register")
+        for name in ("kek", "key", "old", "stack", "register", "below")
         for i in range(STACK)
     }
     machine, lengths = wasm if isinstance(module, wasm.Module) else x86, (24, 21, 32)
@@ -579,6 +612,7 @@ def main(file):
     systems(100)
     decisions(150)
     older_atoms()
+    inequalities(300)
     vectors()
     two_standards()
     with open(file, "rb") as opened:

@@ -25,6 +25,9 @@ from terms import (
 )
 
 STEPS = 1_000_000_000  # more instructions than any call needs
+PAGE = 65536
+LONGEST = 1048584  # bytes of a text
+JS_STACK = 8192  # js/calls.js sets the stack pointer, and clears what is below
 LOADS = {0x28: 4, 0x29: 8, 0x2D: 1, 0x2F: 2, 0x31: 1, 0x33: 2, 0x35: 4}
 STORES = {0x36: 4, 0x37: 8, 0x3A: 1, 0x3B: 2, 0x3C: 1, 0x3D: 2, 0x3E: 4}
 
@@ -74,7 +77,13 @@ class Module:
             {},
             {},
         )
-        self.functions, self.code, self.table, self.names = [], [], {}, {}
+        self.functions, self.code, self.table, self.names, self.memory_bytes = (
+            [],
+            [],
+            {},
+            {},
+            0,
+        )
         while r.at < len(data):
             kind, size = r.byte(), r.u()
             end = r.at + size
@@ -86,6 +95,8 @@ class Module:
                 )
             elif kind == 3:
                 self.functions = r.list(r.u)
+            elif kind == 5:
+                self.memory_bytes = PAGE * r.list(lambda: self.least_of(r))[0]
             elif kind == 6:
                 self.globals = r.list(lambda: (r.take(2), self.constant(r))[1])
             elif kind == 7:
@@ -115,9 +126,21 @@ class Module:
         self.heap = self.globals[self.exports["__heap_base"][1]]
         # Only the module of the JavaScript package exports its guard. It has 64-bit numbers, keywrap.c has 32-bit ones.
         self.size_bytes = 8 if "__in_call" in self.exports else 4
+        if self.size_bytes == 8:
+            self.globals[self.exports["__stack_pointer"][1]] = JS_STACK
+            if self.memory_bytes < self.heap + 2 * LONGEST:
+                raise Refused("a memory that has no room for a key and its text")
         for name, (kind, index) in self.exports.items():
             if kind == 0:
                 self.names.setdefault(index, name)
+
+    @staticmethod
+    def least_of(r):
+        """Returns the pages of a memory at the beginning."""
+        has_most, least = r.byte(), r.u()
+        if has_most:
+            r.u()
+        return least
 
     def read_names(self, r, end):
         while r.at < end:
@@ -133,8 +156,7 @@ class Module:
         assert r.byte() == 0x0B
         return value
 
-    @staticmethod
-    def body(r):
+    def body(self, r):
         end = r.u() + r.at
         local_count = sum(n for n, _ in r.list(lambda: (r.u(), r.byte())))
         code, opened = [], []
@@ -173,10 +195,10 @@ class Module:
                 sub_op = r.u()
                 r.take({10: 2, 11: 1}[sub_op])
                 code.append([0xFC00 + sub_op])
-            elif op in BINARY:
-                code.append([0x6A, BINARY[op]])
-            elif op in UNARY:
-                code.append([0x45, UNARY[op]])
+            elif op in self.binary:
+                code.append([0x6A, self.binary[op]])
+            elif op in self.unary:
+                code.append([0x45, self.unary[op]])
             elif op in (0, 1, 0x0F, 0x1A, 0x1B):
                 code.append([op])
             elif op != 0xAD:  # a number of 32 bits becomes one of 64 bits
@@ -237,6 +259,9 @@ for start, w in (0x48, 32), (0x53, 64):
     BINARY[start + 6] = lambda a, b, w=w: int(signed(a, w) >= signed(b, w))
 
 
+Module.unary, Module.binary = UNARY, BINARY
+
+
 class State:
     """The frames (function, code, number of results, stack, locals, labels) and the globals. The first item of a stack
     is the next instruction, if the frame is not the one that runs."""
@@ -254,7 +279,7 @@ class State:
 class Run(Machine):
     def __init__(self, module, inputs, stack):
         top = module.globals[module.exports["__stack_pointer"][1]]
-        super().__init__(module, inputs, range(top - stack, top))
+        super().__init__(module, inputs, range(max(top - stack, 0), top))
 
     def call(self, name, args, memory, before=None):
         """Yields each path at the end of the call, with its status."""
@@ -271,6 +296,19 @@ class Run(Machine):
         path.state.frames.append(
             [index, code, len(results), [0], args + [0] * local_count, []]
         )
+
+    def stops_at(self, path, function, pc, is_back):
+        """Whether the run ends at this loop, at its beginning or when it goes back to it. lengths.py asks for that."""
+        return False
+
+    def low_cells(self, v, n):
+        return cells_of(and_(v, 2 ** (8 * n) - 1), n)
+
+    def copy(self, path, to, source, n):
+        self.store(path, to, self.cells(path, source, n))
+
+    def fill(self, path, to, byte, n):
+        self.store(path, to, cells_of(byte, 1) * n)
 
     def decided(self, path, frame, pc, waiting):
         """Whether the condition on the stack is known on this path. If it is not, several paths wait instead."""
@@ -324,13 +362,13 @@ class Run(Machine):
                     )
                 elif op == 0x36:
                     v, n = pop(), instruction[2]
-                    self.store(
-                        path,
-                        self.place(path, pop()) + instruction[1],
-                        cells_of(and_(v, 2 ** (8 * n) - 1), n),
-                    )
+                    at = self.place(path, pop()) + instruction[1]
+                    self.store(path, at, self.low_cells(v, n))
                 elif op in (2, 3):
                     labels.append((op, pc, instruction[2], len(stack), instruction[1]))
+                    if op == 3 and self.stops_at(path, frame[0], pc, False):
+                        stack[0] = pc + 1
+                        return True
                 elif op in (0x0C, 0x0D, 0x0E, 4):
                     if op == 0x0E:
                         v = self.place(path, pop())
@@ -368,6 +406,9 @@ class Run(Machine):
                         del stack[height:]
                         if depth:
                             del labels[-depth:]
+                        if self.stops_at(path, frame[0], start, True):
+                            stack[0] = start + 1
+                            return True
                         pc = start
                     else:
                         if arity:
@@ -411,10 +452,10 @@ class Run(Machine):
                     state.globals[instruction[1]] = pop()
                 elif op == 0xFC0A:
                     n, source, to = (self.place(path, pop()) for _ in range(3))
-                    self.store(path, to, self.cells(path, source, n))
+                    self.copy(path, to, source, n)
                 elif op == 0xFC0B:
                     n, v, to = self.place(path, pop()), pop(), self.place(path, pop())
-                    self.store(path, to, cells_of(and_(v, 255), 1) * n)
+                    self.fill(path, to, and_(v, 255), n)
                 elif op == 0:
                     raise Refused("unreachable")
                 pc += 1

@@ -1,12 +1,15 @@
-"""Machine code for x86-64, as objdump prints it for a shared object, and its execution for all inputs at once."""
+"""Machine code for x86-64, as objdump prints it for a shared object, and its execution for all inputs at once.
+elf.py has the memory of the object. objdump only says which instruction some bytes are."""
 
 import re
 import subprocess
 from functools import lru_cache
 from operator import and_ as iand, or_ as ior, xor as ixor
 
+from elf import Image
 from nibbles import F, look, xor_bytes
 from paths import Machine, Path, byte_of, cell_of, cells_of, joined
+from places import place
 from standard import mix_columns
 from terms import (
     M64,
@@ -31,8 +34,13 @@ from terms import (
 )
 
 STEPS = 100_000_000  # more instructions than any call needs
-RETURNED = 0x7FFF_7EA1_D1B5  # the address of the caller
-STACK = 0x7FFE_0000_0000
+# Where Linux puts objects, stack and heap. The ranges do not overlap.
+OBJECTS, LIBRARIES, CALLERS = (
+    (0x7E00_0000_0000, 1 << 38),
+    (0x7D00_0000_0000, 1 << 38),
+    (0x7F00_0000_0000, 1 << 38),
+)
+STACKS, HEAPS = (0x7FFE_0000_0000, 1 << 32), (0x5500_0000_0000, 1 << 40)
 NAMES = "rax rcx rdx rbx rsp rbp rsi rdi".split()
 ARGUMENTS = ["rdi", "rsi", "rdx", "rcx", "r8", "r9"]
 PRESERVED = ["rbx", "rbp", "rsp", "r12", "r13", "r14", "r15"]
@@ -83,90 +91,99 @@ class Operand:
             self.value = int(text.split()[0], 0 if "0x" in text else 16)
 
 
+JUMP = re.compile("call|jmp|j[a-z]+")
+LINE = re.compile(
+    r" *([0-9a-f]+):\t((?:[0-9a-f]{2} )+) *\t(.*?)(?: +# ([0-9a-f]+)(?: <.*)?)?"
+)
+PREFIX = re.compile("(?:bnd|notrack) +")
+NOP = re.compile("(?:data16 |cs )*nop|xchg +ax,ax|endbr64")
+
+
 class Module:
+    """A shared object. An instruction is [name, operands, the address of the next one, its address]. What cpuid puts
+    into each register is `cpuid`: all bits, or none."""
+
     size_bytes = 8
 
     def __init__(self, path):
-        def objdump(*options):
-            return subprocess.run(
-                ["objdump", "-w", "-M", "intel", *options, path],
-                capture_output=True,
-                text=True,
-                check=True,
-            ).stdout
+        self.base = base = place(*OBJECTS, 4096)
+        image = Image(path, base, place(*LIBRARIES, 64))
+        self.exports, self.imports = image.exports, image.imports
+        self.constants, self.variables = image.constants, image.variables
+        self.returned, self.stack_top, self.heap = (
+            place(*CALLERS),
+            place(*STACKS, 16),
+            place(*HEAPS),
+        )
+        self.cpuid = mask(32)
+        self.code, self.names = {}, {at: name for name, at in self.exports.items()}
+        self.read_code(path, image)
+        for at in image.starts:
+            self.start(at)
 
-        self.code, self.exports, self.names = {}, {}, {}
-        last = None
-        for line in objdump("-d", "--no-show-raw-insn").splitlines():
-            if found := re.fullmatch(r"([0-9a-f]{16}) <(.*)>:", line):
-                self.names[int(found[1], 16)] = found[2]
-                self.exports[found[2]] = int(found[1], 16)
-            elif found := re.fullmatch(
-                r" *([0-9a-f]+):\t(\S+)\s*(.*?)\s*(?: # ([0-9a-f]+) <.*)?", line
-            ):
-                at, note = int(found[1], 16), int(found[4] or "0", 16)
-                target = re.fullmatch(r"([0-9a-f]+) <.*>", found[3])
-                if found[2] == "rep":
-                    found = [None, None, f"rep {found[3]}", ""]
-                op = (
-                    "nop"
-                    if re.match(
-                        "(data16 |cs )*nop|xchg +ax,ax|endbr64",
-                        f"{found[2]} {found[3]}",
-                    )
-                    else found[2]
-                )
-                operands = (
-                    []
-                    if op == "nop"
-                    else [int(target[1], 16)]
-                    if target
-                    else [
-                        Operand(text, note) for text in re.findall(r"[^,]+", found[3])
-                    ]
-                )
-                self.code[at] = [op, operands, None, at]
-                if last is not None:
-                    self.code[last][2] = at
-                last = at
+    def read_code(self, path, image):
+        lines = subprocess.run(
+            ["objdump", "-d", "-z", "-w", "-M", "intel", path],
+            capture_output=True,
+            text=True,
+            check=True,
+        ).stdout.splitlines()
+        for line in lines:
+            if label := re.fullmatch(r"([0-9a-f]{16}) <(.*)>:", line):
+                self.names.setdefault(self.base + int(label[1], 16), label[2])
+            elif found := LINE.fullmatch(line):
+                at, content = self.base + int(found[1], 16), bytes.fromhex(found[2])
+                for i, b in enumerate(content, at):
+                    if image.constants.get(i) != b or not image.is_code(i):
+                        raise Refused(
+                            f"code at {found[1]} that is not what the loader puts there"
+                        )
+                self.code[at] = [
+                    *instruction(found[3], self.base, found[4]),
+                    at + len(content),
+                    at,
+                ]
             elif ":\t" in line:
                 raise Refused(f"a line of objdump: {line}")
-        for at, name in self.names.items():
-            if name.endswith("@plt") and name[:-4] in self.exports:
-                self.code[at] = ["jmp", [self.exports[name[:-4]]], None, at]
-        self.built_in = {
-            at: name[:-4] for at, name in self.names.items() if name[:-4] in BUILT_IN
-        }
-        lines = re.findall(
-            r"^ ([0-9a-f]+) ((?:[0-9a-f]+ ){1,4})", objdump("-s", "-j", ".rodata"), re.M
-        )
-        self.constants = {
-            at: b
-            for text, content in lines
-            for at, b in enumerate(
-                bytes.fromhex(content.replace(" ", "")), int(text, 16)
-            )
-        }
-        # The loader writes the addresses of functions.
-        for at, kind, name in re.findall(
-            r"^([0-9a-f]{16}) R_X86_64_(\w+) +(\S+)", objdump("-R"), re.M
+        self.uses_cpuid = any(name == "cpuid" for name, *_ in self.code.values())
+
+    def start(self, at):
+        """Runs a function that the loader calls. It may write variables."""
+        before = self.variables
+        ended = [path for path, _ in Run(self, {}, 4096).call_at(at, [], {})]
+        self.variables = {i: ended[0].memory.get(i, v) for i, v in before.items()}
+        if len(ended) != 1 or not all(
+            isinstance(v, int) for v in self.variables.values()
         ):
-            to = (
-                self.exports.get(name.split("@")[0])
-                if kind == "GLOB_DAT"
-                else (int(name.partition("+")[2], 16) if kind == "RELATIVE" else None)
+            raise Refused(
+                "a function that runs before the first call, and depends on what is not known"
             )
-            if to is not None:
-                self.constants |= enumerate(to.to_bytes(8, "little"), int(at, 16))
-        bss = re.search(r" \.bss +([0-9a-f]+) +([0-9a-f]+)", objdump("-h"))
-        self.variables = dict.fromkeys(
-            range(int(bss[2], 16), int(bss[2], 16) + int(bss[1], 16)), 0
-        )
-        self.heap = max(self.constants) + 0x10000
 
     def place_of(self, at):
         name = max(a for a in self.names if a <= at)
         return f"{self.names[name]}+{at - name:#x}"
+
+
+def instruction(text, base, note):
+    """Returns the name and the operands of an instruction as objdump prints it. The places that it prints are without
+    `base`. If an operand is not known, then the name is the whole text, which is no instruction that runs.
+    """
+    text = PREFIX.sub("", text.strip())
+    if NOP.match(text):
+        return "nop", []
+    if text.startswith("rep "):
+        return re.sub(" +", " ", text), []
+    name, _, rest = text.partition(" ")
+    target = re.fullmatch("([0-9a-f]+)(?: <.*>)?", rest.strip())
+    if JUMP.fullmatch(name) and target:
+        return name, [base + int(target[1], 16)]
+    try:
+        return name, [
+            Operand(part, base + int(note or "0", 16))
+            for part in re.findall("[^,]+", rest.strip())
+        ]
+    except (KeyError, ValueError, AttributeError):
+        return text, []
 
 
 class State:
@@ -275,7 +292,9 @@ for name, other in (
 
 class Run(Machine):
     def __init__(self, module, inputs, stack):
-        super().__init__(module, inputs, range(STACK, STACK + stack))
+        super().__init__(
+            module, inputs, range(module.stack_top - stack, module.stack_top)
+        )
 
     # Operands
 
@@ -324,7 +343,11 @@ class Run(Machine):
             )
             are_known = isinstance(v, int) and isinstance(old, int)
             path.state.registers[operand.name] = old | v if are_known else (old, v)
-        elif w == 16 or operand.kind == "h":
+        elif w == 16 and operand.kind == "r":
+            path.state.registers[operand.name] = or_(
+                and_(self.register(path, operand.name, 64), M64 - mask(16)), v
+            )
+        elif operand.kind == "h":
             raise Refused("a part of a register is written")
         else:
             path.state.registers[operand.name] = v
@@ -364,6 +387,9 @@ class Run(Machine):
 
     def call(self, name, args, memory, before=None):
         """Yields each path at the end of the call, with its status."""
+        return self.call_at(self.module.exports[name], args, memory, before)
+
+    def call_at(self, at, args, memory, before=None):
         path = Path(
             dict(memory),
             State({name: None for name in [*ARGUMENTS, *OTHERS, *PRESERVED]}, {}),
@@ -379,17 +405,21 @@ class Run(Machine):
         begun_with = {
             register: path.state.registers[register] for register in PRESERVED
         }
-        self.push(path, RETURNED)
-        path.state.at = self.module.exports[name]
+        self.push(path, self.module.returned)
+        path.state.at = at
         for path in self.paths(path):
             for register, v in begun_with.items():
                 if path.state.registers[register] != v:
                     raise Refused(f"{register} is not what it was")
-            yield path, self.register(path, "rax", 32)
+            yield path, self.register(path, "rax", 64)
 
-    def built_in(self, path, name):
-        if name == "abort":
-            raise Refused("a call of abort")
+    def call_library(self, path, name):
+        """Does what a function of the C library does. It may leave anything in its registers and below its frame."""
+        if name not in LIBRARY:
+            raise Refused(f"a call of {name}")
+        rsp = path.state.registers["rsp"]
+        if rsp % 16 != 8:
+            raise Refused("a call with a stack that is not aligned")
         to, source, n = (
             self.register(path, register, 64) for register in ARGUMENTS[:3]
         )
@@ -405,13 +435,20 @@ class Run(Machine):
             "rax": to
         }
         path.state.xmm, path.state.flags = {}, None
+        for at in path.memory:
+            if at in self.stack and at < rsp:
+                path.memory[at] = fresh("below"), 0
+        path.state.at = self.pop(path)
 
     # Execution
 
     def run(self, path, waiting):
         """Whether the call ended. If it did not, its paths wait."""
         code, module = self.module.code, self.module
-        while path.state.at != RETURNED:
+        while path.state.at != module.returned:
+            if path.state.at in module.imports:
+                self.call_library(path, module.imports[path.state.at])
+                continue
             if path.state.at not in code:
                 raise Refused(f"a jump to {path.state.at:#x}")
             op, operands, following, _ = instruction = code[path.state.at]
@@ -419,32 +456,16 @@ class Run(Machine):
             if self.steps > STEPS:
                 raise Refused("so many instructions that it may not end")
             if op == "call":
-                target = operands[0]
-                if not isinstance(target, int):
-                    target = self.place(path, self.get(path, target, 64))
-                if target in module.built_in:
-                    if path.state.registers["rsp"] % 16:
-                        raise Refused("a call with a stack that is not aligned")
-                    self.built_in(path, module.built_in[target])
-                    path.state.at = following
-                else:
-                    self.push(path, following)
-                    path.state.at = target
+                target = self.target(path, operands[0])
+                self.push(path, following)
+                path.state.at = target
             elif op == "ret":
                 path.state.at = self.pop(path)
                 if not isinstance(path.state.at, int):
                     raise Refused("a return to a secret address")
             elif op == "jmp":
-                target = (
-                    operands[0]
-                    if isinstance(operands[0], int)
-                    else self.place(path, self.get(path, operands[0], 64))
-                )
-                if target in module.built_in:  # the last call of a function
-                    self.built_in(path, module.built_in[target])
-                    target = self.pop(path)
-                path.state.at = target
-            elif op[0] == "j":
+                path.state.at = self.target(path, operands[0])
+            elif op[0] == "j" and operands:
                 if not self.branch(
                     path, self.condition(path, op[1:]), operands[0], following, waiting
                 ):
@@ -458,6 +479,14 @@ class Run(Machine):
                         f"{refused}, at {module.place_of(instruction[3])}: {op}"
                     )
         return True
+
+    def target(self, path, operand):
+        """Returns where a jump leads."""
+        return (
+            operand
+            if isinstance(operand, int)
+            else self.place(path, self.get(path, operand, 64))
+        )
 
     def condition(self, path, name):
         if path.state.flags is None:
@@ -496,7 +525,7 @@ class Run(Machine):
             raise Refused(f"an instruction {op}")
 
 
-BUILT_IN = "memcpy", "memmove", "memset", "abort"
+LIBRARY = "memcpy", "memmove", "memset"
 
 
 # Instructions on registers and memory
@@ -594,6 +623,28 @@ def shld(run, path, to, source, count, w):
     path.state.flags = None
 
 
+def shrd(run, path, to, source, count, w):
+    k = count.value & (63 if w == 64 else 31)
+    a, b = run.get(path, to, w), run.get(path, source, w)
+    run.put(
+        path, to, rotr(a, k, w) if a == b else or_(shr(a, k, w), shl(b, w - k, w)), w
+    )
+    path.state.flags = None
+
+
+def xchg(run, path, a, b, w):
+    x, y = run.get(path, a, w), run.get(path, b, w)
+    run.put(path, a, y, w)
+    run.put(path, b, x, w)
+
+
+def neg(run, path, to, w):
+    a = run.get(path, to, w)
+    r = sub(0, a, w)
+    path.state.flags = "sub", 0, a, r, w, None
+    run.put(path, to, r, w)
+
+
 def product(run, path, source, w):
     total = number(run.get(path, source, w), "a product") * number(
         run.register(path, "rax", w), "a product"
@@ -624,7 +675,10 @@ def div(run, path, source, w):
 
 
 def bt(run, path, a, b, w):
-    k = number(run.get(path, b, w), "a place") % w
+    k = number(run.get(path, b, w), "a place")
+    if a.kind == "m" and k >= w:
+        raise Refused("a bit of other memory")
+    k %= w
     path.state.flags = (
         "bit",
         None,
@@ -651,13 +705,9 @@ def repeated(run, path, w):
 
 
 def cpuid(run, path, w):
-    """Of a processor that has all that these bits can say."""
-    path.state.registers |= {
-        "rax": 1,
-        "rbx": mask(32),
-        "rcx": mask(32),
-        "rdx": mask(32),
-    }
+    path.state.registers |= dict.fromkeys(
+        ("rax", "rbx", "rcx", "rdx"), run.module.cpuid
+    )
 
 
 SCALAR = {
@@ -681,6 +731,7 @@ SCALAR = {
     "inc": one_more("inc", add),
     "dec": one_more("dec", sub),
     "sbb": with_carry(sub),
+    "adc": with_carry(add),
     "mul": product,
     "imul": imul,
     "div": div,
@@ -689,6 +740,9 @@ SCALAR = {
     "shr": shift(shr),
     "sar": shift(sar),
     "shld": shld,
+    "shrd": shrd,
+    "xchg": xchg,
+    "neg": neg,
     "rol": shift(rotl),
     "ror": shift(rotr),
     "not": lambda run, path, to, w: run.put(
@@ -728,6 +782,20 @@ def movq(n):
             run.put(path, to, joined(run.vector(path, source, n)), 8 * n)
         else:
             run.put_vector(path, to, run.vector(path, source, n))
+
+    return do
+
+
+def scalar(n):
+    """Between two registers it keeps the other bytes."""
+
+    def do(run, path, to, source):
+        if to.kind == source.kind == "x":
+            path.state.xmm[to.name] = (
+                run.vector(path, source, n) + run.vector(path, to)[n:]
+            )
+        else:
+            movq(n)(run, path, to, source)
 
     return do
 
@@ -863,6 +931,16 @@ def each_word(function):
     return do
 
 
+def paddd(run, path, to, source):
+    """Sums of words. A word that is added to itself is shifted, so that it stays an affine form."""
+    a, b = run.vector(path, to), run.vector(path, source)
+    made = []
+    for i in range(0, 16, 4):
+        x, y = joined(a[i : i + 4]), joined(b[i : i + 4])
+        made += cells_of(shl(x, 1, 32) if x == y else add(x, y, 32), 4)
+    path.state.xmm[to.name] = made
+
+
 def aes(kind, mix):
     """A round of FIPS 197, 5.1 or 5.3.5, with the source as the key; or only InvMixColumns of the source."""
 
@@ -918,8 +996,8 @@ VECTOR = {
     "movups": move(16, False),
     "movq": movq(8),
     "movd": movq(4),
-    "movss": movq(4),
-    "movsd": movq(8),
+    "movss": scalar(4),
+    "movsd": scalar(8),
     "pxor": each(xor_bytes, ixor),
     "xorps": each(xor_bytes, ixor),
     "pand": each(and_bytes, iand),
@@ -944,5 +1022,6 @@ VECTOR = {
     "pextrq": pextrq,
     "pinsrd": pinsrd,
     "ptest": ptest,
+    "paddd": paddd,
     "pmovmskb": pmovmskb,
 }

@@ -1,0 +1,565 @@
+"""Calls of a module at every length of the key: what calls.py says of one length, for all of them at once. KEK,
+initial value and numbers are at known places, as there. Key and wrapped key are arrays at unknown places that do not
+overlap."""
+
+import lengths
+import standard
+import terms
+from calls import (
+    BAD_IV,
+    BAD_KEK,
+    BAD_LENGTH,
+    INTEGRITY,
+    OK,
+    PADDED,
+    PLAIN,
+    STACK,
+    Call,
+    any_bytes,
+    any_kek,
+    is_reserved,
+)
+from lengths import Array, Content, Process, Run, State, first_difference
+from linear import Facts, Undecided, plus, times, unknown
+from paths import Path, byte_of, cell_of
+from terms import Known, Refused, xor
+
+MEMORY = 2**32
+MOST_CASES = 400
+n = lengths.N_REGISTERS
+LEGAL = [n - 2, lengths.MOST_REGISTERS - n]
+key, text = unknown("key"), unknown("text")
+z = unknown("z")
+TEXT_FIRST = [key - text - 8 * n - 8]
+ORDERS = [text - key - 8 * n], TEXT_FIRST
+PADDED_ORDERS = [text - key - 8 * n + z], TEXT_FIRST
+
+
+class LongCall(Call):
+    """A call with arrays. `processes` are what the standard makes in its loops."""
+
+    def __init__(self, given, name):
+        super().__init__(given, name)
+        self.arrays, self.processes, self.facts, self.iv = [], [], [], None
+
+    def array(self, name, size, may_change):
+        self.arrays.append(Array(name, size, may_change))
+        self.args += [unknown(name), size]
+        heap = self.module.heap
+        self.facts += [unknown(name) - heap, MEMORY - 1 - unknown(name) - size]
+        return self
+
+    def wraps(self, kek, a, registers, offset):
+        """The standard wraps these registers. `a` is the initial value, or makes it when the run begins."""
+        self.processes.append((kek, a, registers, offset, False))
+        return self
+
+    def unwraps(self, kek, name):
+        a = lambda: Content(name).bytes(0, 8)
+        self.processes.append((kek, a, Content(name), 8, True))
+        return self
+
+    def begun(self):
+        """Makes what the standard begins with, under the facts of the call."""
+        for k in range(8):  # numbers are older than what is compared with them
+            if Facts.now.proves(n - 1):
+                lengths.as_bytes(8 * n - k)
+        self.processes = [
+            Process(standard.key_expansion(kek), a() if callable(a) else a, *more)
+            for kek, a, *more in self.processes
+        ]
+
+    def run(self, loops):
+        return Run(self.module, self.inputs, STACK, self.arrays, loops, self.processes)
+
+    def ends_of(self, run):
+        """Runs the call. Yields each path at its end, with the status."""
+        contents = {array.name: Content(array.name) for array in self.arrays}
+        path = Path(dict(self.writes), State([], list(self.module.globals), contents))
+        run.keep_apart(self.writes)
+        run.enter(path, self.module.exports[self.name][1], list(self.args))
+        for path in run.ends(path):
+            if path.state.globals != self.module.globals:
+                raise Refused("the globals are not what they were")
+            self.result.stack = max(self.result.stack, run.reached(path))
+            yield path, run.place(path, path.results[0])
+        self.result.steps += run.steps
+        self.result.lookups += run.lookups
+        self.result.variables = self.module.variables
+
+    def expect(self, path, status, wanted, contents, numbers=()):
+        """Compares the status, the contents of arrays that are not unchanged, and the numbers at known places."""
+        if status != wanted:
+            raise Refused(f"status {status} instead of {wanted}")
+        Known.now = path.known
+        for array in self.arrays:
+            content = path.state.contents[array.name]
+            if array.name in contents:
+                place = first_difference(content, contents[array.name], array.size)
+                if place is not None:
+                    raise Refused(
+                        f"at status {status}, byte {place} of {array.name} differs"
+                    )
+            elif content.writes:
+                raise Refused(f"at status {status}, {array.name} is written")
+        got = [lengths.byte_of_cell(path.memory[at]) for at in self.writes]
+        unchanged = list(map(byte_of, self.writes.values()))
+        self.compare(path, status, got, wanted, list(numbers) or unchanged)
+
+
+def for_all(given, facts, build):
+    """Proves a call for all numbers for which these facts hold. `build` returns the call, and a function that checks a
+    path at its end. If the code asks something that the facts do not answer, the call runs again for each answer.
+    """
+    loops, waiting, count = set(), [Facts(facts)], 0
+    while waiting:
+        facts = waiting.pop()
+        if not facts.are_possible():
+            continue
+        count += 1
+        if count > MOST_CASES:
+            raise Refused("so many cases of lengths that it may not end")
+        terms.forget()
+        lengths.forget()
+        Known.now, Facts.now = Known(), facts
+        call, check = build()
+        Facts.now = facts = facts.with_(*call.facts)
+        run, paths = None, []
+        try:
+            call.begun()
+            run = call.run(frozenset(loops))
+            for path, status in call.ends_of(run):
+                check(path, status)
+                paths.append((status, path.forks))
+        except Undecided as question:
+            loop = run.begun_again() if run else None
+            if loop:
+                loops.add(loop)
+                waiting.append(facts)
+            else:
+                waiting += facts.cases(question.total)
+            continue
+        finally:
+            Known.now = Known()
+        given.result.paths += paths
+
+
+def cells(values):
+    return list(map(cell_of, values))
+
+
+def last_step(path):
+    if not path.state.done:
+        raise Refused("it does not make the steps of the standard")
+    return path.state.done[0]
+
+
+def wrapped_content(step):
+    """Returns the wrapped key after the last step."""
+    a, register = step.made()
+    registers = step.registers.with_cells(times(step.i, 8), cells(register))
+    content = Content("none").with_copy(8, 8 * n, registers, 0)
+    return content.with_cells(0, cells(a))
+
+
+def unwrapped(step):
+    """Returns A and the registers after the last step."""
+    a, register = step.made()
+    return a, step.registers.with_cells(times(step.i, 8), cells(register))
+
+
+def zeros(size):
+    return Content("none").with_bytes(0, size, 0)
+
+
+def number_cells(given, v):
+    """Returns the bytes of a size_t."""
+    return lengths.number_bytes(v)[::-1][: given.module.size_bytes]
+
+
+def little(v, size):
+    return lengths.number_bytes(v)[::-1][:size]
+
+
+def check_forks(path, most):
+    if len(path.forks) > most:
+        raise Refused(
+            f"{len(path.forks)} branches on a secret: {'; '.join(path.forks)}"
+        )
+
+
+def aiv(length):
+    """RFC 5649, 3, for a length that may be unknown."""
+    return [*standard.aiv(0)[:4], *lengths.number_bytes(length)[4:]]
+
+
+def padded_length(a, registers, is_zero):
+    """Returns the length of the padded key, or None."""
+    for k in range(7, -1, -1):
+        wanted = [xor(v, b) for v, b in zip(a, aiv(8 * n - k))]
+        if is_zero(wanted + registers.bytes(8 * n - k, k)):
+            return 8 * n - k
+    return None
+
+
+def form_of(a, registers, is_zero):
+    """Returns the form and the length of the key, or None."""
+    if standard.is_plain(a, is_zero):
+        return PLAIN, 8 * n
+    length = padded_length(a, registers, is_zero)
+    return None if length is None else (PADDED, length)
+
+
+# Plain
+
+
+def wrap(given, kek_len, iv_len=None):
+    """With any initial value of 8 bytes if its length is given."""
+
+    def legal():
+        kek, iv = any_kek("kek", kek_len), standard.DEFAULT_IV
+        call = LongCall(
+            given, "keywrap_wrap" if iv_len is None else "keywrap_wrap_with"
+        )
+        call.reads(kek)
+        if iv_len is not None:
+            iv = any_bytes("iv", iv_len)
+            call.reads(iv)
+        call.array("key", 8 * n, False).array("text", 8 * n + 8, True)
+        call.wraps(kek, iv, Content("key"), 0)
+
+        def check(path, status):
+            check_forks(path, iv_len is not None)
+            if iv_len is not None and is_reserved(iv, path.is_zero):
+                call.expect(path, status, BAD_IV, {})
+            else:
+                call.expect(
+                    path, status, OK, {"text": wrapped_content(last_step(path))}
+                )
+
+        return call, check
+
+    for order in ORDERS:
+        for_all(given, LEGAL + order, legal)
+
+
+def unwrap(given, kek_len, iv_len=None):
+    def legal():
+        kek, iv = any_kek("kek", kek_len), standard.DEFAULT_IV
+        call = LongCall(
+            given, "keywrap_unwrap" if iv_len is None else "keywrap_unwrap_with"
+        )
+        call.reads(kek)
+        if iv_len is not None:
+            iv = any_bytes("iv", iv_len)
+            call.reads(iv)
+        call.array("text", 8 * n + 8, False).array("key", 8 * n, True)
+        call.unwraps(kek, "text")
+
+        def check(path, status):
+            check_forks(path, 1 + (iv_len is not None))
+            if iv_len is not None and is_reserved(iv, path.is_zero):
+                check_forks(path, 1)
+                call.expect(path, status, BAD_IV, {})
+                return
+            a, registers = unwrapped(last_step(path))
+            if standard.is_plain(a, path.is_zero, iv):
+                call.expect(path, status, OK, {"key": registers})
+            else:
+                call.expect(path, status, INTEGRITY, {"key": zeros(8 * n)})
+
+        return call, check
+
+    for order in ORDERS:
+        for_all(given, LEGAL + order, legal)
+
+
+def wrap_with(given, kek_len):
+    wrap(given, kek_len, 8)
+
+
+def unwrap_with(given, kek_len):
+    unwrap(given, kek_len, 8)
+
+
+def wrap_in_place(given, kek_len):
+    def legal():
+        kek = any_kek("kek", kek_len)
+        call = LongCall(given, "keywrap_wrap_in_place").reads(kek)
+        call.array("text", 8 * n + 8, True)
+        call.wraps(kek, standard.DEFAULT_IV, Content("text"), 8)
+
+        def check(path, status):
+            check_forks(path, 0)
+            call.expect(path, status, OK, {"text": wrapped_content(last_step(path))})
+
+        return call, check
+
+    for_all(given, LEGAL, legal)
+
+
+def unwrap_in_place(given, kek_len):
+    def legal():
+        kek = any_kek("kek", kek_len)
+        call = LongCall(given, "keywrap_unwrap_in_place").reads(kek)
+        call.array("text", 8 * n + 8, True).unwraps(kek, "text")
+
+        def check(path, status):
+            check_forks(path, 1)
+            a, registers = unwrapped(last_step(path))
+            after = zeros(8 * n + 8)
+            if standard.is_plain(a, path.is_zero):
+                after = after.with_copy(8, 8 * n, registers, 0)
+                call.expect(path, status, OK, {"text": after})
+            else:
+                call.expect(path, status, INTEGRITY, {"text": after})
+
+        return call, check
+
+    for_all(given, LEGAL, legal)
+
+
+# Padded. The key has z bytes less than its registers.
+
+
+def wrap_padded(given, kek_len, in_place=False):
+    def legal():
+        kek = any_kek("kek", kek_len)
+        call = LongCall(given, "keywrap_wrap_padded" + "_in_place" * in_place).reads(
+            kek
+        )
+        if in_place:
+            call.array("text", 8 * n + 8, True).number(8 * n - z)
+            key, offset = Content("text"), 8
+        else:
+            call.array("key", 8 * n - z, False).array("text", 8 * n + 8, True)
+            key, offset = Content("key"), 0
+        padded = zeros(8 * n).with_copy(0, 8 * n - z, key, offset)
+        call.wraps(kek, lambda: aiv(8 * n - z), padded, 0)
+
+        def check(path, status):
+            check_forks(path, 0)
+            call.expect(path, status, OK, {"text": wrapped_content(last_step(path))})
+
+        return call, check
+
+    for order in [[]] if in_place else PADDED_ORDERS:
+        for_all(given, LEGAL + [z, 7 - z] + order, legal)
+
+
+def wrap_padded_in_place(given, kek_len):
+    wrap_padded(given, kek_len, True)
+
+
+def unwrap_padded(given, kek_len):
+    def legal():
+        kek = any_kek("kek", kek_len)
+        call = LongCall(given, "keywrap_unwrap_padded").reads(kek)
+        call.array("text", 8 * n + 8, False).array("key", 8 * n, True)
+        call.changes_numbers(given.size()).unwraps(kek, "text")
+
+        def check(path, status):
+            check_forks(path, 1)
+            a, registers = unwrapped(last_step(path))
+            length = padded_length(a, registers, path.is_zero)
+            if length is None:
+                call.expect(
+                    path, status, INTEGRITY, {"key": zeros(8 * n)}, given.size(0)
+                )
+            else:
+                call.expect(
+                    path, status, OK, {"key": registers}, number_cells(given, length)
+                )
+
+        return call, check
+
+    for order in ORDERS:
+        for_all(given, LEGAL + order, legal)
+
+
+def unwrap_padded_in_place(given, kek_len):
+    def legal():
+        kek = any_kek("kek", kek_len)
+        call = LongCall(given, "keywrap_unwrap_padded_in_place").reads(kek)
+        call.array("text", 8 * n + 8, True)
+        call.changes_numbers(given.size()).unwraps(kek, "text")
+
+        def check(path, status):
+            check_forks(path, 1)
+            a, registers = unwrapped(last_step(path))
+            length = padded_length(a, registers, path.is_zero)
+            after = zeros(8 * n + 8)
+            if length is None:
+                call.expect(path, status, INTEGRITY, {"text": after}, given.size(0))
+            else:
+                after = after.with_copy(8, 8 * n, registers, 0)
+                call.expect(
+                    path, status, OK, {"text": after}, number_cells(given, length)
+                )
+
+        return call, check
+
+    for_all(given, LEGAL, legal)
+
+
+# Either form
+
+
+def unwrap_any(given, kek_len, name="keywrap_unwrap_any"):
+    is_kind = name == "keywrap_kind"
+
+    def legal():
+        kek = any_kek("kek", kek_len)
+        call = LongCall(given, name).reads(kek)
+        call.array("text", 8 * n + 8, False).array("key", 8 * n, True)
+        call.changes_numbers(any_bytes("form", 4)).changes_numbers(given.size())
+        call.unwraps(kek, "text")
+
+        def check(path, status):
+            check_forks(path, 1)
+            a, registers = unwrapped(last_step(path))
+            found = form_of(a, registers, path.is_zero)
+            if found is None:
+                numbers = [0] * 4 + given.size(0)
+                call.expect(path, status, INTEGRITY, {"key": zeros(8 * n)}, numbers)
+                return
+            numbers = [found[0], 0, 0, 0, *number_cells(given, found[1])]
+            after = zeros(8 * n) if is_kind else registers
+            call.expect(path, status, OK, {"key": after}, numbers)
+
+        return call, check
+
+    for order in ORDERS:
+        for_all(given, LEGAL + order, legal)
+
+
+def kind(given, kek_len):
+    unwrap_any(given, kek_len, "keywrap_kind")
+
+
+# Lengths that are refused. Any length is 8m + r, another one 8u + v, where r and v are less than 8.
+
+m, r, u, v = map(unknown, "mruv")
+LENGTH, OTHER = 8 * m + r, 8 * u + v
+MOST = lengths.MOST_REGISTERS
+
+
+def refuse(given, cases, build, status=BAD_LENGTH, numbers=()):
+    """Proves that a call with lengths of these cases returns the status, and changes nothing but the numbers."""
+
+    def refused():
+        call = build()
+        # The lengths may be larger than any memory.
+        call.facts = [unknown(array.name) - call.module.heap for array in call.arrays]
+
+        def check(path, got):
+            check_forks(path, call.iv is not None)
+            if call.iv is not None and is_reserved(call.iv, path.is_zero):
+                call.expect(path, got, BAD_IV, {})
+            else:
+                call.expect(path, got, status, {}, numbers)
+
+        return call, check
+
+    largest = 256**given.module.size_bytes - 1
+    any_lengths = [m, r, 7 - r, largest - LENGTH, u, v, 7 - v, largest - OTHER]
+    places = [MEMORY - 1 - key, MEMORY - 1 - text]
+    for case in cases:
+        for_all(given, any_lengths + places + case, refused)
+
+
+def other_than(length, other):
+    return [length - 1 - other], [other - length - 1]
+
+
+IS_WHOLE = -1 * r
+# A length that is not the one of a key, and a wrapped key of another length.
+NO_PLAIN_KEY = [[r - 1], [IS_WHOLE, 1 - m], [IS_WHOLE, m - MOST - 1]]
+PLAIN_KEY = [IS_WHOLE, m - 2, MOST - m]
+NOT_PLAIN = NO_PLAIN_KEY + [PLAIN_KEY + case for case in other_than(LENGTH + 8, OTHER)]
+NO_PLAIN_TEXT = [[r - 1], [IS_WHOLE, 2 - m], [IS_WHOLE, m - MOST - 2]]
+NO_PADDED_KEY = [[-1 * LENGTH], [LENGTH - 8 * MOST - 1]]
+SHORTER, WHOLE = [r - 1, 8 * MOST - LENGTH], [IS_WHOLE, m - 1, MOST - m]
+NOT_PADDED = [
+    *NO_PADDED_KEY,
+    *(WHOLE + case for case in other_than(8 * m + 8, OTHER)),
+    *(SHORTER + case for case in other_than(8 * m + 16, OTHER)),
+]
+NO_TEXT = [[r - 1], [IS_WHOLE, 1 - m], [IS_WHOLE, m - MOST - 2]]
+TEXT = [IS_WHOLE, m - 2, MOST + 1 - m]
+OTHER_ROOM = [TEXT + case for case in other_than(LENGTH - 8, OTHER)]
+
+
+def refuse_lengths(given, name, kek_len, iv_len=None):
+    """Every call with a KEK that is legal and lengths that are not. Each pair of lengths is legal or in a case."""
+
+    def begun():
+        call = LongCall(given, "keywrap_" + name).reads(any_kek("kek", kek_len))
+        call.iv = None if iv_len is None else any_bytes("iv", iv_len)
+        return call if call.iv is None else call.reads(call.iv)
+
+    def key_and_text():
+        return begun().array("key", LENGTH, False).array("text", OTHER, True)
+
+    def text_and_key():
+        return begun().array("text", OTHER, False).array("key", LENGTH, True)
+
+    def buffer():
+        return begun().array("text", LENGTH, True)
+
+    def numbered(call):
+        if name in ("unwrap_any", "kind"):
+            call.changes_numbers(any_bytes("form", 4))
+        return call.changes_numbers(given.size())
+
+    zero = given.size(0)
+    if name in ("wrap", "wrap_with"):
+        refuse(given, NOT_PLAIN, key_and_text)
+    elif name in ("unwrap", "unwrap_with"):
+        refuse(given, NOT_PLAIN, text_and_key)
+    elif name in ("wrap_in_place", "unwrap_in_place"):
+        refuse(given, NO_PLAIN_TEXT, buffer)
+    elif name == "wrap_padded":
+        refuse(given, NOT_PADDED, key_and_text)
+    elif name == "wrap_padded_in_place":
+        in_place = lambda: begun().array("text", OTHER, True).number(LENGTH)
+        refuse(given, NOT_PADDED, in_place)
+    elif name == "unwrap_padded_in_place":
+        refuse(given, NO_TEXT, lambda: numbered(buffer()), numbers=zero)
+    else:
+        room = lambda: numbered(
+            begun().array("text", LENGTH, False).array("key", OTHER, True)
+        )
+        numbers = zero if name == "unwrap_padded" else [0] * 4 + zero
+        status = INTEGRITY if name == "kind" else BAD_LENGTH
+        refuse(given, NO_TEXT, room, status, numbers)
+        refuse(given, OTHER_ROOM, room, BAD_LENGTH, numbers)
+
+
+def with_refusals(name, legal):
+    """Returns the call with all lengths, legal or not."""
+
+    def call(given, kek_len):
+        legal(given, kek_len)
+        refuse_lengths(given, name, kek_len, 8 if name.endswith("_with") else None)
+
+    return call
+
+
+EVERY_LENGTH = {
+    f"{legal.__name__}_at_every_length": with_refusals(legal.__name__, legal)
+    for legal in (
+        wrap,
+        unwrap,
+        wrap_with,
+        unwrap_with,
+        wrap_in_place,
+        unwrap_in_place,
+        wrap_padded,
+        unwrap_padded,
+        wrap_padded_in_place,
+        unwrap_padded_in_place,
+        unwrap_any,
+        kind,
+    )
+}

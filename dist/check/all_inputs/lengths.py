@@ -1,0 +1,934 @@
+"""Runs of a WebAssembly module in which lengths and places of buffers are unknown numbers (linear.py), so that one run
+holds for every length.
+
+An array is a buffer of unknown place and length. What it contains is a list of writes over unknown bytes. The loop over
+the steps of a key wrap is not run to its end. By induction it is enough to run it once, from any of its steps:
+
+    entry   the state in which the run reaches the loop is the invariant at the first step
+    step    from the invariant at any step but the last one, the code comes to the invariant at the next step
+    end     the run goes on from the invariant at the last step
+
+The invariant says which step of standard.py is next, where the registers are, and of each local what it is: a number
+that does not change, a number that grows with the step or with the register, a part of the standard's state, or nothing
+that matters. This is guessed from the first step, and then proved.
+"""
+
+import itertools
+from typing import NamedTuple
+
+import standard
+import terms
+import wasm
+from linear import Facts, Lin, Undecided, parts, plus, times, unknown
+from paths import Path, byte_of, cell_of, cells_of, joined
+from terms import N, V, Known, Refused, and_, fresh, input_byte, or_, shl, shr, xor
+
+MOST_REGISTERS = 131072
+WORD = 8
+
+
+# Operations on unknown numbers
+
+_bytes_of, _number_of = {}, {}
+
+
+def forget():
+    for known in (_bytes_of, _number_of):
+        known.clear()
+
+
+def as_bytes(v):
+    """Returns an unknown number as a value of bytes. They are atoms, the same ones for the same number: three for a
+    length or a number of steps, four for a length that overflowed."""
+    if not isinstance(v, Lin):
+        return v
+    for count, high in (3, 0), (4, v.constant >> 32 << 32):
+        if Facts.now.is_between(v - high, 0, 256**count - 1):
+            return bytes_of(v, count, high)
+    raise Refused(f"the bytes of a number that may be large: {v}")
+
+
+def bytes_of(v, count, high):
+    if (v, count) not in _bytes_of:
+        made = 0
+        for i in range(count):
+            made = or_(made, shl(fresh("number", (v, i)), 8 * i, 64))
+        if all(k % WORD == 0 for _, k in v.factors):  # the lowest bits are known
+            made = or_(and_(made, 2**64 - WORD), v.constant % WORD)
+        _bytes_of[v, count] = or_(made, high)
+        _number_of[_bytes_of[v, count]] = v
+    return _bytes_of[v, count]
+
+
+def as_number(v):
+    """Returns the number whose bytes these are, or None."""
+    if isinstance(v, (int, Lin)):
+        return v
+    return _number_of.get(v) if isinstance(v, V) else None
+
+
+def modulo(v, w):
+    """Returns a sum as a number of w bits: it overflows always in the same way."""
+    if isinstance(v, int):
+        return v % 2**w
+    for turn in (0, 1, -1):
+        if Facts.now.is_between(v + turn * 2**w, 0, 2**w - 1):
+            return v + turn * 2**w
+    if Facts.now.decides(v):
+        Facts.now.decides(2**w - 1 - v)
+    raise Refused(f"a number that overflows: {v}")
+
+
+def near_zero(v, w):
+    """Returns a constant of the upper half as a negative number."""
+    return v - 2 ** w if isinstance(v, int) and v >> w - 1 else v
+
+
+def add(a, b, w):
+    return modulo(plus(near_zero(a, w), near_zero(b, w)), w)
+
+
+def subtract(a, b, w):
+    x, y = as_number(a), as_number(b)
+    if x is None or y is None:
+        return N("sub", a, b, w, top=2**w - 1)
+    return modulo(plus(near_zero(x, w), times(near_zero(y, w), -1)), w)
+
+
+def multiply(a, b, w):
+    if isinstance(a, Lin) and isinstance(b, Lin):
+        raise Refused("a product of two lengths")
+    return modulo(times(a, b) if isinstance(b, int) else times(b, a), w)
+
+
+def split(v, unit):
+    """Returns (x, rest) with v = unit * x + rest and 0 <= rest < unit, or None if the facts do not show them."""
+    constant, factors = parts(v)
+    rest = {name: k for name, k in factors.items() if k % unit}
+    whole = {name: k // unit for name, k in factors.items() if not k % unit}
+    for turn in (0, -1, 1):
+        low = Lin(constant % unit + turn * unit, rest.items()) + 0
+        if Facts.now.is_between(low, 0, unit - 1):
+            return Lin(constant // unit - turn, whole.items()) + 0, low
+    if unit == WORD and all(abs(k) < unit for k in rest.values()):
+        low = Lin(constant % unit, rest.items())
+        Facts.now.decides(low)
+        Facts.now.decides(unit - 1 - low)
+    return None
+
+
+def shift_left(a, k, w):
+    if isinstance(a, Lin) and isinstance(k, int) and k < 8:  # more moves bytes
+        if Facts.now.is_between(a, 0, (2**w - 1) >> k):
+            return times(a, 1 << k)
+    return shl(as_bytes(a), as_bytes(k), w)
+
+
+def shift_right(a, k, w):
+    found = split(a, 1 << k) if isinstance(a, Lin) and isinstance(k, int) else None
+    return found[0] if found else shr(as_bytes(a), as_bytes(k), w)
+
+
+def both(a, b):
+    """The bits that both numbers have."""
+    a, b = (b, a) if isinstance(a, int) else (a, b)
+    if isinstance(b, int) and isinstance(a, Lin) and b:
+        low = (
+            b & -b
+        )  # the lowest bit of a mask that has all bits from there to another one
+        most = b | low - 1
+        if most & most + 1 == 0 and Facts.now.is_between(a, 0, most):
+            found = split(a, low)
+            if found:
+                return times(found[0], low)
+        if low == 1 and most & most + 1 == 0:
+            found = split(a, b + 1)
+            if found:
+                return found[1]
+    return and_(as_bytes(a), as_bytes(b))
+
+
+def remainder(a, b):
+    return divided(a, b)[1]
+
+
+def quotient(a, b):
+    return divided(a, b)[0]
+
+
+def divided(a, b):
+    """By the number of registers n: a multiple of it is n itself, and `q`, n times the rounds that are done."""
+    if isinstance(b, int):
+        found = split(a, b)
+        if found:
+            return found
+    if isinstance(a, (int, Lin)) and b == unknown("n"):
+        rest = (
+            plus(a, times(unknown("q"), -1))
+            if isinstance(a, Lin) and a.factor("q")
+            else a
+        )
+        turn = rest.factor("n") if isinstance(rest, Lin) else 0
+        for turn in (turn, turn - 1, turn + 1):
+            low = plus(rest, times(unknown("n"), -turn))
+            if Facts.now.is_between(low, 0, unknown("n") - 1):
+                return None, low
+        low = plus(rest, times(unknown("n"), -turn))
+        Facts.now.decides(unknown("n") - 1 - low)
+    raise Refused("a division of a length")
+
+
+def equal(a, b):
+    x, y = as_number(a), as_number(b)
+    if x is None or y is None:
+        return terms.eq(as_bytes(a), as_bytes(b))
+    difference = plus(x, times(y, -1))
+    return int(
+        Facts.now.decides(difference) and Facts.now.decides(times(difference, -1))
+    )
+
+
+def less(a, b):
+    x, y = as_number(a), as_number(b)
+    if x is None or y is None:
+        return terms.ltu(as_bytes(a), as_bytes(b))
+    return int(Facts.now.decides(plus(plus(y, times(x, -1)), -1)))
+
+
+def signed_less(a, b, w):
+    for v in (a, b):
+        if isinstance(v, Lin) and not Facts.now.is_between(v, 0, 2 ** (w - 1) - 1):
+            raise Refused("a signed comparison of a length that may be negative")
+    return less(near_zero(a, w), near_zero(b, w))
+
+
+def of_bytes(function):
+    return lambda a, b: function(as_bytes(a), as_bytes(b))
+
+
+def operations(start, comparisons, w):
+    """Returns the operations of w bits by their codes."""
+    first = comparisons
+    return {
+        start: lambda a, b: add(a, b, w),
+        start + 1: lambda a, b: subtract(a, b, w),
+        start + 2: lambda a, b: multiply(a, b, w),
+        start + 4: quotient,
+        start + 6: remainder,
+        start + 7: both,
+        start + 8: of_bytes(or_),
+        start + 9: of_bytes(xor),
+        start + 10: lambda a, b: shift_left(a, b, w),
+        start + 12: lambda a, b: shift_right(a, b, w),
+        first: equal,
+        first + 1: lambda a, b: terms.eqz(equal(a, b)),
+        first + 2: lambda a, b: signed_less(a, b, w),
+        first + 3: less,
+        first + 4: lambda a, b: signed_less(b, a, w),
+        first + 5: lambda a, b: less(b, a),
+        first + 6: lambda a, b: 1 - signed_less(b, a, w),
+        first + 7: lambda a, b: terms.eqz(less(b, a)),
+        first + 8: lambda a, b: 1 - signed_less(a, b, w),
+        first + 9: lambda a, b: terms.eqz(less(a, b)),
+    }
+
+
+BINARY = operations(0x6A, 0x46, 32) | operations(0x7C, 0x51, 64)
+UNARY = {
+    0x45: lambda a: equal(a, 0),
+    0x50: lambda a: equal(a, 0),
+    0xA7: lambda a: modulo(a, 32),
+}
+
+
+def lifted(code, function, of_numbers):
+    """Returns the operation for numbers that may be unknown."""
+
+    def do(*args):
+        if any(isinstance(v, Lin) for v in args):
+            if code not in of_numbers:
+                raise Refused(f"an operation {code} of a length")
+            return of_numbers[code](*args)
+        return function(*args)
+
+    return do
+
+
+def less_by(a, i, w):
+    return as_bytes(subtract(a, i, w)) if isinstance(a, Lin) else a - i & 2**w - 1
+
+
+# A value is made again where more is known: then its numbers may be unknown ones.
+for _name, _operation in {
+    "xor": of_bytes(xor),
+    "and": both,
+    "or": of_bytes(or_),
+    "shl": shift_left,
+    "shr": shift_right,
+    "add": add,
+    "sub": subtract,
+    "mul": multiply,
+    "nz": lambda a: 1 - equal(a, 0),
+    "eqz": lambda a: equal(a, 0),
+    "ltu": less,
+}.items():
+    terms.OPS[_name] = lifted(_name, terms.OPS[_name], {_name: _operation})
+terms.less_by = less_by
+
+
+class Module(wasm.Module):
+    binary = {op: lifted(op, f, BINARY) for op, f in wasm.BINARY.items()}
+    unary = {op: lifted(op, f, UNARY) for op, f in wasm.UNARY.items()}
+
+
+# What an array contains
+
+
+class Write(NamedTuple):
+    """What is written to `size` bytes at `offset`: cells, a part of another content, or one byte again and again."""
+
+    offset: object
+    size: object
+    cells: list = None
+    content: object = None
+    source: object = None
+    byte: object = None
+
+
+class Content:
+    """The bytes of an array: writes over the bytes that it had before, which may have any value."""
+
+    def __init__(self, origin, writes=()):
+        self.origin, self.writes = origin, writes
+
+    def with_(self, write):
+        return Content(self.origin, (*self.writes, write))
+
+    def with_cells(self, offset, cells):
+        return self.with_(Write(offset, len(cells), cells=cells))
+
+    def with_copy(self, offset, size, content, source):
+        return self.with_(Write(offset, size, content=content, source=source))
+
+    def with_bytes(self, offset, size, byte):
+        return self.with_(Write(offset, size, byte=byte))
+
+    def cells(self, offset, n):
+        """Returns n cells."""
+        for write in reversed(self.writes):
+            before = plus(plus(write.offset, times(offset, -1)), -n)
+            behind = plus(offset, times(plus(write.offset, write.size), -1))
+            if Facts.now.proves(before) or Facts.now.proves(behind):
+                continue
+            inside = plus(offset, times(write.offset, -1))
+            room = plus(plus(write.size, times(inside, -1)), -n)
+            if not (Facts.now.decides(inside) and Facts.now.decides(room)):
+                if n == 1:  # before or behind it, as the facts decide now
+                    continue
+                return [c for k in range(n) for c in self.cells(plus(offset, k), 1)]
+            if write.content is not None:
+                return write.content.cells(plus(write.source, inside), n)
+            if write.cells is None:
+                return [cell_of(write.byte)] * n
+            if isinstance(inside, int):
+                return write.cells[inside : inside + n]
+            if all(cell == write.cells[0] for cell in write.cells):
+                return write.cells[:n]
+            k = 0
+            while Facts.now.decides(plus(inside, -k - 1)):
+                k += 1
+            return write.cells[k : k + n]
+        constant, factors = parts(offset)
+        name = self.origin, tuple(sorted(factors.items()))
+        return [(input_byte(name, constant + k), 0) for k in range(n)]
+
+    def bytes(self, offset, n):
+        return [byte_of(as_cell(cell)) for cell in self.cells(offset, n)]
+
+    def ends(self, offset=0):
+        """Yields where writes begin and end, from `offset` on."""
+        for write in self.writes:
+            yield plus(write.offset, times(offset, -1))
+            yield plus(plus(write.offset, write.size), times(offset, -1))
+            if write.content is not None:
+                move = plus(write.offset, times(write.source, -1))
+                for end in write.content.ends():
+                    yield plus(plus(end, move), times(offset, -1))
+
+
+def byte_of_cell(cell):
+    return byte_of(as_cell(cell))
+
+
+def as_cell(cell):
+    """Returns a cell that has no unknown number."""
+    if isinstance(cell, tuple) and isinstance(cell[0], Lin):
+        return as_bytes(cell[0]), cell[1]
+    return cell
+
+
+def first_difference(a, b, size):
+    """Returns where two contents differ in their first `size` bytes, or None."""
+    cuts = [0]
+    for end in [size, *a.ends(), *b.ends()]:
+        at = 0
+        while at < len(cuts) and Facts.now.decides(plus(end, times(cuts[at], -1))):
+            at += 1
+        cuts.insert(at, end)
+    for low, high in zip(cuts, cuts[1:]):
+        is_before = Facts.now.proves(plus(-1, times(low, -1)))
+        is_behind = Facts.now.proves(plus(low, times(size, -1)))
+        if not is_before and not is_behind:
+            place = difference_between(a, b, low, high)
+            if place is not None:
+                return place
+    return None
+
+
+def difference_between(a, b, low, high):
+    """Returns where two contents differ between two places, or None."""
+    width, before = plus(high, times(low, -1)), Facts.now
+    if isinstance(width, int):
+        waiting = [(before, plus(low, k)) for k in range(width)]
+    else:
+        place = unknown("place")
+        waiting = [(before.with_(place - low, high - 1 - place), place)]
+    try:
+        while waiting:
+            Facts.now, place = waiting.pop()
+            if not Facts.now.are_possible():
+                continue
+            try:
+                if a.bytes(place, 1) != b.bytes(place, 1):
+                    return place
+            except Undecided as question:
+                waiting += [(facts, place) for facts in Facts.now.cases(question.total)]
+    finally:
+        Facts.now = before
+    return None
+
+
+# Runs
+
+
+class Array(NamedTuple):
+    """A buffer of a call: its place is the unknown with its name."""
+
+    name: str
+    size: object
+    may_change: bool
+
+
+class State(wasm.State):
+    """`contents` has the Content of each array. `done` is what the standard made in the loops that have ended."""
+
+    def __init__(self, frames, globals_, contents, done=()):
+        super().__init__(frames, globals_)
+        self.contents, self.done = contents, done
+
+    def copy(self):
+        other = super().copy()
+        return State(other.frames, other.globals, dict(self.contents), self.done)
+
+
+class Run(wasm.Run):
+    """`loops` are the loops at which a run stops: (function, place). `processes` are what the standard makes in them,
+    one after the other."""
+
+    def __init__(self, module, inputs, stack, arrays, loops, processes):
+        super().__init__(module, inputs, stack)
+        self.arrays = {array.name: array for array in arrays}
+        self.loops, self.processes, self.turns = loops, processes, {}
+        self.path = None
+
+    # Memory
+
+    def place(self, path, v):
+        return v if isinstance(v, Lin) else super().place(path, v)
+
+    def array_at(self, at, n):
+        """Returns the array in which these n bytes lie, and their offset."""
+        for name, array in self.arrays.items():
+            if at.factor(name) == 1:
+                offset = at.without(name) + 0
+                if not Facts.now.decides(Lin(0) + offset):
+                    break
+                if not Facts.now.decides(plus(array.size, times(plus(offset, n), -1))):
+                    break
+                return array, offset
+        raise Refused(f"an access to {n} bytes at {at}")
+
+    def cells(self, path, at, n):
+        if not isinstance(at, Lin):
+            return super().cells(path, at, n)
+        array, offset = self.array_at(at, n)
+        return path.state.contents[array.name].cells(offset, n)
+
+    def load(self, path, address, offset, n):
+        if not isinstance(address, Lin) and not isinstance(address, int):
+            return super().load(path, address, offset, n)
+        cells = self.cells(path, address + offset, n)
+        if any(isinstance(cell, tuple) and isinstance(cell[0], Lin) for cell in cells):
+            v = cells[0][0] if isinstance(cells[0], tuple) else None
+            if isinstance(v, Lin) and cells == cells_of(v, n):
+                return (
+                    v if Facts.now.is_between(v, 0, 256**n - 1) else modulo(v, 8 * n)
+                )
+            cells = list(map(as_cell, cells))
+        return joined(cells)
+
+    def low_cells(self, v, n):
+        if isinstance(v, Lin):
+            if not Facts.now.is_between(v, 0, 256**n - 1):
+                raise Refused(f"a number that is stored in part: {v}")
+            return cells_of(v, n)
+        return super().low_cells(v, n)
+
+    def store(self, path, at, cells):
+        if not isinstance(at, Lin):
+            super().store(path, at, cells)
+            return
+        self.write(
+            path,
+            at,
+            len(cells),
+            lambda content, offset: content.with_cells(offset, cells),
+        )
+
+    def write(self, path, at, n, change):
+        array, offset = self.array_at(at, n)
+        if not array.may_change:
+            raise Refused(f"a store at {at}")
+        contents = path.state.contents
+        contents[array.name] = change(contents[array.name], offset)
+
+    def copy(self, path, to, source, n):
+        if not isinstance(n, Lin):
+            super().copy(path, to, source, n)
+            return
+        array, start = self.array_at(source, n)
+        content = path.state.contents[array.name]
+        self.write(
+            path, to, n, lambda old, offset: old.with_copy(offset, n, content, start)
+        )
+
+    def fill(self, path, to, byte, n):
+        if not isinstance(n, Lin):
+            super().fill(path, to, byte, n)
+            return
+        self.write(path, to, n, lambda old, offset: old.with_bytes(offset, n, byte))
+
+    # Decisions and loops
+
+    def decided(self, path, frame, pc, waiting):
+        stack = frame[3]
+        if isinstance(stack[-1], Lin):
+            stack[-1] = int(Facts.now.decides(stack[-1] - 1))
+            return True
+        return super().decided(path, frame, pc, waiting)
+
+    def run(self, path, waiting):
+        self.path = path
+        return super().run(path, waiting)
+
+    def stops_at(self, path, function, pc, is_back):
+        depth = len(path.state.frames)
+        self.turns[depth, pc] = self.turns.get((depth, pc), 0) + 1 if is_back else 0
+        if (function, pc) in self.loops:
+            path.stopped = function, pc
+            return True
+        return False
+
+    def begun_again(self):
+        """Returns the outermost loop that has begun again, if one has."""
+        for depth, frame in enumerate(self.path.state.frames, 1):
+            for kind, pc, *_ in frame[5]:
+                if (
+                    kind == 3
+                    and self.turns.get((depth, pc))
+                    and (frame[0], pc) not in self.loops
+                ):
+                    return frame[0], pc
+        return None
+
+    def ends(self, path):
+        """Yields each path at the end of the call."""
+        waiting = [path]
+        while waiting:
+            path = waiting.pop()
+            path.stopped = None
+            for path in list(self.paths(path)):
+                if getattr(path, "stopped", None):
+                    waiting.append(Loop(self, path).at_the_end())
+                else:
+                    yield path
+
+
+# Key wrap's loop
+
+
+class Process:
+    """The steps of a key wrap by the standard, from A and the registers of a content on."""
+
+    def __init__(self, words, a, content, offset, undo):
+        self.words, self.a, self.content, self.offset, self.undo = (
+            words,
+            a,
+            content,
+            offset,
+            undo,
+        )
+
+    def begin(self, registers, q, i):
+        """Returns the first step, over these registers."""
+        return Step(self, self.a, registers, q, i)
+
+
+N_REGISTERS = unknown("n")
+ANY = object()
+_serial = itertools.count()
+
+
+class NotInvariant(Refused):
+    """Why a guess does not hold."""
+
+
+class OtherLocal(NotInvariant):
+    def __init__(self, local, kind):
+        super().__init__(f"local {local} is not as before: {kind}")
+        self.local = local
+
+
+class OtherMemory(NotInvariant):
+    def __init__(self, at):
+        super().__init__(f"memory at {at:#x} is not as before")
+        self.at = at
+
+
+def any_value():
+    return joined([(fresh("left"), 0) for _ in range(8)])
+
+
+def number_bytes(v):
+    """Returns the 8 bytes of a number, the highest first."""
+    v = as_bytes(v)
+    return [and_(shr(v, 8 * k, 64), 255) for k in range(7, -1, -1)]
+
+
+class Step:
+    """What is known before a step: A, the registers, and the step's place: q is n times the rounds that are done or, if
+    steps are undone, to come; i is the register."""
+
+    def __init__(self, process, a, registers, q, i):
+        self.process, self.a, self.registers, self.q, self.i = (
+            process,
+            a,
+            registers,
+            q,
+            i,
+        )
+        # Steps that are done or, if they are undone, left.
+        self.t = plus(plus(q, i), int(process.undo))
+
+    def register(self):
+        return self.registers.bytes(times(self.i, 8), 8)
+
+    def made(self):
+        """Returns A and the register that the step makes."""
+        number = number_bytes(self.t if self.process.undo else plus(self.t, 1))
+        a, words = self.a, self.process.words
+        if self.process.undo:
+            block = standard.inv_cipher(
+                words, [xor(x, y) for x, y in zip(a, number)] + self.register()
+            )
+            return block[:8], block[8:]
+        block = standard.cipher(words, a + self.register())
+        return [xor(x, y) for x, y in zip(block[:8], number)], block[8:]
+
+    def following(self, q, i):
+        """Returns the next step, which is at this place."""
+        a, register = self.made()
+        registers = self.registers.with_cells(
+            times(self.i, 8), list(map(cell_of, register))
+        )
+        return Step(self.process, a, registers, q, i)
+
+    def words(self):
+        """Returns what code may keep of it in a local, by its name."""
+        found = {}
+        counted = [xor(x, y) for x, y in zip(self.a, number_bytes(self.t))]
+        for name, content in (
+            ("A", self.a),
+            ("A xor t", counted),
+            ("the register", self.register()),
+        ):
+            for order, ordered in ("", content), (" turned", content[::-1]):
+                cells = list(map(cell_of, ordered))
+                found[name + order] = joined(cells)
+                found[f"first half of {name}{order}"] = joined(cells[:4])
+                found[f"second half of {name}{order}"] = joined(cells[4:])
+        return found
+
+
+class Role(NamedTuple):
+    """What a local is: `kind` is "same", "register" or "step" (a number that grows with it), a name of Step.words, or
+    "any"."""
+
+    kind: str
+    growth: int = 0
+
+
+class Invariant(NamedTuple):
+    """What is true whenever the code comes to the loop: in which array the registers are, what each local is, and at
+    which offsets from the stack pointer memory has nothing that matters."""
+
+    array: str
+    offset: object
+    roles: list
+    changing: frozenset
+
+
+class Loop:
+    """A run that has reached the loop of the next process."""
+
+    known = {}  # (function, place, undo): the Invariant that was found last
+
+    def __init__(self, run, path):
+        self.run, self.path = run, path
+        self.function, self.pc = path.stopped
+        done = len(path.state.done)
+        if done == len(run.processes):
+            raise Refused(f"{self.name()}, for which the standard has no steps")
+        self.process = run.processes[done]
+        self.local = path.state.frames[-1][4]
+        self.first = (5 * N_REGISTERS, N_REGISTERS - 1) if self.process.undo else (0, 0)
+        self.last = (0, 0) if self.process.undo else (5 * N_REGISTERS, N_REGISTERS - 1)
+
+    def name(self):
+        names = self.run.module.names
+        return f"the loop at {names.get(self.function, f'function {self.function}')}, {self.pc}"
+
+    def stack_pointer(self):
+        return self.path.state.globals[0]
+
+    def started(self):
+        return Path(dict(self.path.memory), self.path.state.copy(), self.path)
+
+    def at_the_end(self):
+        """Proves the invariant, and returns the path before the last step."""
+        invariant = self.proved()
+        path, step = self.path_at(invariant, *self.last)
+        path.state.done += (step,)
+        return path
+
+    def proved(self):
+        """Returns an invariant that holds. A local that is not what was guessed is the next thing that it may be."""
+        key = self.function, self.pc, self.process.undo
+        known = Loop.known.get(key)
+        if known and known.array in self.path.state.contents:
+            try:
+                return self.check(known)
+            except Refused:
+                pass
+        array, offset, options, changing = self.guess()
+        while True:
+            roles = [option[0] for option in options]
+            invariant = Invariant(array, offset, roles, changing)
+            try:
+                Loop.known[key] = self.check(invariant)
+                return invariant
+            except OtherLocal as other:
+                if len(options[other.local]) == 1:
+                    raise Refused(f"{self.name()} is not recognised: {other}")
+                del options[other.local][0]
+            except OtherMemory as other:
+                changing |= {other.at - self.stack_pointer()}
+            except Refused as refused:
+                raise Refused(f"{self.name()} is not recognised: {refused}")
+
+    def check(self, invariant):
+        self.check_entry(invariant)
+        for case in self.cases():
+            self.check_step(invariant, *case)
+        return invariant
+
+    # One turn of the loop
+
+    def turn(self, path):
+        """Returns the path at the loop after one turn."""
+        depth = len(path.state.frames)
+        path.stopped = None
+        ended = list(self.run.paths(path))
+        after = ended[0]
+        if len(ended) > 1 or not after.stopped or len(after.state.frames) != depth:
+            raise NotInvariant("it does not begin again")
+        return after
+
+    def guess(self):
+        """Returns what fits the first step: the array and the offset of the registers, what each local may be, and
+        which memory changes."""
+        before = Facts.now
+        q, i = self.first
+        way = -1 if self.process.undo else 1
+        try:
+            Facts.now = before.with_(N_REGISTERS - 3)
+            after = self.turn(self.started())
+            array, offset = self.registers_of(after)
+            step = self.process.begin(self.seen(array, offset), q, i)
+            words = step.words(), step.following(q, i + way).words()
+            locals_ = zip(self.local, after.state.frames[-1][4])
+            options = [self.options(old, new, words, way) for old, new in locals_]
+        finally:
+            Facts.now = before
+        changed = [
+            at for at, cell in after.memory.items() if self.path.memory.get(at) != cell
+        ]
+        return (
+            array,
+            offset,
+            options,
+            frozenset(at - self.stack_pointer() for at in changed),
+        )
+
+    def registers_of(self, after):
+        """Returns the array that a turn wrote to, and where its registers begin."""
+        for name, content in after.state.contents.items():
+            old = self.path.state.contents[name]
+            if len(content.writes) > len(old.writes):
+                at = content.writes[len(old.writes)].offset
+                return name, plus(at, times(self.first[1], -8))
+        raise NotInvariant("it writes no register")
+
+    def seen(self, array, offset):
+        """Returns the registers as they are in an array."""
+        content = self.path.state.contents[array]
+        return Content("none").with_copy(0, 8 * N_REGISTERS, content, offset)
+
+    @staticmethod
+    def options(old, new, words, way):
+        """Returns what a local may be that has these values before and after the first step, the likeliest first."""
+        if old == new:
+            return [Role("same"), Role("any")]
+        names = [
+            name for name in words[0] if words[0][name] == old and words[1][name] == new
+        ]
+        found = [Role(name) for name in names[:1]]
+        if isinstance(old, (int, Lin)) and isinstance(new, (int, Lin)):
+            growth = plus(new, times(old, -1))
+            if growth in (1, -1):
+                found += [Role("step", growth * way), Role("register", growth * way)]
+            elif growth in (8, -8):
+                found += [Role("register", growth * way), Role("step", growth * way)]
+        return [*found, Role("any")]
+
+    # The invariant
+
+    def path_at(self, invariant, q, i):
+        """Returns the path before any step at this place, and the step."""
+        path = self.started()
+        a = [fresh("A", k) for k in range(8)]
+        registers = Content(("registers", next(_serial)))
+        contents = path.state.contents
+        contents[invariant.array] = contents[invariant.array].with_copy(
+            invariant.offset, 8 * N_REGISTERS, registers, 0
+        )
+        step = Step(self.process, a, registers, q, i)
+        local = path.state.frames[-1][4]
+        for k, v in enumerate(self.values(invariant, step)):
+            local[k] = any_value() if v is ANY else v
+        for offset in invariant.changing:
+            path.memory[self.stack_pointer() + offset] = fresh("left"), 0
+        return path, step
+
+    def values(self, invariant, step):
+        """Returns what the locals have to be before a step, or ANY."""
+        words, made = step.words(), []
+        for role, v in zip(invariant.roles, self.local):
+            if role.kind == "any":
+                v = ANY
+            elif role.kind == "register":
+                moved = plus(step.i, times(self.first[1], -1))
+                v = plus(v, times(moved, role.growth))
+            elif role.kind == "step":
+                moved = plus(plus(step.q, step.i), times(plus(*self.first), -1))
+                v = plus(v, times(moved, role.growth))
+            elif role.kind != "same":
+                v = words[role.kind]
+            made.append(v)
+        return made
+
+    def check_locals(self, invariant, step, local):
+        for k, (v, wanted) in enumerate(zip(local, self.values(invariant, step))):
+            if wanted is not ANY and v != wanted:
+                raise OtherLocal(k, invariant.roles[k].kind)
+
+    def check_entry(self, invariant):
+        registers = self.seen(invariant.array, invariant.offset)
+        process = self.process
+        wanted = Content("none").with_copy(
+            0, 8 * N_REGISTERS, process.content, process.offset
+        )
+        place = first_difference(registers, wanted, 8 * N_REGISTERS)
+        if place is not None:
+            raise NotInvariant(f"the registers at the beginning, at {place}")
+        step = process.begin(registers, *self.first)
+        self.check_locals(invariant, step, self.local)
+
+    def cases(self):
+        """Yields (facts, the place of any step but the last one, the place of the next)."""
+        n, q, i = N_REGISTERS, unknown("q"), unknown("i")
+        rounds = [q, 5 * n - q]
+        if self.process.undo:
+            yield [*rounds, i - 1, n - 1 - i], (q, i), (q, i - 1)
+            yield [q - n, 5 * n - q], (q, 0), (q - n, n - 1)
+        else:
+            yield [*rounds, i, n - 2 - i], (q, i), (q, i + 1)
+            yield [q, 4 * n - q], (q, n - 1), (q + n, 0)
+
+    def check_step(self, invariant, facts, place, next_place):
+        before = Facts.now
+        waiting = [before.with_(*facts)]
+        try:
+            while waiting:
+                Facts.now = waiting.pop()
+                try:
+                    self.check_one(invariant, place, next_place)
+                except Undecided as question:
+                    waiting += Facts.now.cases(question.total)
+        finally:
+            Facts.now = before
+
+    def check_one(self, invariant, place, next_place):
+        path, step = self.path_at(invariant, *place)
+        memory, state = dict(path.memory), path.state.copy()
+        after = self.turn(path)
+        following = step.following(*next_place)
+        self.check_locals(invariant, following, after.state.frames[-1][4])
+        same = after.state.globals == state.globals and after.forks == self.path.forks
+        for frame, old in zip(after.state.frames, state.frames):
+            same &= frame[:4] == old[:4] and frame[5] == old[5]
+        for frame, old in zip(after.state.frames[:-1], state.frames[:-1]):
+            same &= frame[4] == old[4]
+        if not same:
+            raise NotInvariant("the stack is not what it was")
+        changing = {self.stack_pointer() + offset for offset in invariant.changing}
+        for at, cell in after.memory.items():
+            if at not in changing and memory.get(at) != cell:
+                raise OtherMemory(at)
+        self.check_contents(invariant, step, state.contents, after.state.contents)
+
+    def check_contents(self, invariant, step, old, new):
+        """One register is new."""
+        at = plus(invariant.offset, times(step.i, 8))
+        for name, content in new.items():
+            more = content.writes[len(old[name].writes) :]
+            if name != invariant.array and more:
+                raise NotInvariant(f"it writes to {name}")
+            for write in more:
+                inside = plus(write.offset, times(at, -1))
+                is_inside = isinstance(inside, int) and isinstance(write.size, int)
+                if not is_inside or not 0 <= inside <= inside + write.size <= 8:
+                    raise NotInvariant(f"it writes to {name} at {write.offset}")
+        _, register = step.made()
+        if new[invariant.array].bytes(at, 8) != register:
+            raise NotInvariant("the register is not what the standard makes")
