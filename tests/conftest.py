@@ -24,11 +24,13 @@ from builds import (
     debs,
     dist,
     in_c,
+    in_c_for_others,
     library,
     once,
     portable,
     prefix,
     python,
+    rotate_wheel,
     thing,
     wheel,
     words,
@@ -58,6 +60,7 @@ LONG = (
     "test_java",
     "test_js",
     "test_all_inputs",
+    "test_theory",
 )
 
 

@@ -11,7 +11,7 @@ import sys
 
 import pytest
 
-from builds import STRICT, run
+from builds import run
 from commands import ANSWERS, REFUSALS
 from program import SLOW, Ended, Program, all_of, evidence, slow
 from test_random_arguments import Lines, make_files, state
@@ -76,8 +76,9 @@ def edited(directory, *edits):
     return directory
 
 
-def rows(path, files, *options):
-    """Runs rows of the program over the program at this path. Returns how pytest ended, and what it printed."""
+def rows(path, files, *options, with_slow=True):
+    """Runs rows of the program over the program at this path, slow ones only if this run has them, too. Returns how
+    pytest ended, and what it printed."""
     tests = [ROOT / f"tests/test_{file}.py" for file in files]
     command = [
         sys.executable,
@@ -96,9 +97,8 @@ def rows(path, files, *options):
         for name, value in os.environ.items()
         if not name.startswith(("PYTEST_", "KEYWRAP", "TESTS"))
     }
-    env.update(
-        {name: value for name in ["KEYWRAP_ALL"] if (value := os.environ.get(name))}
-    )
+    if with_slow and "KEYWRAP_ALL" in os.environ:
+        env["KEYWRAP_ALL"] = os.environ["KEYWRAP_ALL"]
     ended = subprocess.run(
         [*map(str, command)],
         capture_output=True,
@@ -134,24 +134,37 @@ def test_version(in_c, keywrap):
     assert Program(in_c)("wrap --version").stdout == one.stdout.splitlines(True)[0]
 
 
-@pytest.mark.parametrize("file", all_of(FILES, {"answers", "reasons"}))
-def test_rows(in_c, record_property, file):
-    """All rows of the program."""
-    status, said = rows(in_c, [file], "-k", APART)
+def assert_rows(path, file, record_property, with_slow=True):
+    """The rows of the program in a file pass over the program at this path, or are skipped for a reason."""
+    status, said = rows(path, [file], "-k", APART, with_slow=with_slow)
     for count, reason in re.findall(r"^SKIPPED \[(\d+)\] \S+ (.*)$", said, re.M):
         for _ in range(int(count)):
             record_property("skipped", SLOW if reason == SLOW else reason)
     assert status == 0, said[-3000:]
 
 
+@pytest.mark.parametrize("file", all_of(FILES, {"answers", "reasons"}))
+def test_rows(in_c, record_property, file):
+    assert_rows(in_c, file, record_property)
+
+
+@pytest.mark.parametrize("file", all_of(FILES, {"answers"}))
+def test_rows_for_other_systems(in_c_for_others, record_property, file):
+    """Linux runs what host.c has for other systems: their numbers of errors, and the names of standard streams."""
+    assert_rows(in_c_for_others, file, record_property, with_slow=False)
+
+
+STRICTLY = "-Wall -Wextra -Werror"
+
+
 @slow
-@pytest.mark.parametrize("compiler", ["gcc -O2", "clang -O1"])
+@pytest.mark.parametrize(
+    "compiler", [f"gcc -O2 {STRICTLY}", f"clang -O1 {STRICTLY}", "tcc"]
+)
 def test_other_compilers(compiler):
     need(compiler.split()[0])
-    assert (
-        run(built(pathlib.Path("here"), compiler, *STRICT[1:]), *DRILL.split())
-        == f"{DRILLED}\n"
-    )
+    program = built(pathlib.Path("here"), compiler)
+    assert run(program, *DRILL.split()) == f"{DRILLED}\n"
 
 
 @slow

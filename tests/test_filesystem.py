@@ -237,7 +237,8 @@ class TestFaults:
                     status=0, stdout=f"status 6\n{FILES['kek24.hex'].decode()}file\n"
                 ),
             ),
-            # While a run waits for its input, a file of another file system takes the name and the number of its new file.
+            # While a run waits for its input, a file of another file system takes the name and
+            # the number of its new file.
             (
                 """mkdir one; mount -t tmpfs none one; echo old >one/file; mkfifo pipe; exec 3<>pipe
             "$program" wrap --kek kek16.hex -i pipe -o one/file 3<&- & run=$!
@@ -392,6 +393,14 @@ class TestLines:
                 assert select.select([run.stdout], [], [], 0)[0] == []
                 assert ask(run, f"{KEY16[at:]}\n", 1) == f"{WRAPPED16}\n"
             assert finish(run).status == 4
+
+    def test_refused_answer_ends_the_run(self, keywrap):
+        """It reads no other line, which might never come, as in `keywrap wrap --lines | head -1`."""
+        full = {**PIPES, "stdout": "/dev/full"}
+        with keywrap.started(f"{WRAP} --lines", **full) as run:
+            run.stdin.write(f"{KEY16}\n".encode())
+            run.stdin.flush()
+            assert run.wait(timeout=300) == 6
 
     @pytest.mark.needs("strace")
     def test_many_lines_are_written_in_few_pieces(self, keywrap):

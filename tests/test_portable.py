@@ -514,6 +514,51 @@ def test_cmake_of_a_program(copied, example, way):
     )
 
 
+@pytest.mark.needs("cc", "pkg-config")
+def test_install(copied, example):
+    """`make install` puts the library where pkg-config finds it, and where the lines of README link and run it."""
+    prefix = f"{os.getcwd()}/there"
+    _, _, output = example(os.getcwd())
+    page = (copied / "README").read_text()
+    (line,) = re.findall(r"^    \$ (cc wrap\.c \$\(pkg-config .*)", page, re.M)
+    run("make", "-C", copied, "install", f"prefix={prefix}")
+    assert sorted(os.listdir(f"{prefix}/include")) == ["keywrap.h", "keywrap_steps.h"]
+    assert sorted(os.listdir(f"{prefix}/lib")) == [
+        "libkeywrap.a",
+        "libkeywrap.so",
+        "libkeywrap.so.1",
+        "pkgconfig",
+    ]
+    found = {
+        **os.environ,
+        "PKG_CONFIG_PATH": f"{prefix}/lib/pkgconfig",
+        "LD_LIBRARY_PATH": f"{prefix}/lib",
+    }
+    assert run("bash", "-ec", line, env=found) == output
+    version = re.findall(
+        r"^#define KEYWRAP_VERSION_\w+ (\d+)$", (copied / "keywrap.h").read_text(), re.M
+    )
+    assert run("pkg-config", "--modversion", "keywrap", env=found).split() == [
+        ".".join(version)
+    ]
+
+
+@slow
+def test_cmake_shared(copied, example):
+    """With BUILD_SHARED_LIBS `keywrap` is shared, and `keywrap_static` is not."""
+    need("cmake", "cc")
+    os.mkdir("program")
+    _, lines, output = example("program")
+    shutil.move(copied, "program/keywrap")
+    lines += "add_executable(static wrap.c)\ntarget_link_libraries(static keywrap::keywrap_static)\n"
+    pathlib.Path("program/CMakeLists.txt").write_text(lines)
+    run("cmake", "-S", "program", "-B", "out", "-DBUILD_SHARED_LIBS=ON")
+    run("cmake", "--build", "out")
+    assert run("out/wrap") == run("out/static") == output
+    assert "libkeywrap.so.1" in run("ldd", "out/wrap")
+    assert "libkeywrap" not in run("ldd", "out/static")
+
+
 @pytest.mark.parametrize(
     "given, found",
     [

@@ -15,6 +15,13 @@
 
 #include "module.h"
 
+/* KEYWRAP_HOST_NOT_LINUX compiles on Linux what other systems get, so that it can be tested there. */
+#if defined(__linux__) && !defined(KEYWRAP_HOST_NOT_LINUX)
+#define IS_LINUX 1
+#else
+#define IS_LINUX 0
+#endif
+
 #ifndef O_CLOEXEC
 #error "O_CLOEXEC is missing: a child would inherit the descriptor of the KEK"
 #endif
@@ -56,18 +63,19 @@ static const struct {
     {37, ENOLCK},     {38, ENOSYS},   {39, ENOTEMPTY},  {40, ELOOP},       {75, EOVERFLOW},
     {84, EILSEQ},     {88, ENOTSOCK}, {95, EOPNOTSUPP}, {104, ECONNRESET}, {107, ENOTCONN},
     {110, ETIMEDOUT}, {116, ESTALE},  {122, EDQUOT},    {125, ECANCELED},
+#ifdef ENOTBLK
+    {15, ENOTBLK},
+#endif
 };
 enum { ERRORS = sizeof errors / sizeof *errors, OTHERS = 4096 };
 
-/* Other errors keep their numbers on Linux. Elsewhere they get numbers that no error of Linux has. */
+/* 0 is no error on any system. Other errors keep their numbers on Linux. Elsewhere they get numbers that no error of
+ * Linux has. */
 static u32 to_linux(int number) {
+    if (number == 0) return 0;
     for (int i = 0; i < ERRORS; i++)
         if (errors[i].number == number) return (u32)errors[i].linux_number;
-#ifdef __linux__
-    return (u32)number;
-#else
-    return (u32)number + OTHERS;
-#endif
+    return (u32)number + (IS_LINUX ? 0 : OTHERS);
 }
 
 static int from_linux(u32 number) {
@@ -103,9 +111,15 @@ static void give(u64 result, void *block) {
     put(result + 8, 8, ADDRESS(block ? block : memory));
 }
 
-/* malloc aligns every block for any type of C, and the module wants no more. */
+/* malloc aligns every block for any type of C, and the module wants no more. Some compilers lack max_align_t. */
+union any_type {
+    long long number;
+    long double real;
+    void *pointer;
+};
+
 static size_t size_of_block(u64 size, u64 align) {
-    if (align > _Alignof(max_align_t)) abort();
+    if (align > _Alignof(union any_type)) abort();
     size = size ? size : align;
     return size <= SIZE_MAX ? (size_t)size : SIZE_MAX;
 }
@@ -200,12 +214,12 @@ u32 host_fcntl(u32 file, u32 command, u64 rest) {
 u32 host_pipe2(u64 files, u32 flags) {
     int ends[2];
     if (flags != 02000000) abort();
-#ifdef __APPLE__
+#if IS_LINUX
+    if (pipe2(ends, O_CLOEXEC)) return (u32)-1;
+#else
     if (pipe(ends)) return (u32)-1;
     fcntl(ends[0], F_SETFD, FD_CLOEXEC);
     fcntl(ends[1], F_SETFD, FD_CLOEXEC);
-#else
-    if (pipe2(ends, O_CLOEXEC)) return (u32)-1;
 #endif
     put(files, 4, (u32)ends[0]);
     put(files + 4, 4, (u32)ends[1]);
@@ -250,7 +264,7 @@ u32 host_statx(u32 file, u64 path, u32 flags, u32 mask, u64 to) {
     struct stat found;
     int failed;
     (void)mask;
-#ifndef __linux__
+#if !IS_LINUX
     /* Linux's names of the standard streams. */
     if (!strncmp(name, "/proc/self/fd/", 14) && name[14] >= '0' && name[14] <= '2' && !name[15]) {
         file = (u32)(name[14] - '0');

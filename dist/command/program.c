@@ -1,7 +1,7 @@
 /* The program keywrap, version 1.3.0-dev, translated to C from the module of the proved program.
  * `make dist-sources` of the repository writes this file; do not edit it.
  * By Rattle rattle-kit-13f logic dac8208d650f15bf, binaryen 108.
- * Of the sources ad5620d6230e82064e1fa9cd1c2799c7c50a6ee8d9bcfb58d07ef6b1e371691a.
+ * Of the sources 125ee611464c257e5448ab082db81c1303a5cecbe315b1f367951c65f5a59227.
  * docs/TRUST.md of the repository says what is proved, what is translated and what is trusted. */
 
 #include "module.h"

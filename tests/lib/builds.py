@@ -118,23 +118,29 @@ def library(once, built):
 STRICT = ["-O1", "-Wall", "-Wextra", "-Werror"]
 
 
-@pytest.fixture(scope="session")
-def in_c(once):
-    """The path of the program as `make -C dist keywrap` builds it, without a warning."""
+def program_in_c(once, name, *options):
+    """The path of the program as `make -C dist keywrap` builds it with these options, without a warning."""
     need("cc")
+    flags = [*STRICT, "-DKEYWRAP_AES_INSTRUCTIONS_MUST_WORK", *options]
 
     def build(directory):
         shutil.copytree(ROOT / "dist/command", directory / "command")
         shutil.copy(ROOT / "dist/Makefile", directory)
-        run(
-            "make",
-            "-C",
-            directory,
-            "keywrap",
-            f"CFLAGS={' '.join(STRICT)} -DKEYWRAP_AES_INSTRUCTIONS_MUST_WORK",
-        )
+        run("make", "-C", directory, "keywrap", f"CFLAGS={' '.join(flags)}")
 
-    return once("program in C", build) / "keywrap"
+    return once(name, build) / "keywrap"
+
+
+@pytest.fixture(scope="session")
+def in_c(once):
+    """The path of the program in C."""
+    return program_in_c(once, "program in C")
+
+
+@pytest.fixture(scope="session")
+def in_c_for_others(once):
+    """The path of the program in C with what host.c has for systems other than Linux."""
+    return program_in_c(once, "program in C for others", "-DKEYWRAP_HOST_NOT_LINUX")
 
 
 @pytest.fixture(scope="session")
@@ -257,6 +263,18 @@ def wheel(once, words, python):
 
 
 @pytest.fixture(scope="session")
+def rotate_wheel(once, python):
+    """The wheel of `make wheel-rotate`."""
+
+    def build(directory):
+        words = f"DIST={directory}", f"PYTHON={python}"
+        run("make", "-s", "-C", ROOT, "wheel-rotate", *words)
+
+    (made,) = once("wheel of rotation", build).glob("*.whl")
+    return made
+
+
+@pytest.fixture(scope="session")
 def debs(once, built, pytestconfig):
     """Debian's packages, built in tree/ over the program and the archive, and log."""
     need(
@@ -290,7 +308,9 @@ def debs(once, built, pytestconfig):
 
 def package_of(debs, name):
     """The file of a package of Debian."""
-    return debs / f"{name.removeprefix('deb ')}_{NAMES['DEBIAN']}_amd64.deb"
+    name = name.removeprefix("deb ")
+    architecture = "all" if name == "keywrap-rotate" else "amd64"
+    return debs / f"{name}_{NAMES['DEBIAN']}_{architecture}.deb"
 
 
 def unpacked(archive, directory):
@@ -356,13 +376,16 @@ def thing(request, once):
         for name in "build", "one", "two":
             shutil.rmtree(directory / name)
 
-    def wheel(directory):
-        with zipfile.ZipFile(request.getfixturevalue("wheel")) as files:
-            files.extractall(directory)
-            for member in files.infolist():
-                (directory / member.filename).chmod(
-                    stat.S_IMODE(member.external_attr >> 16)
-                )
+    def wheel(fixture):
+        def build(directory):
+            with zipfile.ZipFile(request.getfixturevalue(fixture)) as files:
+                files.extractall(directory)
+                for member in files.infolist():
+                    (directory / member.filename).chmod(
+                        stat.S_IMODE(member.external_attr >> 16)
+                    )
+
+        return build
 
     def archive(pattern):
         def build(directory):
@@ -407,7 +430,8 @@ def thing(request, once):
         "library": installed("install-library"),
         "hardware": hardware,
         "provider": provider,
-        "wheel": wheel,
+        "wheel": wheel("wheel"),
+        "wheel-rotate": wheel("rotate_wheel"),
         "sdist": archive(f"keywrap-{NAMES['PYTHON']}.tar.gz"),
         "npm": archive("*.tgz"),
         "portable": archive("keywrap-portable-*"),
