@@ -1,10 +1,10 @@
 #!/usr/bin/env python3
 """How long a rotation takes, as CSV: of a million keys of 32 bytes in files, in SQLite and in PostgreSQL, by
-keywrap.rotate with 1 and 4 jobs, and of a hundredth of them in files of one key; each time with a second run over the
+keywrap-rotate with 1 and 4 jobs, and of a hundredth of them in files of one key; each time with a second run over the
 same keys. A run ends with a pass that verifies all keys. Beside a database a writer measures how long each transaction
 waits. PostgreSQL is left out if it is not installed.
 
-usage: bench/rotation.py WHEEL [KEYS]       (KEYS: 1,000,000 by default)"""
+usage: bench/rotation.py WHEEL WHEEL [KEYS]       of keywrap and of keywrap-rotate (KEYS: 1,000,000 by default)"""
 
 import collections
 import contextlib
@@ -29,7 +29,7 @@ KEK, NEW_KEK = os.urandom(32), os.urandom(32)
 ROTATE = (
     sys.executable,
     "-m",
-    "keywrap.rotate",
+    "keywrap_rotate",
     "--kek",
     "kek.hex",
     "--new-kek",
@@ -153,10 +153,11 @@ def of_postgresql(texts):
     client.close()
 
 
-def main(wheel, count="1000000"):
+def main(wheel, rotate_wheel, count="1000000"):
     with tempfile.TemporaryDirectory() as here:
         package = f"{here}/package"
-        zipfile.ZipFile(wheel).extractall(package)
+        for file in wheel, rotate_wheel:
+            zipfile.ZipFile(file).extractall(package)
         os.environ["PYTHONPATH"] = package
         sys.path.insert(0, package)
         import keywrap

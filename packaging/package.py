@@ -10,6 +10,7 @@ usage: package.py documents DIRECTORY MACHINE README DOCUMENT..   copies documen
        package.py go DIRECTORY FILE..               packs files of dist/ as a Go module, as a module proxy has it
        package.py needs PYTHON [Python.h]           fails if this Python lacks what builds the package for Python
        package.py wheel PYTHON LIBRARY FILE [SYSROOT]   builds the wheel (SYSROOT: for another machine, by CC)
+       package.py rotate PYTHON FILE                builds the wheel of the rotation
        package.py sdist PYTHON FILE                 builds the source distribution
        package.py lists FILE..                      writes keywrap-VERSION.cdx.json and SHA256SUMS beside the files
 
@@ -247,20 +248,18 @@ def needs(python, *headers):
         )
 
 
-def python_package(python, kind, package, directory, sources, env=None):
-    """Builds the Python package in a directory, from a copy of its sources with the files that it needs beside them."""
+def copied_package(source, package):
+    """Copies the sources of a Python package, without what Python and `pip install` leave in them."""
     shutil.rmtree(package, ignore_errors=True)
-    # Without what Python, and `pip install ./python`, leave in the sources.
     left = shutil.ignore_patterns("__pycache__", "build", "*.egg-info", "*.so")
-    shutil.copytree("python", package, ignore=left, copy_function=shutil.copyfile)
-    for name, source in {"VERSION": "VERSION", **sources}.items():
-        shutil.copyfile(source, package / name)
-    shutil.copytree("dist/command", package / "command")
-    for page, place in ("python/README.md", "README.md"), (
-        "docs/ROTATION.md",
-        "src/keywrap/rotation/ROTATION.md",
-    ):
-        (package / place).write_text(with_links(pathlib.Path(page).read_text()))
+    shutil.copytree(source, package, ignore=left, copy_function=shutil.copyfile)
+    shutil.copyfile("VERSION", package / "VERSION")
+    page = pathlib.Path(source, "README.md").read_text()
+    (package / "README.md").write_text(with_links(page))
+
+
+def built_package(python, kind, package, directory, env=None):
+    """Builds a wheel or a source distribution of a copied package in the directory."""
     directory.mkdir(parents=True, exist_ok=True)
     options = [f"--{kind}", "--no-isolation", "--outdir", directory, package]
     built = subprocess.run(
@@ -272,6 +271,27 @@ def python_package(python, kind, package, directory, sources, env=None):
     )
     if built.returncode:
         sys.exit(built.stdout.strip())
+
+
+def python_package(python, kind, package, directory, sources, env=None):
+    """Builds the Python package in a directory, from a copy of its sources with the files that it needs beside them."""
+    copied_package("python", package)
+    for name, source in sources.items():
+        shutil.copyfile(source, package / name)
+    shutil.copytree("dist/command", package / "command")
+    built_package(python, kind, package, directory, env)
+
+
+def rotate(python, file):
+    """Builds the wheel of the rotation, with the page for operators."""
+    file = pathlib.Path(file)
+    with tempfile.TemporaryDirectory() as workdir:
+        package = pathlib.Path(workdir, "rotation")
+        copied_package("rotation", package)
+        page = pathlib.Path("docs/ROTATION.md").read_text()
+        (package / "ROTATION.md").write_text(with_links(page))
+        built_package(python, "wheel", package, file.parent)
+    print(file)
 
 
 def wheel(python, library, file, sysroot=None):
@@ -438,6 +458,7 @@ if __name__ == "__main__":
             go,
             needs,
             wheel,
+            rotate,
             sdist,
             lists,
         )

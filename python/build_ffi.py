@@ -1,6 +1,6 @@
-"""The extension keywrap._ffi: the calls of keywrap.h and keywrap_steps.h, with libkeywrap_hw.a linked in. In the source
-distribution, which has keywrap.c instead, and in a clone of the repository, which has it in dist/, they are the portable
-ones."""
+"""The extension keywrap._ffi: the calls of keywrap.h and keywrap_steps.h, with libkeywrap_hw.a
+linked in. The source distribution has keywrap.c instead, and a clone of the repository has it in
+dist/: there the calls are the portable ones."""
 
 import os
 import re

@@ -1,6 +1,5 @@
-"""The extension, the command keywrap in C, the rotation's page, and the version. `make wheel` and `make sdist` put
-VERSION, the header, the library, the command's C and the page here. In a clone of the repository they are in the
-directory above, in dist/ and in docs/."""
+"""The extension, the command keywrap in C, and the version. `make wheel` and `make sdist` put VERSION, the header, the
+library and the command's C here. In a clone of the repository they are in the directory above, and in dist/."""
 
 import os
 import shlex
@@ -11,21 +10,11 @@ from setuptools import (
     setup,
 )  # noqa: I001 (it comes first: it has the distutils of the next line)
 from distutils.command.build_scripts import build_scripts
-from setuptools.command.build_py import build_py
 
 version = next(path for path in (Path("VERSION"), Path("../VERSION")) if path.exists())
 command = next(
     path for path in (Path("command"), Path("../dist/command")) if path.exists()
 )
-
-
-class BuildModules(build_py):
-    """Adds the page of the rotation."""
-
-    def run(self):
-        super().run()
-        if Path("../docs/ROTATION.md").exists():
-            self.copy_file("../docs/ROTATION.md", f"{self.build_lib}/keywrap/rotation")
 
 
 class BuildCommand(build_scripts):
@@ -57,7 +46,7 @@ setup(
     version=version.read_text(encoding="utf-8").strip().replace("-dev", ".dev0"),
     cffi_modules=["build_ffi.py:ffi"],
     scripts=["keywrap"],
-    cmdclass={"build_py": BuildModules, "build_scripts": BuildCommand},
+    cmdclass={"build_scripts": BuildCommand},
     # What an earlier build left may have other flags.
     options={"bdist_wheel": {"py_limited_api": "cp39"}, "build_ext": {"force": True}},
 )

@@ -104,6 +104,7 @@ install -m 755 /dev/stdin bin/python <<'END_OF_PYTHON'
 mkdir -p "$6"
 name=keywrap-1.2.3.dev0
 [ "$3" != --sdist ] || { mkdir "$6/$name" && tar -C "$6" -czf "$6/$name.tar.gz" $name; exit; }
+[ "${7##*/}" != rotation ] || { echo wheel >"$6/keywrap_rotate-1.2.3.dev0-py3-none-any.whl" && exit; }
 echo wheel >"$6/keywrap-1.2.3.dev0-cp39-abi3-$(sed -n 's/^plat_name = //p' "$7/setup.cfg").whl"
 END_OF_PYTHON
 printf '#!/bin/sh\nwhile [ "$1" != -o ]; do shift; done\necho wasm >"$2"\n' | install -m 755 /dev/stdin bin/wasm-opt

@@ -19,6 +19,7 @@ pytestmark = slow
 PACKAGES = [
     "keywrap",
     "keywrap-openssl-provider",
+    "keywrap-rotate",
     "libkeywrap-dev",
     "libkeywrap1",
     "python3-keywrap",
@@ -82,7 +83,7 @@ def in_root(debs, script, **files):
     }.items():
         pathlib.Path("files", name).write_text(text)
     script = f"""
-        dpkg --root="$PWD/merged" -i {debs}/*_amd64.deb
+        dpkg --root="$PWD/merged" -i {debs}/*.deb
         mount -t tmpfs none merged/tmp && cp files/* merged/tmp
         mount --rbind /proc merged/proc && mount --rbind /dev merged/dev
         chroot merged bash -eu /tmp/inside && cp merged/tmp/found found
@@ -124,7 +125,7 @@ openssl list -providers -provider keywrap | grep -F 'keywrap: AES Key Wrap, prov
 python3 -c 'import keywrap; print(keywrap.wrap(bytes(range(16)), bytes(range(0, 256, 17))).hex())' >>found
 cc /usr/share/doc/libkeywrap-dev/examples/c/wrap.c $(pkg-config --cflags --libs keywrap) -o wrap
 ./wrap | grep '^wrap: done: ' >>found
-keywrap-rotate --version | grep '^keywrap.rotate 1' >>log
+keywrap-rotate --version | grep '^keywrap-rotate 1' >>log
 zsh -fc 'autoload -U compinit && compinit -D -u && print -r -- $_comps[keywrap]' >>found
 """,
         example="\n".join(typed) + "\n",

@@ -33,6 +33,7 @@ THINGS = [
     "go",
     "npm",
     "wheel",
+    "wheel-rotate",
 ]
 HEADERS = "".join(
     (ROOT / "dist" / name).read_text() for name in ("keywrap.h", "keywrap_steps.h")
@@ -136,10 +137,9 @@ def fields(request, name):
         if name == "sdist"
         else thing(name).glob("*.dist-info/[MW]*")
     )
+    messages = [email.message_from_string(file.read_text()) for file in files]
     return {
-        key: value
-        for file in files
-        for key, value in email.message_from_string(file.read_text()).items()
+        key: "; ".join(message.get_all(key)) for message in messages for key in message
     }
 
 

@@ -18,12 +18,15 @@ from machines import WITH_SSE41, WITHOUT_SSE41
 from program import SLOW, all_of, evidence, slow
 from vectors import WRAPPED16, WRAPPED32
 
-TESTS = ROOT / "python/tests"
-# The lines of the page: an environment, the package over portable C, its use, and the wheel.
-LINES = re.findall(
-    r"^    ((?:python3 -m venv|env/bin/).*)",
-    (ROOT / "python/README.md").read_text(),
-    re.M,
+# The directories with own tests: of the package, and of the rotation over it.
+TESTS = ROOT / "python/tests", ROOT / "rotation/tests"
+# The lines of the pages: an environment, the package over portable C, its use, and the wheel; for the rotation an
+# environment, both packages, the version, and the wheels.
+LINES, ROTATION_LINES = (
+    re.findall(
+        r"^    ((?:python3 -m venv|env/bin/).*)", (ROOT / page).read_text(), re.M
+    )
+    for page in ("python/README.md", "rotation/README.md")
 )
 
 
@@ -106,19 +109,21 @@ def test_stripped_extension(thing):
 
 
 @pytest.fixture(scope="session")
-def installed(once, wheel, python):
-    """The Python of an environment with the wheel, by the README's lines. The last one wraps as OpenSSL does."""
+def installed(once, wheel, rotate_wheel, python):
+    """The Python of an environment with both wheels, by the pages' lines. The last one wraps as OpenSSL does."""
 
     def build(directory):
         for name in "out", "first":
             (directory / name).mkdir()
-        shutil.copy(wheel, directory / "out")
+        for built in wheel, rotate_wheel:
+            shutil.copy(built, directory / "out")
         (directory / "first/python3").symlink_to(python)
         environment, _, example, _, of_wheel = LINES
+        *_, of_rotation = ROTATION_LINES
         said = run(
             "bash",
             "-ec",
-            "\n".join([environment, of_wheel, example]),
+            "\n".join([environment, of_wheel, of_rotation, example]),
             cwd=directory,
             env={
                 **os.environ,
@@ -150,14 +155,18 @@ def installed(once, wheel, python):
 )
 def test_from_a_clone(address):
     """pip installs the package over portable C, without the kit and without a network, from the directory or by its
-    address; help() names the modules, and the rotation's page is there. What it leaves in the sources is ignored, also
-    by an install with other flags."""
+    address; help() names the modules. Then both packages are installed, with other flags: the rotation's page is there,
+    and keywrap.rotate forwards to it. What pip leaves in the sources is ignored."""
     run("git", "clone", "-q", ROOT, "clone")
+    _, of_both, version, _ = ROTATION_LINES
     lines = [line.replace("./python", f'"{address}"') for line in LINES[:3]]
     more = (
         "env/bin/python3 -c 'import keywrap; help(keywrap)'",
-        "diff env/lib/python3*/site-packages/keywrap/rotation/ROTATION.md docs",
-        f"CPPFLAGS=-DKEYWRAP_NO_AES_INSTRUCTIONS {lines[1]}",
+        "env/bin/python3 -m keywrap.rotate 2>&1 || [ $? = 2 ]",
+        f"CPPFLAGS=-DKEYWRAP_NO_AES_INSTRUCTIONS {of_both}",
+        version,
+        "env/bin/python3 -m keywrap.rotate --version",
+        "diff env/lib/python3*/site-packages/keywrap_rotate/ROTATION.md docs",
         '[ -z "$(objdump -d env/lib/python3*/site-packages/keywrap/_ffi*.so | grep aesenc)" ]',
         "git status --short",
     )
@@ -166,6 +175,9 @@ def test_from_a_clone(address):
     assert all(
         f"keywrap.{name}" in said for name in ("steps", "pyca", "rotate", "vectors")
     )
+    missing = "the rotation is in the package keywrap-rotate, which is not installed"
+    assert f"keywrap.rotate: {missing}\n" in said
+    assert said.count(f"keywrap-rotate {NAMES['PYTHON']}\n") == 2
     assert said.endswith("?? env/\n") and said.count("??") == 1
 
 
@@ -237,19 +249,24 @@ def own_tests(installed, keywrap, record_property):
     return call
 
 
-FILES = sorted(str(path.relative_to(TESTS)) for path in TESTS.rglob("test_*.py"))
+FILES = sorted(
+    str(path.relative_to(ROOT))
+    for directory in TESTS
+    for path in directory.glob("test_*.py")
+)
 # These start servers, make a run for each row, or kill runs.
 LONG = {
-    f"rotation/test_rotation_{name}.py"
+    f"rotation/tests/test_rotation_{name}.py"
     for name in (
-        "command dask faults files keks kills objects passes postgresql recipes sqlite"
+        "command dask faults files keks kills objects operators passes"
+        " postgresql recipes renames sqlite stores"
     ).split()
 }
 
 
 @pytest.mark.parametrize("file", all_of(FILES, {*FILES} - LONG))
 def test_own_tests(own_tests, file):
-    own_tests(TESTS / file)
+    own_tests(ROOT / file)
 
 
 @slow
@@ -258,7 +275,7 @@ def test_hostile_objects_under_the_address_sanitizer(own_tests):
     """The system's allocator has each object in a block of its own, whose ends the sanitizer watches."""
     sanitizer = run("gcc", "-print-file-name=libasan.so").strip()
     own_tests(
-        TESTS / "test_objects.py",
+        ROOT / "python/tests/test_objects.py",
         "-k",
         "not many_calls and not thread",
         PYTHONMALLOC="malloc",
@@ -373,7 +390,7 @@ print(keywrap.steps.unwrap_padded(decrypt, keywrap.steps.wrap_padded(encrypt, b"
 
 @pytest.mark.needs("import mypy")
 class TestTypes:
-    def test_package(self, python):
+    def test_packages(self, python):
         cache = f"--cache-dir={os.getcwd()}/mypy"
         run(
             python,
@@ -383,6 +400,7 @@ class TestTypes:
             cache,
             "--config-file=",
             ROOT / "python/src/keywrap",
+            ROOT / "rotation/src/keywrap_rotate",
         )
 
     def test_caller(self, installed, python):

@@ -61,7 +61,7 @@ def follow(keywrap, files, script):
     return ended.stdout
 
 
-# Two kinds are tested elsewhere: recipes with the Python package in python/tests/rotation, the recipe that
+# Two kinds are tested elsewhere: recipes with the Python package in rotation/tests, the recipe that
 # compiles a program with the C library in tests/test_hardware.py.
 @pytest.mark.parametrize(
     "name",

@@ -49,6 +49,7 @@ def test_packages(built, pytestconfig, tmp_path):
         "libkeywrap",
         "libkeywrap-devel",
         "python3-keywrap",
+        "keywrap-rotate",
         "keywrap-openssl-provider",
     }
     assert {
@@ -72,12 +73,16 @@ def test_packages(built, pytestconfig, tmp_path):
         any(name.startswith(f"{extra}/") for name in wanted)
         for extra in installed - wanted.keys()
     )
-    assert "/usr/bin/keywrap-rotate" in listed["python3-keywrap"]
+    assert "/usr/bin/keywrap-rotate" in listed["keywrap-rotate"]
+    conflicts = run("rpm", "-qp", "--conflicts", packages["keywrap-rotate"])
+    assert conflicts == "python3-keywrap < 1.3.0~\n"
     modules = {name.partition("-packages/")[2] for name in listed["python3-keywrap"]}
     # The command keywrap is in a package of its own.
     assert {
         name for name in expected("files of wheel") if ".data/" not in name
     } <= modules
+    modules = {name.partition("-packages/")[2] for name in listed["keywrap-rotate"]}
+    assert expected("files of wheel-rotate").keys() <= modules
     assert {pathlib.Path(name).name for name in listed["keywrap-openssl-provider"]} == {
         "keywrap.so",
         "keywrap-openssl-provider",

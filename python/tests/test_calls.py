@@ -16,8 +16,12 @@ from test_objects import Liar
 
 KEK = bytes(range(16))
 WRAPPED, PADDED_OF_7 = keywrap.wrap(KEK, KEK), keywrap.wrap_padded(KEK, KEK[:7])
-MANY = {"wrap_many": ([KEK], KEK), "unwrap_many": ([KEK], WRAPPED), "rewrap_many": ([KEK, KEK], WRAPPED),
-        "check_many": ([KEK], WRAPPED)}  # fmt: skip
+MANY = {
+    "wrap_many": ([KEK], KEK),
+    "unwrap_many": ([KEK], WRAPPED),
+    "rewrap_many": ([KEK, KEK], WRAPPED),
+    "check_many": ([KEK], WRAPPED),
+}
 each_call = pytest.mark.parametrize("name", MANY)
 
 
@@ -138,8 +142,14 @@ def test_items(name):
     assert call(*keks, []) == call(*keks, b"", 16) == []
 
 
-@pytest.mark.parametrize("name, item", [("wrap_many", bytes(range(32))), ("wrap_many", bytes(range(9))),
-                                        ("unwrap_many", keywrap.wrap(KEK, bytes(range(32))))])  # fmt: skip
+@pytest.mark.parametrize(
+    "name, item",
+    [
+        ("wrap_many", bytes(range(32))),
+        ("wrap_many", bytes(range(9))),
+        ("unwrap_many", keywrap.wrap(KEK, bytes(range(32)))),
+    ],
+)
 def test_keys_in_buffers_are_wiped(monkeypatch, name, item):
     """Also if the call is refused, or the lengths differ."""
     made, wipe = [], _many._Slots.wipe

@@ -1,56 +1,33 @@
-"""Rotates stores of wrapped keys from one key-encryption key (KEK) to another.
+"""Forwards to the package keywrap-rotate, which rotates stores of wrapped keys.
 
-`python -m keywrap.rotate` repeats passes over files, tables or objects until one of them has nothing to do. A unit of a
-pass may run twice and be killed at any point: a file is replaced by an exchange of names, a row only if nobody changed
-it. Each machine reads the KEKs from its own files. No KEK, key or wrapped key of a store is in an argument, an answer,
-an exception or a report. `rewrap_all` and `replace` are for stores of any other kind.
+`python -m keywrap.rotate` is its command, and this module has its public names.
 """
 
+import importlib
 import sys
-from typing import Dict, Mapping
+from typing import Any
 
-from .rotation.command import main
-from .rotation.files import replace
-from .rotation.found import EqualKeks, Found, Refused, WrongKeks
-from .rotation.keks import Keks
-from .rotation.keys import Notation, renewed
-from .rotation.options import keks_of, parse
+_MISSING = "the rotation is in the package keywrap-rotate, which is not installed"
 
-__all__ = [
-    "EqualKeks",
-    "Keks",
-    "Refused",
-    "WrongKeks",
-    "challenges",
-    "main",
-    "replace",
-    "rewrap_all",
-]
+try:
+    _package: Any = importlib.import_module("keywrap_rotate")
+except ModuleNotFoundError as error:
+    if error.name != "keywrap_rotate":
+        raise
+    if __name__ == "__main__":
+        print(f"keywrap.rotate: {_MISSING}", file=sys.stderr)
+        sys.exit(2)
+    raise ModuleNotFoundError(_MISSING, name="keywrap_rotate") from None
+
+__all__ = list(_package.__all__)
 
 
-def challenges() -> Keks:
-    """Reads the KEKs of the files that `KEYWRAP_KEK` and `KEYWRAP_NEW_KEK` name. Returns these names and a challenge,
-    by which another machine sees whether its KEKs are the same. Raises `WrongKeks`."""
-    return keks_of(parse(["any store"])).challenged()
-
-
-def rewrap_all(keys: Mapping[str, bytes], keks: Keks) -> Dict[str, bytes]:
-    """Rewraps wrapped keys, raw bytes each, in their form. A key that is under the new KEK already stays. The names are
-    for refusals. `keks` is the result of `challenges` at the beginning of the rotation. Raises `WrongKeks` if this
-    machine's KEKs are others, and `Refused` with the names of the keys that are under neither KEK.
-    """
-    names, found = list(keys), Found()
-    fresh = renewed(
-        keks.rings(),
-        Notation("raw"),
-        [keys[name] for name in names],
-        found,
-        names.__getitem__,
-    )
-    if found.refused:
-        raise Refused("; ".join(f"{name!r}: {why}" for name, why in found.named))
-    return {name: fresh.get(at, keys[name]) for at, name in enumerate(names)}
+def __getattr__(name: str) -> Any:
+    """Returns a public name of keywrap_rotate."""
+    if name not in __all__:
+        raise AttributeError(f"module {__name__!r} has no attribute {name!r}")
+    return getattr(_package, name)
 
 
 if __name__ == "__main__":
-    sys.exit(main())
+    sys.exit(_package.main())

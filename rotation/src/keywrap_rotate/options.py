@@ -1,0 +1,291 @@
+"""The arguments of keywrap-rotate, and the KEKs that they describe."""
+
+import argparse
+import itertools
+import os
+import sys
+from typing import Any, Optional, Sequence, Tuple
+
+import keywrap
+
+from .found import WrongKeks
+from .keks import Keks, table_of
+from .stores import add_options, misfit
+
+DESCRIPTION = """Rewraps the keys of a store from the KEK to the new KEK. By default a FILE has one key on each line, in
+hex; a directory means all files below it. The page ROTATION.md has examples."""
+EPILOG = """Status: 0 a whole pass, which began after the last change, listed the store anew, found a key, and read
+every key under the new KEK (an empty shard is 0, too); 2 arguments; 3 a machine lacks the KEKs; 4 the report cannot be
+written; 5 keys or files were refused, or there is no key; 6 not finished: run it again; 130 interrupted. A file that is
+renamed at the right moment in both last passes can be missed: stop renames, then --verify."""
+#: The options of 1.1 that are gone, and what to do instead.
+GONE = {
+    "--id": "leave it out: rows are found without a column that orders them",
+    "--resume": "leave it out: a second run reads the store again; --report has a report",
+    "--merge": "--verify over the whole store says what merged reports cannot",
+    "--parts": "leave it out, and --shard for one large file: one run rotates it",
+    "--progress-file": "--report has a line for each unit, as soon as it is done",
+    "--max-lag": "--rate limits the keys a second; or interrupt the run, and begin it again",
+    "--all-or-nothing": "--dry-run first: its status is 5 if a key would be refused",
+    "--kek-command": "--kek <(COMMAND)",
+    "--new-kek-command": "--new-kek <(COMMAND)",
+    "--objects": "--files-from MANIFEST with --get and --put",
+    "--prefix-format": "--prefix with each text before old keys, as 'vault:v3:'",
+    "--new-version": "--new-prefix with the text before new keys, as 'vault:v4:'",
+}
+
+
+def _positive(text: str) -> int:
+    if not text.isdecimal() or int(text) < 1:
+        raise argparse.ArgumentTypeError("must be a positive integer")
+    return int(text)
+
+
+def _delimiter(text: str) -> str:
+    if text == "tab":
+        return "\t"
+    if len(text) != 1 or text in '\r\n"':
+        raise argparse.ArgumentTypeError("not one character, and not tab")
+    return text
+
+
+def _shard(text: str) -> Tuple[int, int]:
+    number, _, count = text.partition("/")
+    if not (
+        number.isdecimal() and count.isdecimal() and 1 <= int(number) <= int(count)
+    ):
+        raise argparse.ArgumentTypeError("not I/N, with I from 1 to N")
+    return int(number), int(count)
+
+
+def _parser() -> argparse.ArgumentParser:
+    parser = argparse.ArgumentParser(
+        "keywrap-rotate",
+        usage="%(prog)s [OPTION].. [FILE]..",
+        description=DESCRIPTION,
+        epilog=EPILOG,
+        add_help=False,
+        allow_abbrev=False,
+        formatter_class=lambda prog: argparse.HelpFormatter(prog, max_help_position=23),
+    )
+    add = parser.add_argument
+    add(
+        "--kek",
+        metavar="F",
+        action="append",
+        help="file of a KEK, in hex (default: $KEYWRAP_KEK)",
+    )
+    add("--new-kek", metavar="F", help="its successor (default: $KEYWRAP_NEW_KEK)")
+    add("--raw-kek", action="store_true", help="KEK files are raw bytes")
+    add("--keks", metavar="F", help="table of KEKs: each line is NAME=FILE")
+    add("--new-keks", metavar="F", help="table of new KEKs, with the same names")
+    add("--kek-name", metavar="C", help="column or member with the name of a key's KEK")
+    add(
+        "--new-challenge",
+        metavar="F",
+        help="key under the new KEK: refuses swapped KEKs",
+    )
+    add(
+        "--make-challenges",
+        action="store_true",
+        help="only write one beside each KEK file",
+    )
+    notation = parser.add_mutually_exclusive_group()
+    for name, what in (
+        ("base64", ""),
+        ("base64url", ", unpadded"),
+        ("raw", ": a file is one key"),
+    ):
+        notation.add_argument(
+            f"--{name}",
+            dest="notation",
+            action="store_const",
+            const=name,
+            default="hex",
+            help=f"keys are {name}{what}",
+        )
+    add(
+        "--prefix",
+        metavar="P",
+        action="append",
+        default=[],
+        help="text before old keys, as vault:v3:",
+    )
+    add("--new-prefix", metavar="P", default="", help="text before new keys")
+    add_options(parser.add_mutually_exclusive_group())
+    add(
+        "--column",
+        metavar="C",
+        default="key",
+        help="column of a table's keys (default: key)",
+    )
+    add(
+        "--put",
+        metavar="COMMAND",
+        help="puts {file} as {name} if it still is {version}",
+    )
+    add(
+        "--delimiter",
+        metavar="C",
+        type=_delimiter,
+        help="between the fields of CSV: one character, or tab",
+    )
+    add("--all", action="store_true", help="refuse records without a key")
+    add("--files-from", metavar="F", help="take the names that are the lines of F")
+    add(
+        "--exclude",
+        metavar="GLOB",
+        action="append",
+        default=[],
+        help="leave out files of this name or path",
+    )
+    add(
+        "--shard",
+        metavar="I/N",
+        type=_shard,
+        default=(1, 1),
+        help="take part I of N of the names",
+    )
+    add("--quiesced", action="store_true", help="nobody writes: do not exchange names")
+    mode = parser.add_mutually_exclusive_group()
+    mode.add_argument(
+        "--dry-run", action="store_true", help="the same pass, and nothing is written"
+    )
+    mode.add_argument(
+        "--verify", action="store_true", help="the same pass, without the KEK"
+    )
+    add(
+        "--report",
+        "--record",
+        metavar="F",
+        help="new file with a line of JSON for each unit",
+    )
+    add(
+        "--summary-json",
+        action="store_true",
+        help="print the counts of the last line as JSON",
+    )
+    add(
+        "--verify-record",
+        metavar="F",
+        help="with --verify: name what differs from a report",
+    )
+    add(
+        "--jobs",
+        metavar="N",
+        type=_positive,
+        default=min(4, len(os.sched_getaffinity(0))),
+        help="processes (default: one for each processor, at most 4)",
+    )
+    add(
+        "--dask",
+        metavar="ADDRESS",
+        help="scheduler of the Dask workers that do the units",
+    )
+    add(
+        "--rate",
+        metavar="N",
+        type=_positive,
+        help="limit to N keys per second",
+    )
+    add(
+        "--timeout",
+        metavar="S",
+        type=_positive,
+        default=600,
+        help="give up a process without a sign of life",
+    )
+    add(
+        "--version",
+        action="version",
+        version=f"keywrap-rotate {keywrap.__version__}",
+        help="print the version",
+    )
+    add("--help", action="help", help="print this help")
+    add("files", metavar="FILE", nargs="*", help="a file, a directory or a database")
+    return parser
+
+
+def _reason(options: argparse.Namespace) -> Optional[str]:
+    """Why these options do not go together."""
+    has_tables = options.keks is not None or options.new_keks is not None
+    prefixes = [prefix.encode() for prefix in (*options.prefix, options.new_prefix)]
+    wrong = {
+        "--verify-record goes with --verify": options.verify_record
+        and not options.verify,
+        "--kek-name and --keks, or --new-keks, go together": (
+            options.kek_name is not None
+        )
+        != has_tables,
+        "--keks goes without --kek, and --new-keks without --new-kek": options.keks
+        is not None
+        and options.kek is not None
+        or options.new_keks is not None
+        and options.new_kek is not None,
+        "a JSON pointer begins with /": options.json_pointer is not None
+        and not options.json_pointer.startswith("/"),
+        "--raw does not go with --prefix": options.notation == "raw" and options.prefix,
+        "--prefix and --new-prefix go together": bool(options.prefix)
+        != bool(options.new_prefix),
+        "a prefix has neither blanks at its ends nor control characters": any(
+            not text.isprintable() or text != text.strip()
+            for text in (*options.prefix, options.new_prefix)
+        ),
+        "one prefix begins with another one": any(
+            one.startswith(other)
+            for one in prefixes
+            for other in prefixes
+            if one is not other
+        ),
+    }
+    if why := next((why for why, is_so in wrong.items() if is_so), None):
+        return why
+    return None if options.make_challenges else misfit(options)
+
+
+def parse(words: Optional[Sequence[str]]) -> argparse.Namespace:
+    words = sys.argv[1:] if words is None else list(words)
+    parser = _parser()
+    for word in itertools.takewhile(lambda word: word != "--", words):
+        name = word.partition("=")[0]
+        if name in GONE:
+            parser.error(f"{name} is gone: {GONE[name]}")
+    options = parser.parse_args(words)
+    if wrong := _reason(options):
+        parser.error(wrong)
+    return options
+
+
+def keks_of(options: argparse.Namespace) -> Keks:
+    """Finds the files of the KEKs. To verify, the old ones are not needed."""
+    old = options.kek or [
+        os.environ[name] for name in ("KEYWRAP_KEK",) if name in os.environ
+    ]
+    new = options.new_kek or os.environ.get("KEYWRAP_NEW_KEK", "")
+    table = {} if options.keks is None else table_of(options.keks, "--keks")
+    new_table = (
+        {} if options.new_keks is None else table_of(options.new_keks, "--new-keks")
+    )
+    if options.verify:
+        old, table = [], {}
+    if not (new or new_table) or not (old or table or options.verify):
+        raise WrongKeks(
+            "give --kek and --new-kek, or set KEYWRAP_KEK and KEYWRAP_NEW_KEK"
+        )
+    if table and new_table and table.keys() != new_table.keys():
+        raise WrongKeks(
+            f"--keks and --new-keks: only one of them has {min(table.keys() ^ new_table.keys())!r}"
+        )
+    names: Sequence[Any] = sorted(table or new_table) or [None]
+    files = (
+        (name, [table[name]] if name in table else old, new_table.get(name, new))
+        for name in names
+    )
+    path = os.path.abspath
+    return Keks(
+        {
+            name: (tuple(map(path, olds)), path(its_new))
+            for name, olds, its_new in files
+        },
+        options.raw_kek,
+    )

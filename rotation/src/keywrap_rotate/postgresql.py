@@ -1,0 +1,424 @@
+"""A column of a PostgreSQL table, found by libpq's variables. A pass reads it in one snapshot, by ranges of blocks.
+
+A schema change (ALTER TABLE, TRUNCATE, ..) waits until nobody reads the table, and everybody who comes later waits
+behind it. So a run must not wait for a lock of the table while it holds one. Only the connection that lists holds the
+table through the pass. All others wait for a lock for a second at most, which ends the pass (`PassEnds`): its snapshot
+and its lock are released, and the next pass waits behind the schema change, as everybody does.
+"""
+
+import argparse
+import contextlib
+import functools
+import importlib
+import itertools
+import os
+import threading
+import time
+from typing import Any, Iterator, List, NamedTuple, Optional, Set, Tuple
+
+from . import signs
+from .found import Found, PassEnds, Refused, Unanswered
+from .keks import Rings
+from .keys import KEY, ROWS, Notation, quoted, renewed_rows
+from .limits import limited
+from .listing import Listing, Names, Row, Unit
+
+psycopg: Any = importlib.import_module("psycopg")
+errors: Any = importlib.import_module("psycopg.errors")
+#: How many blocks a unit has. How many rows are written at once: each stays locked until the others are written.
+BLOCKS, WRITTEN = 64, ROWS // 8
+#: How long the connection that lists waits for the lock of the table, and how long each other statement waits for one.
+LISTING_LOCK, LOCK = "60s", "1s"
+#: The pauses before each attempt to write the rows that others updated since the snapshot.
+PAUSES = 0.0, 0.02, 0.1
+#: A server that is gone is noticed within a minute or two.
+_CONNECTION = {
+    "keepalives_idle": 30,
+    "keepalives_interval": 10,
+    "keepalives_count": 3,
+    "tcp_user_timeout": 60000,
+    "application_name": "keywrap-rotate",
+}
+#: What a session needs, whatever the server, the role and libpq's variables say. Without row security PostgreSQL
+#: refuses what it would hide. With another encoding psycopg returns bytes for text. An asynchronous commit may be lost.
+_SESSION = """SET lock_timeout = '{lock}'; SET idle_in_transaction_session_timeout = 0; SET row_security = off;
+SET client_encoding = 'UTF8'; SET standard_conforming_strings = on;
+SET default_transaction_isolation = 'read committed';
+SELECT set_config('synchronous_commit', 'on', false) WHERE current_setting('synchronous_commit') = 'off';
+SELECT set_config(name, '1h', false) FROM pg_settings WHERE name = 'idle_session_timeout'"""
+_ROWS = (
+    "DECLARE rows CURSOR WITH HOLD FOR SELECT "
+    + KEY
+    + ", {name}.ctid::text FROM {table} WHERE {name}.ctid >= '{first}' AND {name}.ctid < '{end}'"
+)
+#: The new keys of a batch, with the ctid and the old key of their rows. Nobody calls a table by such a name.
+_FRESH = """WITH {fresh} AS (
+    SELECT * FROM unnest(%s::text[]::tid[], %s::{type}[], %s::{type}[]) AS {fresh} (row, old, new)
+)"""
+_UPDATE = (
+    _FRESH
+    + """, {locked} AS (
+    SELECT {name}.ctid AS row, {fresh}.old, {fresh}.new FROM {table} JOIN {fresh} ON {where} {key} = {fresh}.old
+    FOR UPDATE OF {name} SKIP LOCKED
+)
+UPDATE {table} SET {column} = {locked}.new FROM {locked}
+WHERE {name}.ctid = {locked}.row AND {key} = {locked}.old
+RETURNING {locked}.row::text, {locked}.old, ({key} = {locked}.new) IS TRUE"""
+)
+#: Which rows of the batch may be written: those that are where they were, or any with an old key of the batch.
+_IN_PLACE, _ANYWHERE = "{name}.ctid = {fresh}.row AND", ""
+_COUNT_OLD = (
+    _FRESH + " SELECT count(*) FROM {table} JOIN {fresh} ON {key} = {fresh}.old"
+)
+#: The table with its partitions and the tables that inherit from it.
+_TREE = """WITH RECURSIVE tree (oid) AS (
+    SELECT %s::regclass::oid UNION SELECT inhrelid FROM pg_inherits JOIN tree ON inhparent = tree.oid
+)"""
+_INSERTED = (
+    _TREE
+    + " SELECT coalesce(sum(n_tup_ins - n_tup_del), 0) FROM pg_stat_xact_user_tables JOIN tree ON oid = relid"
+)
+_TRIGGERS = (
+    _TREE
+    + """ SELECT DISTINCT tgname FROM pg_trigger JOIN tree ON tgrelid = tree.oid
+    WHERE NOT tgisinternal AND (tgtype & 16) <> 0 ORDER BY 1"""
+)
+_BLOCKS = (
+    _TREE
+    + " SELECT max(pg_relation_size(oid)) / current_setting('block_size')::int FROM tree"
+)
+#: The transactions that are open now. A prepared one has no session.
+_OPEN = """SELECT virtualtransaction FROM pg_locks
+    WHERE locktype = 'virtualxid' AND granted AND pid <> pg_backend_pid() AND pid IN (
+        SELECT pid FROM pg_stat_activity
+        WHERE datname = current_database() AND application_name <> 'keywrap-rotate' AND backend_type = 'client backend')
+    UNION ALL SELECT gid FROM pg_prepared_xacts WHERE database = current_database()"""
+
+
+class Write(NamedTuple):
+    """A row that gets a new key: its ctid, the old key and the new one."""
+
+    row: str
+    old: Any
+    new: Any
+
+
+class NotKept(Exception):
+    """After a write the table had another value than the new key."""
+
+
+#: What a row can be refused for. Others concern the whole table.
+_ROW_ERRORS = (NotKept, errors.IntegrityError, errors.DataError, errors.RaiseException)
+#: The connection of each thread of this process, since a new one takes longer than a unit of few rows; and the snapshot
+#: of the last pass that it ended.
+_kept = threading.local()
+
+
+class Postgresql:
+    noun = "ranges"
+
+    def __init__(
+        self,
+        table: str,
+        column: str,
+        notation: Notation,
+        kek_name: Optional[str],
+        digest: Optional[str] = None,
+        timeout: float = 600.0,
+    ) -> None:
+        self.table, self.column, self.notation, self.kek_name = (
+            table,
+            column,
+            notation,
+            kek_name,
+        )
+        self.digest, self.timeout = digest, timeout
+        #: The transactions that were open at the first listing of the run, and still are. `None` before.
+        self.older: Optional[Set[str]] = None
+        *schema, name = map(quoted, table.split("."))
+        self.names = {
+            "table": ".".join((*schema, name)),
+            "name": name,
+            "column": quoted(column),
+            "key": f"{name}.{quoted(column)}",
+            "octets": "octet_length",
+            "kek": "NULL" if kek_name is None else f"{name}.{quoted(kek_name)}::text",
+            "fresh": '"new keys of keywrap-rotate"',
+            "locked": '"locked by keywrap-rotate"',
+        }
+
+    def run(self, connection: Any, statement: str, *words: Any, **more: str) -> Any:
+        """Runs a statement with the quoted names in it, and with the type of the column."""
+        names = {**self.names, **more}
+        if more.get("type") == "text":
+            names["key"] += "::text"
+        if words:  # Beside parameters two percent signs are one.
+            names = {what: name.replace("%", "%%") for what, name in names.items()}
+        return connection.execute(statement.format(**names), words or None)
+
+    def _connect(self, lock: str) -> Any:
+        """Makes a connection. If it cannot be made, the server's words are shown: nobody has read a key."""
+        wanted = dict(_CONNECTION)
+        if "PGCONNECT_TIMEOUT" not in os.environ:
+            wanted["connect_timeout"] = 30
+        with self._failures(shows_words=True):
+            connection = psycopg.connect(
+                "", autocommit=True, prepare_threshold=None, **wanted
+            )
+            connection.execute(_SESSION.format(lock=lock))
+        return connection
+
+    @contextlib.contextmanager
+    def _failures(self, shows_words: bool) -> Iterator[None]:
+        """Turns errors of PostgreSQL into ours. Its words may have a key in them once somebody has read one."""
+        try:
+            yield
+        except errors.LockNotAvailable as error:
+            if shows_words:
+                raise Unanswered(self._why(error, shows_words)) from None
+            raise PassEnds(
+                f"{self.table}: another session waits for its lock: the pass ends"
+            ) from None
+        except psycopg.OperationalError as error:
+            raise Unanswered(self._why(error, shows_words)) from None
+        except psycopg.Error as error:
+            raise Refused(self._why(error, shows_words)) from None
+
+    def _why(self, error: Any, shows_words: bool = False) -> str:
+        words = error.diag.message_primary or str(error).strip().split("\n")[0]
+        said = words if shows_words and words else type(error).__name__
+        state = f" ({error.sqlstate})" if error.sqlstate else ""
+        return f"PostgreSQL: {self.table}: {said}{state}"
+
+    @contextlib.contextmanager
+    def _kept_connection(self) -> Iterator[Any]:
+        """The connection of this thread, without an open transaction. It is closed after an error."""
+        connection = getattr(_kept, "connection", None)
+        if connection is None or connection.closed:
+            connection = _kept.connection = self._connect(LOCK)
+        try:
+            with self._failures(shows_words=False):
+                yield connection
+        except BaseException:
+            connection.close()
+            raise
+
+    def note_open_transactions(self, names: Set[str]) -> None:
+        """Keeps those that were open from the first listing of the run until now."""
+        self.older = names if self.older is None else self.older & names
+
+    @contextlib.contextmanager
+    def listed(self, may_write: bool) -> Iterator[Listing]:
+        """The snapshot is there as long as its connection, which only this process has."""
+        with limited(self.timeout, f"PostgreSQL: {self.table}"):
+            connection = self._connect(LISTING_LOCK)
+        try:
+            with limited(self.timeout, f"PostgreSQL: {self.table}"), self._failures(
+                shows_words=True
+            ):
+                listing = _Listing(self, connection)
+            yield listing
+        finally:
+            connection.close()
+
+    def do(self, unit: Unit, rings: Rings, may_write: bool, found: Found) -> None:
+        snapshot, kind, first, last = unit.identity.split()
+        if snapshot == getattr(_kept, "ended", None):
+            raise PassEnds(f"{self.table}: the pass ended")
+        found.digest = self.digest
+        try:
+            with self._kept_connection() as connection:
+                self._open_rows(
+                    connection, snapshot, kind, f"({first},0)", f"({last},0)"
+                )
+                self._rotate_rows(connection, kind, rings, may_write, found)
+                connection.execute("CLOSE rows")
+        except PassEnds:
+            _kept.ended = snapshot
+            raise
+
+    def _rotate_rows(
+        self, connection: Any, kind: str, rings: Rings, may_write: bool, found: Found
+    ) -> None:
+        """Reads the rows of the cursor and writes those that are not new. What is not written yet is `unwritten`."""
+        left: List[Write] = []
+        while rows := connection.execute(f"FETCH {WRITTEN} FROM rows").fetchall():
+            renewed = renewed_rows(rings, self.notation, rows, found)
+            if renewed and may_write:
+                found.unwritten += len(renewed)
+                writes = [Write(row[3], row[0], new) for new, row in renewed]
+                left += self._write(connection, kind, writes, found)
+            signs.beat(len(rows))
+        if left:
+            found.unwritten -= self._write_moved(connection, kind, left)
+
+    def _open_rows(
+        self, connection: Any, snapshot: str, kind: str, first: str, end: str
+    ) -> None:
+        """Opens a cursor over the rows of a range as they were in the snapshot. It is a copy and needs no transaction:
+        so nobody waits for this connection while it rewraps keys."""
+        try:
+            with connection.transaction():
+                connection.execute("SET TRANSACTION ISOLATION LEVEL REPEATABLE READ")
+                connection.execute(f"SET TRANSACTION SNAPSHOT '{snapshot}'")
+                self.run(connection, _ROWS, type=kind, first=first, end=end)
+        except (
+            errors.InvalidParameterValue
+        ):  # The connection that has the snapshot is gone.
+            raise PassEnds(
+                f"{self.table}: its snapshot is gone: the pass ends"
+            ) from None
+
+    def _write(
+        self, connection: Any, kind: str, writes: List[Write], found: Found
+    ) -> List[Write]:
+        """Writes a batch, and returns the rows that have another ctid by now or are locked. If the table does not take
+        the batch as it is, its rows are written one by one, and those that it does not take are refused.
+        """
+        try:
+            written = self._update(connection, kind, writes)
+            found.unwritten -= len(written)
+            return [write for write in writes if (write.row, write.old) not in written]
+        except _ROW_ERRORS:
+            left = []
+        for write in writes:
+            try:
+                written = self._update(connection, kind, [write])
+                found.unwritten -= len(written)
+                if not written:
+                    left.append(write)
+            except _ROW_ERRORS as error:
+                why = "the table keeps another value"
+                if not isinstance(error, NotKept):
+                    why = f"it cannot be written: {type(error).__name__}"
+                found.refuse_write(f"row {write.row}", why)
+        return left
+
+    def _update(
+        self,
+        connection: Any,
+        kind: str,
+        writes: List[Write],
+        where: str = _IN_PLACE,
+    ) -> Set[Tuple[str, Any]]:
+        """Writes a batch: all rows that still have the old key and that nobody has locked, or, after an error, none.
+        Returns the ctid and the old key of each row that it wrote."""
+        batch = [list(column) for column in zip(*writes)]
+        with connection.transaction():
+            done = self.run(
+                connection, _UPDATE.replace("{where}", where), *batch, type=kind
+            ).fetchall()
+            if not all(is_kept for _, _, is_kept in done):
+                raise NotKept
+            self._refuse_copies(connection, kind, batch)
+        return {(row, old) for row, old, _ in done}
+
+    def _refuse_copies(
+        self, connection: Any, kind: str, batch: List[List[Any]]
+    ) -> None:
+        """A trigger that keeps the old row in the same table would let the table grow with each pass. This session
+        inserts nothing itself."""
+        ((inserted,),) = self.run(connection, _INSERTED, self.names["table"])
+        if not inserted:
+            return
+        ((old,),) = self.run(connection, _COUNT_OLD, *batch, type=kind)
+        if old:
+            triggers = ", ".join(
+                name for name, in self.run(connection, _TRIGGERS, self.names["table"])
+            )
+            raise Refused(
+                f"a trigger inserts old keys into the table: {triggers or 'or a rule'}"
+            )
+
+    def _write_moved(self, connection: Any, kind: str, writes: List[Write]) -> int:
+        """Writes rows that others updated since the snapshot, so that they have another ctid, if they have the old key.
+        Returns how many it wrote."""
+        written = 0
+        for pause in PAUSES:
+            time.sleep(pause)
+            written += len(self._update(connection, kind, writes, where=_ANYWHERE))
+            batch = [list(column) for column in zip(*writes)]
+            ((old,),) = self.run(connection, _COUNT_OLD, *batch, type=kind)
+            if not old:
+                break
+        return min(written, len(writes))
+
+
+class _Listing(Listing):
+    """Ranges of blocks in a snapshot, which is a moment."""
+
+    def __init__(self, store: Postgresql, connection: Any) -> None:
+        self.store, self.connection = store, connection
+        run = functools.partial(store.run, connection)
+        connection.execute("BEGIN ISOLATION LEVEL REPEATABLE READ")
+        # The snapshot comes with the first query. If that waited for a lock, the snapshot would be older than the
+        # change that it waited for, and would lack rows that the change has rewritten.
+        run("LOCK TABLE {table} IN ACCESS SHARE MODE")
+        oid = run("SELECT {key}, {kek} FROM {table} LIMIT 0").description[0].type_code
+        ((category, self.type),) = run(
+            "SELECT typcategory, format_type(oid, NULL) FROM pg_type WHERE oid = %s",
+            oid,
+        )
+        if category == "S":  # As text it is any that is text in PostgreSQL.
+            self.type = "text"
+        if self.type not in ("text", "bytea"):
+            raise Refused(
+                f"PostgreSQL: {store.table}.{store.column} is neither text nor bytea: {self.type}"
+            )
+        ((self.snapshot, self.count),) = run(
+            "SELECT pg_export_snapshot(), count(*) FROM {table}"
+        )
+        ((self.blocks,),) = run(_BLOCKS, store.names["table"])
+        self.note_open_transactions()
+        super().__init__(self.ranges)
+        self.units = itertools.takewhile(lambda unit: not connection.closed, self.units)
+
+    def ranges(self, found: Found) -> Iterator[Row]:
+        begins = range(0, max(self.blocks, 1), BLOCKS)
+        for at in begins:
+            name = os.fsencode(f"{self.store.table}: blocks from {at}")
+            identity = f"{self.snapshot} {self.type} {at} {at + BLOCKS}"
+            yield name, self.count // len(begins), identity, 0
+
+    def note_open_transactions(self) -> None:
+        open_now = self.store.run(self.connection, _OPEN)
+        self.store.note_open_transactions({name for (name,) in open_now})
+
+    def take(self, unit: Unit, found: Found) -> None:
+        """Releases the table at the first unit that ends the pass. No further unit begins."""
+        super().take(unit, found)
+        if found.ends_pass:
+            self.connection.close()
+
+    def warnings(self) -> List[str]:
+        if not self.store.older:
+            return []
+        return [
+            f"{len(self.store.older)} transactions are older than this run and still open: they may write old keys. "
+            "Wait for their end, then --verify"
+        ]
+
+    def is_quiet(self, found: Found) -> bool:
+        """The ranges must have all rows of the snapshot."""
+        if not (found.lost or found.refused) and found.keys + found.nulls != self.count:
+            raise Refused(
+                f"the ranges have {found.keys + found.nulls} rows, and the table {self.count}"
+            )
+        if not self.connection.closed:
+            self.note_open_transactions()
+        return True
+
+
+def open_store(
+    options: argparse.Namespace, notation: Notation, names: Names
+) -> Postgresql:
+    """Makes the store of a table of PostgreSQL."""
+    digest = "0" if options.report or options.verify_record else None
+    return Postgresql(
+        options.postgresql,
+        options.column,
+        notation,
+        options.kek_name,
+        digest,
+        options.timeout,
+    )
