@@ -17,7 +17,10 @@ from tools import missing, need
 from vectors import VALUES
 
 PAGE = (ROOT / "js/README.md").read_text()
-FILES = "README.md calls.js example.html inline.js keywrap.d.ts keywrap.js keywrap.wasm module.js package.json"
+FILES = (
+    "README.md calls.js example.html inline.d.ts inline.js keywrap.d.ts keywrap.js "
+    "keywrap.wasm module.js package.json"
+)
 # The syntax of these hosts is the oldest that the package supports.
 HOSTS = "chrome85,firefox79,safari15,node16"
 ENTRY = "import {{ load }} from '{}'; import {{ offer }} from './bundle.mjs';"
@@ -286,3 +289,11 @@ def test_types(programs):
         reason in said for reason, said in zip(reasons, refused.values())
     ), ended.stdout
     assert len(re.findall(r"^\S", ended.stdout, re.M)) == len(reasons)
+
+
+@pytest.mark.needs("tsc")
+def test_types_without_exports(programs):
+    """Both entries have types where TypeScript does not read `exports`: with `moduleResolution: node`."""
+    (programs / "old.ts").write_text(RIGHT)
+    options = ["--noEmit", "--strict", "--target", "es2022", "--module", "es2022"]
+    run("tsc", *options, "--moduleResolution", "node", "old.ts", cwd=programs)
