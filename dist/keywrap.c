@@ -21324,8 +21324,8 @@ static const uint8_t DEFAULT_IV[8] = {0xa6, 0xa6, 0xa6, 0xa6, 0xa6, 0xa6, 0xa6, 
 
 /* On a processor without the instructions a call is the proved one of the whole library, by its name in
  * c/hardware/names. */
-#define OR_PROVED(call, ...)                                                                       \
-    extern __typeof__(keywrap_##call) proved_keywrap_##call;                                       \
+#define OR_PROVED(call, ...)                                 \
+    extern __typeof__(keywrap_##call) proved_keywrap_##call; \
     if (!aes_works()) return proved_keywrap_##call(__VA_ARGS__)
 
 /* A wrapping or an unwrapping that has begun. */
@@ -21428,12 +21428,9 @@ BY_AES static void expand_32(struct aes *aes, __m128i a, __m128i b) {
 
 BY_AES void expand(struct aes *aes, const uint8_t *kek) {
     __m128i a = _mm_loadu_si128((const __m128i *)kek);
-    if (aes->rounds == 10)
-        expand_16(aes, a);
-    else if (aes->rounds == 12)
-        expand_24(aes, a, _mm_loadl_epi64((const __m128i *)(kek + 16)));
-    else
-        expand_32(aes, a, _mm_loadu_si128((const __m128i *)(kek + 16)));
+    if (aes->rounds == 10) expand_16(aes, a);
+    else if (aes->rounds == 12) expand_24(aes, a, _mm_loadl_epi64((const __m128i *)(kek + 16)));
+    else expand_32(aes, a, _mm_loadu_si128((const __m128i *)(kek + 16)));
 }
 
 /* In the other order, with all but the outer two mixed. */
@@ -21826,7 +21823,8 @@ static inline void run_steps(const uint8_t *kek, size_t kek_len, int decrypts, s
 }
 
 /* Makes all steps of a wrapping that has begun, and writes the first 8 bytes of the text. */
-static int32_t wrap(const uint8_t *kek, size_t kek_len, struct run *run, uint8_t *text, size_t text_len) {
+static int32_t wrap(const uint8_t *kek, size_t kek_len, struct run *run, uint8_t *text,
+                    size_t text_len) {
     run_steps(kek, kek_len, 0, run, text + 8, text_len - 8);
     const int32_t status = keywrap_end_wrap(text, text + 8, text_len - 8, run->steps, run->block);
     wipe(run, sizeof *run);
@@ -21836,7 +21834,8 @@ static int32_t wrap(const uint8_t *kek, size_t kek_len, struct run *run, uint8_t
 /* Copies the text after its first 8 bytes, and undoes all steps there. */
 static int32_t unwrap(const uint8_t *kek, size_t kek_len, struct run *run, const uint8_t *text,
                       uint8_t *registers, size_t len) {
-    const int32_t status = keywrap_begin_unwrap_padded(text, text + 8, len, &run->steps, run->block);
+    const int32_t status =
+        keywrap_begin_unwrap_padded(text, text + 8, len, &run->steps, run->block);
     if (status != KEYWRAP_OK) return status;
     memmove(registers, text + 8, len);
     run_steps(kek, kek_len, 1, run, registers, len);
@@ -21846,7 +21845,8 @@ static int32_t unwrap(const uint8_t *kek, size_t kek_len, struct run *run, const
 int32_t wrap_slot(const uint8_t *kek, size_t kek_len, uint32_t flags, uint8_t *text,
                   size_t text_len, size_t key_len) {
     struct run run;
-    const int32_t status = keywrap_begin_wrap_slot(flags, key_len, text + 8, text_len - 8, &run.steps, run.block);
+    const int32_t status =
+        keywrap_begin_wrap_slot(flags, key_len, text + 8, text_len - 8, &run.steps, run.block);
     return status == KEYWRAP_OK ? wrap(kek, kek_len, &run, text, text_len) : status;
 }
 
@@ -21866,8 +21866,9 @@ int32_t rewrap_slot(const uint8_t *old_kek, size_t old_kek_len, const uint8_t *n
     uint32_t phase;
     int32_t status = keywrap_begin_rewrap(flags, text, text_len, &phase, &run.steps, run.block);
     while (phase != 0) {
-        run_steps(phase & KEYWRAP_NEW ? new_kek : old_kek, phase & KEYWRAP_NEW ? new_kek_len : old_kek_len,
-                  phase & KEYWRAP_DECRYPT, &run, text + 8, text_len - 8);
+        run_steps(phase & KEYWRAP_NEW ? new_kek : old_kek,
+                  phase & KEYWRAP_NEW ? new_kek_len : old_kek_len, phase & KEYWRAP_DECRYPT, &run,
+                  text + 8, text_len - 8);
         status = keywrap_next_rewrap(flags, text, text_len, &phase, &run.steps, run.block);
     }
     wipe(&run, sizeof run);
@@ -21894,7 +21895,8 @@ int32_t keywrap_unwrap_with(const uint8_t *kek, size_t kek_len, const uint8_t *i
     struct run run;
     int32_t status = keywrap_check_plain(kek, kek_len, iv, iv_len, key_len, wrapped_len);
     if (status == KEYWRAP_OK) status = unwrap(kek, kek_len, &run, wrapped, key, key_len);
-    return status == KEYWRAP_OK ? keywrap_end_unwrap(iv, iv_len, key, key_len, run.steps, run.block) : status;
+    return status == KEYWRAP_OK ? keywrap_end_unwrap(iv, iv_len, key, key_len, run.steps, run.block)
+                                : status;
 }
 
 int32_t keywrap_wrap(const uint8_t *kek, size_t kek_len, const uint8_t *key, size_t key_len,
@@ -21912,17 +21914,21 @@ int32_t keywrap_unwrap(const uint8_t *kek, size_t kek_len, const uint8_t *wrappe
     struct run run;
     int32_t status = keywrap_check_plain(kek, kek_len, DEFAULT_IV, 8, key_len, wrapped_len);
     if (status == KEYWRAP_OK) status = unwrap(kek, kek_len, &run, wrapped, key, key_len);
-    return status == KEYWRAP_OK ? keywrap_end_unwrap(DEFAULT_IV, 8, key, key_len, run.steps, run.block) : status;
+    return status == KEYWRAP_OK
+               ? keywrap_end_unwrap(DEFAULT_IV, 8, key, key_len, run.steps, run.block)
+               : status;
 }
 
-int32_t keywrap_wrap_in_place(const uint8_t *kek, size_t kek_len, uint8_t *buffer, size_t wrapped_len) {
+int32_t keywrap_wrap_in_place(const uint8_t *kek, size_t kek_len, uint8_t *buffer,
+                              size_t wrapped_len) {
     OR_PROVED(wrap_in_place, kek, kek_len, buffer, wrapped_len);
     const size_t len = wrapped_len - 8;
     const int32_t status = keywrap_check_plain(kek, kek_len, DEFAULT_IV, 8, len, wrapped_len);
     return status == KEYWRAP_OK ? wrap_slot(kek, kek_len, 0, buffer, wrapped_len, len) : status;
 }
 
-int32_t keywrap_unwrap_in_place(const uint8_t *kek, size_t kek_len, uint8_t *buffer, size_t wrapped_len) {
+int32_t keywrap_unwrap_in_place(const uint8_t *kek, size_t kek_len, uint8_t *buffer,
+                                size_t wrapped_len) {
     OR_PROVED(unwrap_in_place, kek, kek_len, buffer, wrapped_len);
     size_t len = wrapped_len - 8;
     const int32_t status = keywrap_check_plain(kek, kek_len, DEFAULT_IV, 8, len, wrapped_len);
@@ -21933,7 +21939,9 @@ int32_t keywrap_wrap_padded_in_place(const uint8_t *kek, size_t kek_len, uint8_t
                                      size_t wrapped_len, size_t key_len) {
     OR_PROVED(wrap_padded_in_place, kek, kek_len, buffer, wrapped_len, key_len);
     const int32_t status = keywrap_check_padded(kek, kek_len, key_len, wrapped_len);
-    return status == KEYWRAP_OK ? wrap_slot(kek, kek_len, KEYWRAP_NEW_PADDED, buffer, wrapped_len, key_len) : status;
+    return status == KEYWRAP_OK
+               ? wrap_slot(kek, kek_len, KEYWRAP_NEW_PADDED, buffer, wrapped_len, key_len)
+               : status;
 }
 
 int32_t keywrap_unwrap_padded_in_place(const uint8_t *kek, size_t kek_len, uint8_t *buffer,
@@ -21941,7 +21949,9 @@ int32_t keywrap_unwrap_padded_in_place(const uint8_t *kek, size_t kek_len, uint8
     OR_PROVED(unwrap_padded_in_place, kek, kek_len, buffer, wrapped_len, key_len);
     *key_len = 0;
     const int32_t status = keywrap_check_room(kek, kek_len, wrapped_len - 8, wrapped_len);
-    return status == KEYWRAP_OK ? unwrap_slot(kek, kek_len, KEYWRAP_OLD_PADDED, buffer, wrapped_len, key_len) : status;
+    return status == KEYWRAP_OK
+               ? unwrap_slot(kek, kek_len, KEYWRAP_OLD_PADDED, buffer, wrapped_len, key_len)
+               : status;
 }
 
 int32_t keywrap_wrap_padded(const uint8_t *kek, size_t kek_len, const uint8_t *key, size_t key_len,
@@ -21960,7 +21970,9 @@ int32_t keywrap_unwrap_padded(const uint8_t *kek, size_t kek_len, const uint8_t 
     *key_len = 0;
     int32_t status = keywrap_check_room(kek, kek_len, room, wrapped_len);
     if (status == KEYWRAP_OK) status = unwrap(kek, kek_len, &run, wrapped, key, room);
-    return status == KEYWRAP_OK ? keywrap_end_unwrap_padded(key, room, run.steps, run.block, key_len) : status;
+    return status == KEYWRAP_OK
+               ? keywrap_end_unwrap_padded(key, room, run.steps, run.block, key_len)
+               : status;
 }
 
 int32_t keywrap_unwrap_any(const uint8_t *kek, size_t kek_len, const uint8_t *wrapped,
@@ -21990,20 +22002,25 @@ int32_t keywrap_kind(const uint8_t *kek, size_t kek_len, const uint8_t *wrapped,
 int32_t keywrap_rewrap(const uint8_t *old_kek, size_t old_kek_len, const uint8_t *new_kek,
                        size_t new_kek_len, uint8_t *buffer, size_t wrapped_len, uint32_t flags,
                        uint32_t *already) {
-    OR_PROVED(rewrap, old_kek, old_kek_len, new_kek, new_kek_len, buffer, wrapped_len, flags, already);
+    OR_PROVED(rewrap, old_kek, old_kek_len, new_kek, new_kek_len, buffer, wrapped_len, flags,
+              already);
     int32_t status = keywrap_check_keks(old_kek, old_kek_len, new_kek, new_kek_len);
     if (status == KEYWRAP_OK)
-        status = rewrap_slot(old_kek, old_kek_len, new_kek, new_kek_len, buffer, wrapped_len, flags);
+        status =
+            rewrap_slot(old_kek, old_kek_len, new_kek, new_kek_len, buffer, wrapped_len, flags);
     return keywrap_end_rewrap((uint32_t)status, already);
 }
 
 int32_t keywrap_rewrap_in_place(const uint8_t *old_kek, size_t old_kek_len, const uint8_t *new_kek,
                                 size_t new_kek_len, uint8_t *buffer, size_t wrapped_len,
                                 uint32_t forms) {
-    OR_PROVED(rewrap_in_place, old_kek, old_kek_len, new_kek, new_kek_len, buffer, wrapped_len, forms);
-    int32_t status = keywrap_check_rewrap_in_place(old_kek, old_kek_len, new_kek, new_kek_len, forms);
+    OR_PROVED(rewrap_in_place, old_kek, old_kek_len, new_kek, new_kek_len, buffer, wrapped_len,
+              forms);
+    int32_t status =
+        keywrap_check_rewrap_in_place(old_kek, old_kek_len, new_kek, new_kek_len, forms);
     if (status == KEYWRAP_OK)
-        status = rewrap_slot(old_kek, old_kek_len, new_kek, new_kek_len, buffer, wrapped_len, forms);
+        status =
+            rewrap_slot(old_kek, old_kek_len, new_kek, new_kek_len, buffer, wrapped_len, forms);
     return keywrap_end_rewrap_in_place((uint32_t)status, buffer, wrapped_len);
 }
 
@@ -22092,21 +22109,26 @@ static void next_turn(struct turn *turn, uint8_t *texts, size_t count) {
 /* Makes all steps of wrappings that have begun, or undoes those of unwrappings, over whole groups of
  * 8 blocks. */
 static void run_turn(const struct aes *aes, int decrypts, struct turn *turn) {
-    const size_t len = turn->text_len, texts_len = len * turn->count, of_blocks = BLOCK * turn->count;
+    const size_t len = turn->text_len, texts_len = len * turn->count,
+                 of_blocks = BLOCK * turn->count;
     const size_t grouped = (turn->count + 7) / 8 * 8;
     const uint64_t end = decrypts ? 0 : keywrap_step_count(turn->text_len - 8);
     int32_t status = KEYWRAP_OK;
     while (status == KEYWRAP_OK && turn->steps != end) {
-        decrypts ? aes_decrypt_many(aes, turn->blocks, grouped) : aes_encrypt_many(aes, turn->blocks, grouped);
-        status = decrypts ? keywrap_step_unwrap_many(turn->texts, texts_len, len, &turn->steps, turn->blocks, of_blocks)
-                          : keywrap_step_wrap_many(turn->texts, texts_len, len, &turn->steps, turn->blocks, of_blocks);
+        decrypts ? aes_decrypt_many(aes, turn->blocks, grouped)
+                 : aes_encrypt_many(aes, turn->blocks, grouped);
+        status = decrypts ? keywrap_step_unwrap_many(turn->texts, texts_len, len, &turn->steps,
+                                                     turn->blocks, of_blocks)
+                          : keywrap_step_wrap_many(turn->texts, texts_len, len, &turn->steps,
+                                                   turn->blocks, of_blocks);
     }
 }
 
 /* Begins to unwrap, and undoes all steps. The ends refuse what has not had all steps. */
 static void unwrap_turn(const struct aes *aes, struct turn *turn) {
-    const int32_t status = keywrap_begin_unwrap_many(turn->texts, turn->text_len * turn->count, turn->text_len,
-                                                     &turn->steps, turn->blocks, BLOCK * turn->count);
+    const int32_t status =
+        keywrap_begin_unwrap_many(turn->texts, turn->text_len * turn->count, turn->text_len,
+                                  &turn->steps, turn->blocks, BLOCK * turn->count);
     if (status == KEYWRAP_OK) run_turn(aes, 1, turn);
 }
 
@@ -22132,7 +22154,8 @@ static void copy_lanes(struct turn *turn, struct turn *part, const size_t *lanes
 
 /* Makes or undoes all steps of the lanes from the first one on that have its operation next, and turns
  * them to what comes next. If there are others, the steps are over copies behind each other. */
-static void run_lanes(struct rewraps *rewraps, struct turn *turn, size_t first, uint32_t flags, uint8_t *statuses) {
+static void run_lanes(struct rewraps *rewraps, struct turn *turn, size_t first, uint32_t flags,
+                      uint8_t *statuses) {
     const uint32_t operation = rewraps->phases[first] & OPERATION;
     uint8_t copies[COPIED * LANES];
     size_t lanes[LANES], count = 0;
@@ -22161,25 +22184,26 @@ static void run_lanes(struct rewraps *rewraps, struct turn *turn, size_t first, 
 }
 
 /* Rewraps the slots of a turn, until no lane has a phase. */
-static void rewrap_turn(struct rewraps *rewraps, struct turn *turn, uint32_t flags, uint8_t *statuses) {
+static void rewrap_turn(struct rewraps *rewraps, struct turn *turn, uint32_t flags,
+                        uint8_t *statuses) {
     memcpy(rewraps->before, turn->texts, turn->text_len * turn->count);
     for (size_t i = 0; i < turn->count; i++)
         statuses[i] = (uint8_t)keywrap_begin_rewrap(flags, text_of(turn, i), turn->text_len,
                                                     rewraps->phases + i, rewraps->steps + i,
                                                     turn->blocks + BLOCK * i);
     for (size_t first = 0; first < turn->count;)
-        if (rewraps->phases[first] == 0)
-            first++;
-        else
-            run_lanes(rewraps, turn, first, flags, statuses);
+        if (rewraps->phases[first] == 0) first++;
+        else run_lanes(rewraps, turn, first, flags, statuses);
     wipe(turn->blocks, sizeof turn->blocks);
 }
 
 int32_t keywrap_rewrap_many(const uint8_t *old_kek, size_t old_kek_len, const uint8_t *new_kek,
                             size_t new_kek_len, uint8_t *texts, size_t texts_len, uint32_t flags,
                             uint8_t *statuses, size_t count) {
-    OR_PROVED(rewrap_many, old_kek, old_kek_len, new_kek, new_kek_len, texts, texts_len, flags, statuses, count);
-    int32_t status = keywrap_check_rewrap_many(old_kek, old_kek_len, new_kek, new_kek_len, texts_len, flags, count);
+    OR_PROVED(rewrap_many, old_kek, old_kek_len, new_kek, new_kek_len, texts, texts_len, flags,
+              statuses, count);
+    int32_t status = keywrap_check_rewrap_many(old_kek, old_kek_len, new_kek, new_kek_len,
+                                               texts_len, flags, count);
     if (status != KEYWRAP_OK) return status;
     const size_t text_len = texts_len / count;
     if (text_len == 16 || text_len > COPIED) {
@@ -22210,7 +22234,8 @@ int32_t keywrap_wrap_many(const uint8_t *kek, size_t kek_len, uint8_t *texts, si
     const size_t text_len = texts_len / count;
     if (text_len == 16) {
         for (size_t i = 0; i < count; i++)
-            statuses[i] = (uint8_t)wrap_slot(kek, kek_len, flags, texts + text_len * i, text_len, key_len);
+            statuses[i] =
+                (uint8_t)wrap_slot(kek, kek_len, flags, texts + text_len * i, text_len, key_len);
         return KEYWRAP_OK;
     }
     struct aes aes;
@@ -22235,13 +22260,16 @@ int32_t keywrap_wrap_many(const uint8_t *kek, size_t kek_len, uint8_t *texts, si
 int32_t keywrap_unwrap_many(const uint8_t *kek, size_t kek_len, uint8_t *texts, size_t texts_len,
                             uint32_t flags, size_t *key_lens, size_t key_lens_count,
                             uint8_t *statuses, size_t count) {
-    OR_PROVED(unwrap_many, kek, kek_len, texts, texts_len, flags, key_lens, key_lens_count, statuses, count);
-    int32_t status = keywrap_check_unwrap_many(kek, kek_len, texts_len, flags, key_lens_count, count);
+    OR_PROVED(unwrap_many, kek, kek_len, texts, texts_len, flags, key_lens, key_lens_count,
+              statuses, count);
+    int32_t status =
+        keywrap_check_unwrap_many(kek, kek_len, texts_len, flags, key_lens_count, count);
     if (status != KEYWRAP_OK) return status;
     const size_t text_len = texts_len / count;
     if (text_len == 16) {
         for (size_t i = 0; i < count; i++)
-            statuses[i] = (uint8_t)unwrap_slot(kek, kek_len, flags, texts + text_len * i, text_len, key_lens + i);
+            statuses[i] = (uint8_t)unwrap_slot(kek, kek_len, flags, texts + text_len * i, text_len,
+                                               key_lens + i);
         return KEYWRAP_OK;
     }
     struct aes aes;
@@ -22253,9 +22281,9 @@ int32_t keywrap_unwrap_many(const uint8_t *kek, size_t kek_len, uint8_t *texts, 
         for (size_t lane = 0; lane < turn.count; lane++) {
             uint8_t *text = text_of(&turn, lane);
             memset(text, 0, 8);
-            statuses[i + lane] = (uint8_t)keywrap_end_unwrap_slot(
-                flags, text + 8, text_len - 8, turn.steps, turn.blocks + BLOCK * lane,
-                key_lens + i + lane);
+            statuses[i + lane] =
+                (uint8_t)keywrap_end_unwrap_slot(flags, text + 8, text_len - 8, turn.steps,
+                                                 turn.blocks + BLOCK * lane, key_lens + i + lane);
         }
         wipe(turn.blocks, sizeof turn.blocks);
     }
@@ -22267,9 +22295,10 @@ int32_t keywrap_kind_many(const uint8_t *kek, size_t kek_len, const uint8_t *tex
                           size_t texts_len, uint8_t *scratch, size_t room, uint8_t *forms,
                           size_t forms_count, size_t *key_lens, size_t key_lens_count,
                           uint8_t *statuses, size_t count) {
-    OR_PROVED(kind_many, kek, kek_len, texts, texts_len, scratch, room, forms, forms_count, key_lens, key_lens_count,
-              statuses, count);
-    const int32_t status = keywrap_check_kind_many(kek, kek_len, texts_len, room, forms_count, key_lens_count, count);
+    OR_PROVED(kind_many, kek, kek_len, texts, texts_len, scratch, room, forms, forms_count,
+              key_lens, key_lens_count, statuses, count);
+    const int32_t status =
+        keywrap_check_kind_many(kek, kek_len, texts_len, room, forms_count, key_lens_count, count);
     if (status != KEYWRAP_OK) return status;
     const size_t text_len = texts_len / count;
     uint32_t padded;
