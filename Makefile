@@ -22,6 +22,7 @@ make provider           builds the provider for OpenSSL 3, as $(PROVIDER)/keywra
                         time). With HARDWARE=1 it is over libkeywrap_hw: docs/C_LIBRARY.md
 make examples           builds the example in C, as $(EXAMPLES)/wrap (the library's time)
 make wheel              builds the Python package, as $(wheel) (the library's time)
+make wheel-rotate       builds the rotation, as $(DIST)/$(rotate_wheel) (5 seconds, no kit)
 make js                 puts the package for browsers, Node and Deno together, as $(JS) (1 second, no kit)
 make dist-js            packs it for npm, as $(DIST)/keywrap-$(version).tgz (1 second, no kit)
 make go                 packs the Go module of dist/, as $(GO), which GOPROXY can name: dist/GO.md (1 second)
@@ -99,11 +100,11 @@ dist-command-sources:
 
 # With BENCH=DIRECTORY it also writes DIRECTORY/*.csv; `make bench BENCH=docs/pictures` renews the data of the plots.
 export BENCH := $(abspath $(BENCH))
-bench: build library library-hardware provider wheel
+bench: build library library-hardware provider wheel wheel-rotate
 	bench/wrap.sh '$(LIBRARY)/libkeywrap.a' '$(PROVIDER)/keywrap.so'
 	bench/record.sh lines python3-cryptography $(PYTHON) bench/lines.py '$(PROGRAM)'
 	bench/record.sh python python3-cryptography $(PYTHON) bench/python.py '$(wheel)'
-	$(PYTHON) bench/rotation.py '$(wheel)'
+	$(PYTHON) bench/rotation.py '$(wheel)' '$(DIST)/$(rotate_wheel)'
 
 pictures:
 	generate/plots.py

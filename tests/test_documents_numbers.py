@@ -225,11 +225,11 @@ class TestSources:
     def test_ranges_of_a_table(self):
         """docs/ROTATION.md has the rows of a step in SQLite and the blocks of a range in PostgreSQL; DECISIONS too."""
         (rows,) = re.findall(
-            r"^ROWS\b.* = (\d+),", text_of("python/src/keywrap/rotation/keys.py"), re.M
+            r"^ROWS\b.* = (\d+),", text_of("rotation/src/keywrap_rotate/keys.py"), re.M
         )
         (blocks,) = re.findall(
             r"^BLOCKS\b.* = (\d+),",
-            text_of("python/src/keywrap/rotation/postgresql.py"),
+            text_of("rotation/src/keywrap_rotate/postgresql.py"),
             re.M,
         )
         assert f"in steps of {int(rows):,} rows" in words_of("docs/ROTATION.md")
