@@ -453,6 +453,30 @@ class TestWhatIsStored:
         assert first == "longer-than-before:" + wrapped_under(NEW_KEK, bytes(8)).hex()
         assert second == "a:" + wrapped_under(KEK, bytes(16)).hex()
 
+    @pytest.mark.parametrize(
+        "body, status",
+        [("key = substr(NEW.key, 9)", 5), ("id = 1000 + NEW.id", 0)],
+        ids=["the key", "another column"],
+    )
+    def test_a_trigger_that_writes_after_the_update(self, server, body, status):
+        """The row has another ctid afterwards. Only a key that is gone is refused."""
+        server.sql(
+            f"""CREATE FUNCTION later() RETURNS trigger LANGUAGE plpgsql AS $$ BEGIN
+            IF pg_trigger_depth() = 1 THEN UPDATE keys SET {body} WHERE id = NEW.id; END IF; RETURN NULL; END $$;
+            CREATE TRIGGER later AFTER UPDATE ON keys FOR EACH ROW WHEN (OLD.id = 70) EXECUTE FUNCTION later()"""
+        )
+        try:
+            done = rotated()
+            held = server.held()
+        finally:
+            server.sql("DROP FUNCTION later CASCADE")
+        assert done.status == status, done
+        wanted = {**NEW, 70: OLD[70]}
+        if status == 0:
+            wanted = {**NEW, 1070: NEW[70]}
+            del wanted[70]
+        assert held == wanted
+
     def test_rows_that_refuse_an_update_are_named(self, server):
         server.sql(
             "ALTER TABLE keys ADD CHECK (id <> 70 OR md5(key) = '%s')"

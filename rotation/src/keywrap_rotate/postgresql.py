@@ -14,7 +14,7 @@ import itertools
 import os
 import threading
 import time
-from typing import Any, Iterator, List, NamedTuple, Optional, Set, Tuple
+from typing import Any, Iterator, List, NamedTuple, Optional, Set
 
 from . import signs
 from .found import Found, PassEnds, Refused, Unanswered
@@ -53,30 +53,45 @@ _ROWS = (
 )
 #: The new keys of a batch, with the ctid and the old key of their rows. Nobody calls a table by such a name.
 _FRESH = """WITH {fresh} AS (
-    SELECT * FROM unnest(%s::text[]::tid[], %s::{type}[], %s::{type}[]) AS {fresh} (row, old, new)
+    SELECT * FROM unnest(%s::text[]::tid[], %s::{type}[], %s::{type}[])
+    WITH ORDINALITY AS {fresh} (row, old, new, place)
 )"""
+#: Writes a batch, and answers by one row, since a row for each key would take longer than the write: how many rows were
+#: written, whether all of them have their new keys, and the places in the batch of what was not written.
 _UPDATE = (
     _FRESH
     + """, {locked} AS (
-    SELECT {name}.ctid AS row, {fresh}.old, {fresh}.new FROM {table} JOIN {fresh} ON {where} {key} = {fresh}.old
+    SELECT {name}.ctid AS row, {fresh}.old, {fresh}.new, {fresh}.place
+    FROM {table} JOIN {fresh} ON {where} {key} = {fresh}.old
     FOR UPDATE OF {name} SKIP LOCKED
+), {written} AS (
+    UPDATE {table} SET {column} = {locked}.new FROM {locked}
+    WHERE {name}.ctid = {locked}.row AND {key} = {locked}.old
+    RETURNING {locked}.place, ({key} = {locked}.new) IS TRUE AS is_kept
 )
-UPDATE {table} SET {column} = {locked}.new FROM {locked}
-WHERE {name}.ctid = {locked}.row AND {key} = {locked}.old
-RETURNING {locked}.row::text, {locked}.old, ({key} = {locked}.new) IS TRUE"""
+SELECT count(*), coalesce(bool_and(is_kept), TRUE),
+    ARRAY(SELECT place FROM {fresh} EXCEPT SELECT place FROM {written})
+FROM {written}"""
 )
 #: Which rows of the batch may be written: those that are where they were, or any with an old key of the batch.
 _IN_PLACE, _ANYWHERE = "{name}.ctid = {fresh}.row AND", ""
 _COUNT_OLD = (
     _FRESH + " SELECT count(*) FROM {table} JOIN {fresh} ON {key} = {fresh}.old"
 )
+_COUNT_NOT_STORED = (
+    _FRESH
+    + """ SELECT count(*) FROM {fresh}
+    WHERE NOT EXISTS (SELECT FROM {table} WHERE {key} = {fresh}.new)"""
+)
 #: The table with its partitions and the tables that inherit from it.
 _TREE = """WITH RECURSIVE tree (oid) AS (
     SELECT %s::regclass::oid UNION SELECT inhrelid FROM pg_inherits JOIN tree ON inhparent = tree.oid
 )"""
-_INSERTED = (
+#: How many rows this transaction has inserted and updated, its triggers included.
+_TOUCHED = (
     _TREE
-    + " SELECT coalesce(sum(n_tup_ins - n_tup_del), 0) FROM pg_stat_xact_user_tables JOIN tree ON oid = relid"
+    + """ SELECT coalesce(sum(n_tup_ins - n_tup_del), 0), coalesce(sum(n_tup_upd), 0)
+    FROM pg_stat_xact_user_tables JOIN tree ON oid = relid"""
 )
 _TRIGGERS = (
     _TREE
@@ -145,6 +160,7 @@ class Postgresql:
             "kek": "NULL" if kek_name is None else f"{name}.{quoted(kek_name)}::text",
             "fresh": '"new keys of keywrap-rotate"',
             "locked": '"locked by keywrap-rotate"',
+            "written": '"written by keywrap-rotate"',
         }
 
     def run(self, connection: Any, statement: str, *words: Any, **more: str) -> Any:
@@ -241,16 +257,18 @@ class Postgresql:
         self, connection: Any, kind: str, rings: Rings, may_write: bool, found: Found
     ) -> None:
         """Reads the rows of the cursor and writes those that are not new. What is not written yet is `unwritten`."""
+        batches = _Batches(self, connection, kind, found)
         left: List[Write] = []
         while rows := connection.execute(f"FETCH {WRITTEN} FROM rows").fetchall():
             renewed = renewed_rows(rings, self.notation, rows, found)
             if renewed and may_write:
                 found.unwritten += len(renewed)
-                writes = [Write(row[3], row[0], new) for new, row in renewed]
-                left += self._write(connection, kind, writes, found)
+                left += batches.write(
+                    [Write(row[3], row[0], new) for new, row in renewed]
+                )
             signs.beat(len(rows))
         if left:
-            found.unwritten -= self._write_moved(connection, kind, left)
+            batches.write_moved(left)
 
     def _open_rows(
         self, connection: Any, snapshot: str, kind: str, first: str, end: str
@@ -269,79 +287,85 @@ class Postgresql:
                 f"{self.table}: its snapshot is gone: the pass ends"
             ) from None
 
-    def _write(
-        self, connection: Any, kind: str, writes: List[Write], found: Found
-    ) -> List[Write]:
+
+class _Batches:
+    """Writes the new keys of a unit in batches, and counts them in `found`."""
+
+    def __init__(
+        self, store: Postgresql, connection: Any, kind: str, found: Found
+    ) -> None:
+        self.connection, self.found = connection, found
+        self._run = functools.partial(store.run, connection, type=kind)
+        self.tree = store.names["table"]
+        triggers = self._run(_TRIGGERS, self.tree).fetchall()
+        self.triggers = [name for (name,) in triggers]
+
+    def write(self, writes: List[Write], where: str = _IN_PLACE) -> List[Write]:
         """Writes a batch, and returns the rows that have another ctid by now or are locked. If the table does not take
         the batch as it is, its rows are written one by one, and those that it does not take are refused.
         """
-        try:
-            written = self._update(connection, kind, writes)
-            found.unwritten -= len(written)
-            return [write for write in writes if (write.row, write.old) not in written]
-        except _ROW_ERRORS:
-            left = []
+        with contextlib.suppress(*_ROW_ERRORS):
+            return self._update(writes, where)
+        left = []
         for write in writes:
             try:
-                written = self._update(connection, kind, [write])
-                found.unwritten -= len(written)
-                if not written:
-                    left.append(write)
+                left += self._update([write], where)
+            except NotKept:
+                self._refuse(write, "the table keeps another value")
             except _ROW_ERRORS as error:
-                why = "the table keeps another value"
-                if not isinstance(error, NotKept):
-                    why = f"it cannot be written: {type(error).__name__}"
-                found.refuse_write(f"row {write.row}", why)
+                self._refuse(write, f"it cannot be written: {type(error).__name__}")
         return left
 
-    def _update(
-        self,
-        connection: Any,
-        kind: str,
-        writes: List[Write],
-        where: str = _IN_PLACE,
-    ) -> Set[Tuple[str, Any]]:
-        """Writes a batch: all rows that still have the old key and that nobody has locked, or, after an error, none.
-        Returns the ctid and the old key of each row that it wrote."""
-        batch = [list(column) for column in zip(*writes)]
-        with connection.transaction():
-            done = self.run(
-                connection, _UPDATE.replace("{where}", where), *batch, type=kind
-            ).fetchall()
-            if not all(is_kept for _, _, is_kept in done):
-                raise NotKept
-            self._refuse_copies(connection, kind, batch)
-        return {(row, old) for row, old, _ in done}
-
-    def _refuse_copies(
-        self, connection: Any, kind: str, batch: List[List[Any]]
-    ) -> None:
-        """A trigger that keeps the old row in the same table would let the table grow with each pass. This session
-        inserts nothing itself."""
-        ((inserted,),) = self.run(connection, _INSERTED, self.names["table"])
-        if not inserted:
-            return
-        ((old,),) = self.run(connection, _COUNT_OLD, *batch, type=kind)
-        if old:
-            triggers = ", ".join(
-                name for name, in self.run(connection, _TRIGGERS, self.names["table"])
-            )
-            raise Refused(
-                f"a trigger inserts old keys into the table: {triggers or 'or a rule'}"
-            )
-
-    def _write_moved(self, connection: Any, kind: str, writes: List[Write]) -> int:
-        """Writes rows that others updated since the snapshot, so that they have another ctid, if they have the old key.
-        Returns how many it wrote."""
-        written = 0
+    def write_moved(self, writes: List[Write]) -> None:
+        """Writes rows that others updated since the snapshot, so that they have another ctid, if they have the old
+        key. Rows that others hold locked, or that have another key by now, are left to the next pass.
+        """
+        left = writes
         for pause in PAUSES:
             time.sleep(pause)
-            written += len(self._update(connection, kind, writes, where=_ANYWHERE))
-            batch = [list(column) for column in zip(*writes)]
-            ((old,),) = self.run(connection, _COUNT_OLD, *batch, type=kind)
-            if not old:
+            left = self.write(left, _ANYWHERE)
+            if not left or not self._count(_COUNT_OLD, left):
                 break
-        return min(written, len(writes))
+
+    def _refuse(self, write: Write, why: str) -> None:
+        self.found.refuse_write(f"row {write.row}", why)
+
+    def _count(self, statement: str, writes: List[Write]) -> int:
+        ((count,),) = self._run(statement, *_columns(writes))
+        return int(count)
+
+    def _update(self, writes: List[Write], where: str) -> List[Write]:
+        """Writes a batch: all rows that still have the old key and that nobody has locked, or, after an error, none.
+        Returns what it did not write."""
+        statement = _UPDATE.replace("{where}", where)
+        with self.connection.transaction():
+            answer = self._run(statement, *_columns(writes)).fetchone()
+            count, is_kept, places = answer
+            if not is_kept:
+                raise NotKept
+            left = set(places)
+            written = [
+                write for place, write in enumerate(writes, 1) if place not in left
+            ]
+            if self.triggers and written:
+                self._check_triggers(written, count)
+        self.found.unwritten -= len(written)
+        return [writes[place - 1] for place in places]
+
+    def _check_triggers(self, written: List[Write], count: int) -> None:
+        """Raises `Refused` if triggers inserted old keys, since the table would grow with each pass, and `NotKept` if
+        they replaced new keys after the update. This transaction has inserted nothing itself, and updated `count` rows.
+        """
+        ((inserted, updated),) = self._run(_TOUCHED, self.tree)
+        if inserted and self._count(_COUNT_OLD, written):
+            triggers = ", ".join(self.triggers)
+            raise Refused(f"a trigger inserts old keys into the table: {triggers}")
+        if updated > count and self._count(_COUNT_NOT_STORED, written):
+            raise NotKept
+
+
+def _columns(writes: List[Write]) -> List[List[Any]]:
+    return [list(column) for column in zip(*writes)]
 
 
 class _Listing(Listing):
