@@ -184,10 +184,9 @@ class _Table:
         if self.key_place is not None or None in (*first, *last):
             return all(self._has_new_key(write) for write in writes)
         statement = "SELECT {set}, {row} FROM {table} WHERE ({row}) >= ({places}) AND ({row}) <= ({places})"
-        stored = {
-            tuple(row): key for key, *row in self._run(statement, (*first, *last))
-        }
-        return all(_is_same(stored.get(write[1:-1]), write[0]) for write in writes)
+        stored = set(self._run(statement, (*first, *last)))
+        # A new key is text or bytes, and equals no number.
+        return stored.issuperset(write[:-1] for write in writes)
 
     def _write_each(self, writes: List[Write], found: Found) -> int:
         """Writes the rows that still have their old keys. Refuses those that the table does not take as they are.
