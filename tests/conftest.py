@@ -94,7 +94,7 @@ def pytest_configure(config):
 
 def pytest_collection_modifyitems(config, items):
     """Shares the long tests out among the processes of pytest-xdist: each first gets a block of the items. The tests of
-    lines of rows.txt, which wait for each other, stay together. KEYWRAP_PASSED=FILE leaves out what it names.
+    groups of rows.txt, which wait for each other, stay together. KEYWRAP_PASSED=FILE leaves out what it names.
     """
     if file := os.environ.get("KEYWRAP_PASSED"):
         passed = {*pathlib.Path(file).read_text().splitlines()}
@@ -104,7 +104,7 @@ def pytest_collection_modifyitems(config, items):
     long = [
         item
         for item in items
-        if item.path.name.startswith(LONG) and "line" not in item.fixturenames
+        if item.path.name.startswith(LONG) and "group" not in item.fixturenames
     ]
     long.sort(
         key=lambda item: "long_list" in item.name

@@ -228,11 +228,11 @@ class TestSecrets:
 class TestHere:
     """As this processor runs it."""
 
-    @faces.each_line
-    def test_rows(self, once, hardware, line):
+    @faces.each_group
+    def test_rows(self, once, hardware, group):
         library = hardware / "libkeywrap_hw.a"
-        faces.check_line(
-            line,
+        faces.check_group(
+            group,
             once,
             "hardware",
             "c",

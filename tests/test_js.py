@@ -61,7 +61,9 @@ def programs(once):
             )
         )
         (directory / "lines.txt").write_text(
-            "".join(f"{line}\n" for line, _, _ in faces.asked("js", *tables("short")))
+            "".join(
+                f"{question.line}\n" for question in faces.asked("js", *tables("short"))
+            )
         )
 
     return once("js", build)

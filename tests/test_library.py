@@ -145,10 +145,10 @@ class TestFiles:
         )
 
 
-@faces.each_line
-def test_rows(once, library, line):
-    faces.check_line(
-        line,
+@faces.each_group
+def test_rows(once, library, group):
+    faces.check_group(
+        group,
         once,
         "library",
         "c",

@@ -131,10 +131,10 @@ def test_compiles_without_a_warning(portable, compiler, only, options):
     )
 
 
-@faces.each_line
-def test_rows(portable_program, once, line):
+@faces.each_group
+def test_rows(portable_program, once, group):
     program = lambda text: run(*portable_program("gcc", ROWS, "-O2"), input=text)
-    faces.check_line(line, once, "portable", "c", program)
+    faces.check_group(group, once, "portable", "c", program)
 
 
 @pytest.mark.parametrize("name", all_of(MACHINES, ["gcc"], IN_GATE))

@@ -302,10 +302,10 @@ def test_foreign_vectors(installed):
     assert counts == [(name, "0") for name in names if not name.endswith(".expected")]
 
 
-@faces.each_line
-def test_rows(once, installed, line):
-    faces.check_line(
-        line, once, "python", "python", [installed, ROOT / "tests/rows_python.py"]
+@faces.each_group
+def test_rows(once, installed, group):
+    faces.check_group(
+        group, once, "python", "python", [installed, ROOT / "tests/rows_python.py"]
     )
 
 

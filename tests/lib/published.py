@@ -7,7 +7,8 @@ import json
 import pathlib
 import sys
 
-import rows
+from rows import Row
+from rules import Status
 
 HERE = pathlib.Path(__file__).resolve().parent.parent
 FOREIGN = HERE / "foreign"
@@ -89,33 +90,34 @@ LENGTHS = {
 def refusal(case):
     """The status of a case without an answer."""
     least, unit = LENGTHS[case.call.value]
-    return (
-        rows.BAD_LENGTH
-        if len(case.given) < least or len(case.given) % unit
-        else rows.INTEGRITY
-    )
+    length = len(case.given)
+    if length < least or length % unit:
+        return Status.BAD_LENGTH
+    return Status.INTEGRITY
 
 
 def due(case):
     """What a call returns and writes."""
-    if case.answer is not None:
-        is_padded_key = case.call.value == "unwrap_padded"
-        return {
-            "status": rows.OK,
-            "out": case.answer,
-            **({"len": len(case.answer)} if is_padded_key else {}),
-        }
-    status = refusal(case)
-    return {
-        "status": status,
-        **({"out": bytes(len(case.given) - 8)} if status == rows.INTEGRITY else {}),
-    }
+    if case.answer is None:
+        status = refusal(case)
+        if status == Status.INTEGRITY:
+            return {"status": status, "out": bytes(len(case.given) - 8)}
+        return {"status": status}
+    found = {"status": Status.OK, "out": case.answer}
+    if case.call.value == "unwrap_padded":
+        found["len"] = len(case.answer)
+    return found
 
 
 def rows_of(cases):
     """The cases as rows (see rows.py)."""
     return [
-        (case.call.value, {"kek": case.kek, "given": case.given}, due(case))
+        Row(
+            case.name,
+            case.call.value,
+            {"kek": case.kek, "given": case.given},
+            due(case),
+        )
         for case in cases
     ]
 
