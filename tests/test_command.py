@@ -20,7 +20,7 @@ from vectors import VECTOR_LINES
 
 ROOT = pathlib.Path(__file__).resolve().parent.parent
 DIST = ROOT / "dist"
-SOURCES = ["program.c", "host.c", "aes.c"]
+SOURCES = ["program.c", "host.c", "host_windows.c", "aes.c"]
 # The files that test the program.
 FILES = [
     "allocations",
@@ -539,24 +539,24 @@ BUGS = [
     ("host.c", "found->st_mode & 0777", "found->st_mode & 0700", "output_file"),
     (
         "host.c",
-        "put(to + 20, 4, (u64)found->st_uid);",
-        "put(to + 20, 4, (u64)found->st_gid);",
+        ".owner = (u32)found->st_uid",
+        ".owner = (u32)found->st_gid",
         "output_file",
     ),
     (
         "host.c",
-        "put(to + 32, 8, (u64)found->st_ino);",
-        "put(to + 32, 4, 1);",
+        ".inode = (u64)found->st_ino",
+        ".inode = 1",
         "output_file",
     ),
     (
-        "host.c",
+        "host.h",
         "(device >> 12 & 0xffffff00) | (device & 0xff)",
         "(device >> 12 & 0xffffff00)",
         "filesystem",
     ),
-    ("host.c", "S_ISFIFO(mode) ? 0010000", "S_ISFIFO(mode) ? 0100000", "output_file"),
-    ("host.c", "put(to + 40, 8, (u64)found->st_size);", "", "terminal"),
+    ("host.c", "S_ISFIFO(mode) ? KIND_PIPE", "S_ISFIFO(mode) ? 0100000", "output_file"),
+    ("host.c", ".size = (u64)found->st_size,", "", "terminal"),
     (
         "host.c",
         "failed = lstat(name, &found)",
@@ -590,7 +590,7 @@ BUGS = [
     ),
     ("host.c", "put(result, 1, block != NULL);", "put(result, 1, 1);", "allocations"),
     (
-        "host.c",
+        "host.h",
         "size_t needed = strlen(text) + 1;",
         "size_t needed = strlen(text);",
         "reasons",
@@ -635,8 +635,13 @@ def test_bug_is_caught(once, part, old, new, file):
     source = edited(
         shutil.copytree(objects, "source"), *[(part, old, new)] if old else []
     )
+    compiled = part.replace(".h", ".c")
     path = built(
-        pathlib.Path("here").absolute(), "cc", *options, source=source, names=[part]
+        pathlib.Path("here").absolute(),
+        "cc",
+        *options,
+        source=source,
+        names=[compiled],
     )
     status, said = rows(path, [file], "-x", "-k", APART)
     assert (status == 0) == (old == ""), said[-1000:]

@@ -1,107 +1,19 @@
-/* host.c: what the program's module needs of the system, over POSIX. The module has the numbers and the layouts of
- * Linux on a 64-bit processor, which this file translates. */
+/* host.c: what the program's module needs of the system. The module has the numbers and the layouts of Linux on a
+ * 64-bit processor, which this file translates: first what is the same on every system, then POSIX. host_windows.c
+ * has Windows. */
 
 #define _GNU_SOURCE /* pipe2 */
 #define _FILE_OFFSET_BITS 64
-#include <errno.h>
-#include <fcntl.h>
-#include <limits.h>
-#include <signal.h>
 #include <stdio.h>
 #include <stddef.h>
-#include <sys/stat.h>
-#include <time.h>
-#include <unistd.h>
 
-#include "module.h"
-
-/* KEYWRAP_HOST_NOT_LINUX compiles on Linux what other systems get, so that it can be tested there. */
-#if defined(__linux__) && !defined(KEYWRAP_HOST_NOT_LINUX)
-#define IS_LINUX 1
-#else
-#define IS_LINUX 0
-#endif
-
-#ifndef O_CLOEXEC
-#error "O_CLOEXEC is missing: a child would inherit the descriptor of the KEK"
-#endif
+#include "host.h"
 
 static ALIGNED u8 memory[SIZE];
 u8 *base = memory;
 
 static int arg_count;
 static char **args;
-
-#define AT(address) ((void *)POINTER(address))
-
-/* A number in the module's byte order. */
-static u64 get(u64 address, unsigned len) {
-    const u8 *from = AT(address);
-    u64 value = 0;
-    for (unsigned i = len; i-- > 0;) value = value << 8 | from[i];
-    return value;
-}
-
-static void put(u64 address, unsigned len, u64 value) {
-    u8 *to = AT(address);
-    for (unsigned i = 0; i < len; i++) to[i] = (u8)(value >> 8 * i);
-}
-
-/*** Errors ***/
-
-/* The number of an error on Linux, and here. */
-static const struct {
-    int linux_number, number;
-} errors[] = {
-    {1, EPERM},       {2, ENOENT},    {3, ESRCH},       {4, EINTR},        {5, EIO},
-    {6, ENXIO},       {7, E2BIG},     {8, ENOEXEC},     {9, EBADF},        {10, ECHILD},
-    {11, EAGAIN},     {12, ENOMEM},   {13, EACCES},     {14, EFAULT},      {16, EBUSY},
-    {17, EEXIST},     {18, EXDEV},    {19, ENODEV},     {20, ENOTDIR},     {21, EISDIR},
-    {22, EINVAL},     {23, ENFILE},   {24, EMFILE},     {25, ENOTTY},      {26, ETXTBSY},
-    {27, EFBIG},      {28, ENOSPC},   {29, ESPIPE},     {30, EROFS},       {31, EMLINK},
-    {32, EPIPE},      {33, EDOM},     {34, ERANGE},     {35, EDEADLK},     {36, ENAMETOOLONG},
-    {37, ENOLCK},     {38, ENOSYS},   {39, ENOTEMPTY},  {40, ELOOP},       {75, EOVERFLOW},
-    {84, EILSEQ},     {88, ENOTSOCK}, {95, EOPNOTSUPP}, {104, ECONNRESET}, {107, ENOTCONN},
-    {110, ETIMEDOUT}, {116, ESTALE},  {122, EDQUOT},    {125, ECANCELED},
-#ifdef ENOTBLK
-    {15, ENOTBLK},
-#endif
-};
-enum { ERRORS = sizeof errors / sizeof *errors, OTHERS = 4096 };
-
-/* 0 is no error on any system. Other errors keep their numbers on Linux. Elsewhere they get numbers that no error of
- * Linux has. */
-static u32 to_linux(int number) {
-    if (number == 0) return 0;
-    for (int i = 0; i < ERRORS; i++)
-        if (errors[i].number == number) return (u32)errors[i].linux_number;
-    return (u32)number + (IS_LINUX ? 0 : OTHERS);
-}
-
-static int from_linux(u32 number) {
-    for (int i = 0; i < ERRORS; i++)
-        if ((u32)errors[i].linux_number == number) return errors[i].number;
-    return (int)(number >= OTHERS ? number - OTHERS : number);
-}
-
-u32 host_rattle_errno(void) {
-    return to_linux(errno);
-}
-
-void host_rattle_set_errno(u32 number) {
-    errno = from_linux(number);
-}
-
-u32 host___xpg_strerror_r(u32 number, u64 to, u64 len) {
-    const char *text = strerror(from_linux(number));
-    size_t needed = strlen(text) + 1;
-    if (len > 0) {
-        size_t kept = needed <= len ? needed - 1 : (size_t)len - 1;
-        memcpy(AT(to), text, kept);
-        put(to + kept, 1, 0);
-    }
-    return needed <= len ? 0 : to_linux(ERANGE);
-}
 
 /*** Memory ***/
 
@@ -156,146 +68,6 @@ u64 host_rattle_env(u64 name, u64 to, u64 len) {
     return copy_text(getenv(AT(name)), to, len);
 }
 
-/*** Files ***/
-
-/* The program opens a file to read it, and makes a new one to write it. Here and below, what it never does ends it. */
-u32 host_open(u64 path, u32 flags, u64 rest) {
-    enum { CREATE = 0100, NEW = 0200, NO_TERMINAL = 0400, CLOSE_ON_EXEC = 02000000, WRITE = 1 };
-    switch (flags) {
-    case NO_TERMINAL | CLOSE_ON_EXEC: return (u32)open(AT(path), O_RDONLY | O_NOCTTY | O_CLOEXEC);
-    case WRITE | CREATE | NEW | NO_TERMINAL | CLOSE_ON_EXEC:
-        return (u32)open(AT(path), O_WRONLY | O_CREAT | O_EXCL | O_NOCTTY | O_CLOEXEC,
-                         (mode_t)get(rest, 4));
-    default: abort();
-    }
-}
-
-u32 host_close(u32 file) {
-    return (u32)close((int)file);
-}
-
-u64 host_read(u32 file, u64 to, u64 len) {
-    return (u64)(s64)read((int)file, AT(to), len < SSIZE_MAX ? (size_t)len : SSIZE_MAX);
-}
-
-u64 host_write(u32 file, u64 from, u64 len) {
-    return (u64)(s64)write((int)file, AT(from), len < SSIZE_MAX ? (size_t)len : SSIZE_MAX);
-}
-
-/* The program moves on from where it is. */
-u64 host_lseek(u32 file, u64 offset, u32 whence) {
-    if (whence != 1) abort();
-    return (u64)(s64)lseek((int)file, (off_t)offset, SEEK_CUR);
-}
-
-u32 host_fsync(u32 file) {
-    return (u32)fsync((int)file);
-}
-
-u32 host_fchmod(u32 file, u32 mode) {
-    return (u32)fchmod((int)file, (mode_t)mode);
-}
-
-u32 host_fchown(u32 file, u32 owner, u32 group) {
-    return (u32)fchown((int)file, (uid_t)owner, (gid_t)group);
-}
-
-u32 host_isatty(u32 file) {
-    return (u32)isatty((int)file);
-}
-
-/* The module only duplicates: F_DUPFD_CLOEXEC. */
-u32 host_fcntl(u32 file, u32 command, u64 rest) {
-    if (command != 1030) abort();
-    return (u32)fcntl((int)file, F_DUPFD_CLOEXEC, (int)get(rest, 4));
-}
-
-/* The module's flag is O_CLOEXEC. */
-u32 host_pipe2(u64 files, u32 flags) {
-    int ends[2];
-    if (flags != 02000000) abort();
-#if IS_LINUX
-    if (pipe2(ends, O_CLOEXEC)) return (u32)-1;
-#else
-    if (pipe(ends)) return (u32)-1;
-    fcntl(ends[0], F_SETFD, FD_CLOEXEC);
-    fcntl(ends[1], F_SETFD, FD_CLOEXEC);
-#endif
-    put(files, 4, (u32)ends[0]);
-    put(files + 4, 4, (u32)ends[1]);
-    return 0;
-}
-
-u32 host_rename(u64 from, u64 to) {
-    return (u32)rename(AT(from), AT(to));
-}
-
-u32 host_unlink(u64 path) {
-    return (u32)unlink(AT(path));
-}
-
-/* The other kinds are all the same to the program. */
-static u32 linux_kind(mode_t mode) {
-    return S_ISREG(mode)    ? 0100000
-           : S_ISDIR(mode)  ? 0040000
-           : S_ISLNK(mode)  ? 0120000
-           : S_ISFIFO(mode) ? 0010000
-                            : 0;
-}
-
-/* Writes Linux's struct statx: what the program reads of it, the rest is 0. The module joins the two halves of a
- * device, so they are split alike here. */
-static void put_status(u64 to, const struct stat *found) {
-    u64 device = (u64)found->st_dev;
-    memset(AT(to), 0, 256);
-    put(to + 20, 4, (u64)found->st_uid);
-    put(to + 24, 4, (u64)found->st_gid);
-    put(to + 28, 2, (found->st_mode & 0777) | linux_kind(found->st_mode));
-    put(to + 32, 8, (u64)found->st_ino);
-    put(to + 40, 8, (u64)found->st_size);
-    put(to + 136, 4, (device >> 32 & 0xfffff000) | (device >> 8 & 0xfff));
-    put(to + 140, 4, (device >> 12 & 0xffffff00) | (device & 0xff));
-}
-
-/* statx of a path or, with AT_EMPTY_PATH, of an open file. */
-u32 host_statx(u32 file, u64 path, u32 flags, u32 mask, u64 to) {
-    enum { EMPTY_PATH = 0x1000, NO_FOLLOW = 0x100 };
-    const char *name = AT(path);
-    struct stat found;
-    int failed;
-    (void)mask;
-#if !IS_LINUX
-    /* Linux's names of the standard streams. */
-    if (!strncmp(name, "/proc/self/fd/", 14) && name[14] >= '0' && name[14] <= '2' && !name[15]) {
-        file = (u32)(name[14] - '0');
-        name = "";
-        flags |= EMPTY_PATH;
-    }
-#endif
-    if (!*name && flags & EMPTY_PATH) failed = fstat((int)file, &found);
-    else if (flags & NO_FOLLOW) failed = lstat(name, &found);
-    else failed = stat(name, &found);
-    if (failed) return (u32)-1;
-    put_status(to, &found);
-    return 0;
-}
-
-/*** Time and signals ***/
-
-u32 host_clock_gettime(u32 clock, u64 to) {
-    struct timespec time;
-    if (clock_gettime(clock == 1 ? CLOCK_MONOTONIC : CLOCK_REALTIME, &time)) return (u32)-1;
-    put(to, 8, (u64)time.tv_sec);
-    put(to + 8, 8, (u64)time.tv_nsec);
-    return 0;
-}
-
-/* The program ignores SIGPIPE when it starts, and changes no other signal. */
-u64 host___sysv_signal(u32 number, u64 action) {
-    if (number != 13 || action != 1) abort();
-    return signal(SIGPIPE, SIG_IGN) == SIG_ERR ? (u64)-1 : 0;
-}
-
 /*** Numbers of 128 bits ***/
 
 static void put_pair(u64 to, u64 low, u64 high) {
@@ -343,7 +115,9 @@ void host___lshrti3(u64 result, u64 low, u64 high, u32 by) {
     abort();
 }
 
-int main(int count, char **words) {
+/*** The program ***/
+
+int run_program(int count, char **words) {
     static const char BUILD[] = "built from C (dist/command)\n";
     int status;
     arg_count = count;
@@ -352,7 +126,211 @@ int main(int count, char **words) {
     status = (int)module_main(0, 0);
     /* After `--version` alone a second line says which build this is. */
     if (status == 0 && count == 2 && (!strcmp(words[1], "--version") || !strcmp(words[1], "-V"))
-        && (size_t)write(1, BUILD, sizeof BUILD - 1) != sizeof BUILD - 1)
+        && host_write(1, ADDRESS(BUILD), sizeof BUILD - 1) != sizeof BUILD - 1)
         status = 6;
     return status;
 }
+
+#ifndef _WIN32
+
+#include <errno.h>
+#include <fcntl.h>
+#include <limits.h>
+#include <signal.h>
+#include <sys/stat.h>
+#include <time.h>
+#include <unistd.h>
+
+/* KEYWRAP_HOST_NOT_LINUX compiles on Linux what other systems get, so that it can be tested there. */
+#if defined(__linux__) && !defined(KEYWRAP_HOST_NOT_LINUX)
+#define IS_LINUX 1
+#else
+#define IS_LINUX 0
+#endif
+
+#ifndef O_CLOEXEC
+#error "O_CLOEXEC is missing: a child would inherit the descriptor of the KEK"
+#endif
+
+/*** Errors of POSIX ***/
+
+/* The number of an error on Linux, and here. */
+static const struct {
+    int linux_number, number;
+} errors[] = {
+    {1, EPERM},       {2, ENOENT},    {3, ESRCH},       {4, EINTR},        {5, EIO},
+    {6, ENXIO},       {7, E2BIG},     {8, ENOEXEC},     {9, EBADF},        {10, ECHILD},
+    {11, EAGAIN},     {12, ENOMEM},   {13, EACCES},     {14, EFAULT},      {16, EBUSY},
+    {17, EEXIST},     {18, EXDEV},    {19, ENODEV},     {20, ENOTDIR},     {21, EISDIR},
+    {22, EINVAL},     {23, ENFILE},   {24, EMFILE},     {25, ENOTTY},      {26, ETXTBSY},
+    {27, EFBIG},      {28, ENOSPC},   {29, ESPIPE},     {30, EROFS},       {31, EMLINK},
+    {32, EPIPE},      {33, EDOM},     {34, ERANGE},     {35, EDEADLK},     {36, ENAMETOOLONG},
+    {37, ENOLCK},     {38, ENOSYS},   {39, ENOTEMPTY},  {40, ELOOP},       {75, EOVERFLOW},
+    {84, EILSEQ},     {88, ENOTSOCK}, {95, EOPNOTSUPP}, {104, ECONNRESET}, {107, ENOTCONN},
+    {110, ETIMEDOUT}, {116, ESTALE},  {122, EDQUOT},    {125, ECANCELED},
+#ifdef ENOTBLK
+    {15, ENOTBLK},
+#endif
+};
+enum { ERRORS = sizeof errors / sizeof *errors, OTHERS = 4096 };
+
+/* 0 is no error on any system. Other errors keep their numbers on Linux. Elsewhere they get numbers that no error of
+ * Linux has. */
+static u32 to_linux(int number) {
+    if (number == 0) return 0;
+    for (int i = 0; i < ERRORS; i++)
+        if (errors[i].number == number) return (u32)errors[i].linux_number;
+    return (u32)number + (IS_LINUX ? 0 : OTHERS);
+}
+
+static int from_linux(u32 number) {
+    for (int i = 0; i < ERRORS; i++)
+        if ((u32)errors[i].linux_number == number) return errors[i].number;
+    return (int)(number >= OTHERS ? number - OTHERS : number);
+}
+
+u32 host_rattle_errno(void) {
+    return to_linux(errno);
+}
+
+void host_rattle_set_errno(u32 number) {
+    errno = from_linux(number);
+}
+
+u32 host___xpg_strerror_r(u32 number, u64 to, u64 len) {
+    return put_error_text(strerror(from_linux(number)), to, len);
+}
+
+/*** Files of POSIX ***/
+
+/* Here and below, what the program never does ends it. */
+u32 host_open(u64 path, u32 flags, u64 rest) {
+    switch (flags) {
+    case OPEN_TO_READ: return (u32)open(AT(path), O_RDONLY | O_NOCTTY | O_CLOEXEC);
+    case OPEN_NEW_TO_WRITE:
+        return (u32)open(AT(path), O_WRONLY | O_CREAT | O_EXCL | O_NOCTTY | O_CLOEXEC,
+                         (mode_t)get(rest, 4));
+    default: abort();
+    }
+}
+
+u32 host_close(u32 file) {
+    return (u32)close((int)file);
+}
+
+u64 host_read(u32 file, u64 to, u64 len) {
+    return (u64)(s64)read((int)file, AT(to), len < SSIZE_MAX ? (size_t)len : SSIZE_MAX);
+}
+
+u64 host_write(u32 file, u64 from, u64 len) {
+    return (u64)(s64)write((int)file, AT(from), len < SSIZE_MAX ? (size_t)len : SSIZE_MAX);
+}
+
+u64 host_lseek(u32 file, u64 offset, u32 whence) {
+    if (whence != FROM_HERE) abort();
+    return (u64)(s64)lseek((int)file, (off_t)offset, SEEK_CUR);
+}
+
+u32 host_fsync(u32 file) {
+    return (u32)fsync((int)file);
+}
+
+u32 host_fchmod(u32 file, u32 mode) {
+    return (u32)fchmod((int)file, (mode_t)mode);
+}
+
+u32 host_fchown(u32 file, u32 owner, u32 group) {
+    return (u32)fchown((int)file, (uid_t)owner, (gid_t)group);
+}
+
+u32 host_isatty(u32 file) {
+    return (u32)isatty((int)file);
+}
+
+u32 host_fcntl(u32 file, u32 command, u64 rest) {
+    if (command != DUPLICATE_CLOSE_ON_EXEC) abort();
+    return (u32)fcntl((int)file, F_DUPFD_CLOEXEC, (int)get(rest, 4));
+}
+
+u32 host_pipe2(u64 files, u32 flags) {
+    int ends[2];
+    if (flags != PIPE_CLOSE_ON_EXEC) abort();
+#if IS_LINUX
+    if (pipe2(ends, O_CLOEXEC)) return (u32)-1;
+#else
+    if (pipe(ends)) return (u32)-1;
+    fcntl(ends[0], F_SETFD, FD_CLOEXEC);
+    fcntl(ends[1], F_SETFD, FD_CLOEXEC);
+#endif
+    put(files, 4, (u32)ends[0]);
+    put(files + 4, 4, (u32)ends[1]);
+    return 0;
+}
+
+u32 host_rename(u64 from, u64 to) {
+    return (u32)rename(AT(from), AT(to));
+}
+
+u32 host_unlink(u64 path) {
+    return (u32)unlink(AT(path));
+}
+
+static u32 linux_kind(mode_t mode) {
+    return S_ISREG(mode)    ? KIND_REGULAR
+           : S_ISDIR(mode)  ? KIND_DIRECTORY
+           : S_ISLNK(mode)  ? KIND_LINK
+           : S_ISFIFO(mode) ? KIND_PIPE
+                            : 0;
+}
+
+static void put_found(u64 to, const struct stat *found) {
+    struct status status = {
+        .owner = (u32)found->st_uid,
+        .group = (u32)found->st_gid,
+        .mode = (u32)(found->st_mode & 0777) | linux_kind(found->st_mode),
+        .device = (u64)found->st_dev,
+        .inode = (u64)found->st_ino,
+        .size = (u64)found->st_size,
+    };
+    put_status(to, &status);
+}
+
+u32 host_statx(u32 file, u64 path, u32 flags, u32 mask, u64 to) {
+    const char *name = AT(path);
+    struct stat found;
+    int failed;
+    (void)mask;
+    if (!IS_LINUX && standard_stream(name) >= 0) {
+        file = (u32)standard_stream(name);
+        name = "";
+        flags |= OF_DESCRIPTOR;
+    }
+    if (!*name && flags & OF_DESCRIPTOR) failed = fstat((int)file, &found);
+    else if (flags & OF_LINK) failed = lstat(name, &found);
+    else failed = stat(name, &found);
+    if (failed) return (u32)-1;
+    put_found(to, &found);
+    return 0;
+}
+
+/*** Time and signals of POSIX ***/
+
+u32 host_clock_gettime(u32 clock, u64 to) {
+    struct timespec time;
+    if (clock_gettime(clock == 1 ? CLOCK_MONOTONIC : CLOCK_REALTIME, &time)) return (u32)-1;
+    put(to, 8, (u64)time.tv_sec);
+    put(to + 8, 8, (u64)time.tv_nsec);
+    return 0;
+}
+
+/* The program ignores SIGPIPE when it starts, and changes no other signal. */
+u64 host___sysv_signal(u32 number, u64 action) {
+    if (number != 13 || action != 1) abort();
+    return signal(SIGPIPE, SIG_IGN) == SIG_ERR ? (u64)-1 : 0;
+}
+
+int main(int count, char **words) {
+    return run_program(count, words);
+}
+
+#endif
