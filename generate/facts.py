@@ -76,77 +76,58 @@ def part(page, text):
 
 def calls(*headers):
     """The names of the calls that the headers declare, in their order."""
-    return [
-        call
-        for header in headers
-        for call in re.findall(
-            r"^(?:u?int\d+_t|size_t|void) (keywrap_\w+)\(", read(header), re.M
-        )
-    ]
+    prototype = r"^(?:u?int\d+_t|size_t|void) (keywrap_\w+)\("
+    names = []
+    for header in headers:
+        names += re.findall(prototype, read(header), re.M)
+    return names
 
 
 def export_map():
     """What libkeywrap.so shows: the nodes of the last release, and later calls in the node of the next one."""
-    before = re.sub(
-        r"\s+(keywrap_\w+;)",
-        r"\n        \1",
-        read("tests/library/released/keywrap.map"),
-    )
+    released = read("tests/library/released/keywrap.map")
+    before = re.sub(r"\s+(keywrap_\w+;)", r"\n        \1", released)
     later = [call for call in calls(*HEADERS) if f" {call};" not in before]
+    if not later:
+        return before
     shown = "".join(f"        {call};\n" for call in later)
-    node, last = (
-        read("VERSION").rpartition(".")[0],
-        re.findall(r"^(KEYWRAP_\S+) \{", before, re.M)[-1],
-    )
-    return before + (
-        f"\nKEYWRAP_{node} {{\n    global:\n{shown}}} {last};\n" if later else ""
-    )
+    last_node = re.findall(r"^(KEYWRAP_\S+) \{", before, re.M)[-1]
+    version, _, _ = read("VERSION").rpartition(".")
+    node = f"KEYWRAP_{version} {{\n    global:\n{shown}}} {last_node};\n"
+    return f"{before}\n{node}"
 
 
 def renamed():
     """The names that the proved calls get below the calls by the processor's AES: objcopy reads them."""
-    code = "".join(
-        path.read_text() for path in sorted((TOP / "c/hardware").glob("*.c"))
-    )
-    found = [
-        call
+    files = sorted((TOP / "c/hardware").glob("*.c"))
+    code = "".join(path.read_text() for path in files)
+    return "".join(
+        f"{call} proved_{call}\n"
         for call in calls("dist/keywrap.h")
         if re.search(rf"^int32_t {call}\(", code, re.M)
-    ]
-    return "".join(f"{call} proved_{call}\n" for call in found)
+    )
 
 
 def statuses():
     """The number of each status that a call returns."""
-    found = re.findall(
-        r"^pub const (\w+): i32 = (\d+);",
-        read("crates/keywrap_calls/src/status.rt"),
-        re.M,
-    )
-    return {"OK" if name == "DONE" else name: number for name, number in found}
+    source = read("crates/keywrap_calls/src/status.rt")
+    numbers = dict(re.findall(r"^pub const (\w+): i32 = (\d+);", source, re.M))
+    return {"OK": numbers.pop("DONE"), **numbers}
 
 
 def header_numbers():
     """The longest key and the flags of a rewrap, by their names in keywrap.h."""
-    return dict(
-        re.findall(
-            r"^#define KEYWRAP_(MAX_KEY|\w+_PADDED|KEEP_FORM|PASS_NEW) (\d+)u?$",
-            read("dist/keywrap.h"),
-            re.M,
-        )
-    )
+    names = r"MAX_KEY|\w+_PADDED|KEEP_FORM|PASS_NEW"
+    definition = rf"^#define KEYWRAP_({names}) (\d+)u?$"
+    return dict(re.findall(definition, read("dist/keywrap.h"), re.M))
 
 
 def texts():
     """The text of each status, by the name of the status, and by its name in the provider for OpenSSL."""
-    found = dict(
-        re.findall(
-            r'^        ([A-Z_]+) => b"(.*)",$',
-            read("crates/keywrap_calls/src/texts.rt"),
-            re.M,
-        )
-    )
-    return {**found, "LENGTH": found["BAD_LENGTH"]}
+    source = read("crates/keywrap_calls/src/texts.rt")
+    found = dict(re.findall(r'^        ([A-Z_]+) => b"(.*)",$', source, re.M))
+    found["LENGTH"] = found["BAD_LENGTH"]
+    return found
 
 
 def with_value(text, pattern, value):
@@ -163,17 +144,21 @@ def with_values(text, pattern, values):
     return text
 
 
+def rust_parameter(text):
+    """A parameter of C in Rust. Its spaces are ~, so that no line ends there."""
+    text = text.replace("KEYWRAP_RESTRICT", "").replace("*", " * ")
+    *words, name = text.split()
+    is_constant = words[0] == "const"
+    kind = TYPES[words[1 if is_constant else 0]]
+    if "*" in words:
+        kind = f"*{'const' if is_constant else 'mut'}~{kind}"
+    return f"{name}:~{kind}"
+
+
 def declared(result, name, parameters):
-    """A call of a header, in Rust, on as many lines as it needs. No line ends inside of a parameter."""
-
-    def parameter(text):
-        *words, name = text.replace("KEYWRAP_RESTRICT", "").replace("*", " * ").split()
-        pointer = "" if "*" not in words else "*const " if "const" in words else "*mut "
-        return f"{name}: {pointer}{TYPES[words[words[0] == 'const']]}".replace(" ", "~")
-
-    parts = ", ".join(
-        parameter(text) for text in parameters.split(",") if text != "void"
-    )
+    """A call of a header, in Rust, on as many lines as it needs."""
+    texts = [text for text in parameters.split(",") if text != "void"]
+    parts = ", ".join(map(rust_parameter, texts))
     lines = textwrap.wrap(
         f"fn~{name}({parts})~->~{TYPES[result]};",
         99,
@@ -184,89 +169,98 @@ def declared(result, name, parameters):
     return "\n".join(lines).replace("~", " ") + "\n"
 
 
+def rust_calls(header):
+    """The calls of a header that the files of the crate make, declared in Rust."""
+    files = sorted((TOP / "dist/src").glob("*.rs"))
+    code = "".join(path.read_text() for path in files if path.name != "sys.rs")
+    prototypes = re.findall(r"^(\w+) (keywrap_\w+)\(([^;]*)\);", read(header), re.M)
+    return "".join(
+        declared(result, name, parameters)
+        for result, name, parameters in prototypes
+        if re.search(rf"\b{name}\b", code)
+    )
+
+
 def rust():
     """sys.rs with the statuses, and with the calls that the other files of the crate make."""
-    made = "".join(
-        path.read_text()
-        for path in sorted((TOP / "dist/src").glob("*.rs"))
-        if path.name != "sys.rs"
-    )
-    blocks = [
-        "".join(
-            declared(*call)
-            for call in re.findall(
-                r"^(\w+) (keywrap_\w+)\(([^;]*)\);", read(header), re.M
-            )
-            if re.search(rf"\b{call[1]}\b", made)
-        )
-        for header in HEADERS
-    ]
-    numbers = [
+    numbers = "".join(
         f"    KEYWRAP_{name}: i32 = {number};\n"
         for name, number in statuses().items()
         if name != "NO_MEMORY"
-    ]
-    page = re.sub(
-        r"(?<=constants! \{\n)(?:    KEYWRAP_\w+: i32 = \d+;\n)*?(?=    KEYWRAP_ALREADY)",
-        "".join(numbers),
-        read(RUST),
     )
-    return re.sub(
-        r"(?<=^calls! \{\n).*?(?=^\}\n)", "\n".join(blocks), page, flags=re.M | re.S
-    )
+    old_numbers = r"(?<=constants! \{\n)(?:    KEYWRAP_\w+: i32 = \d+;\n)*?(?=    KEYWRAP_ALREADY)"
+    page = re.sub(old_numbers, numbers, read(RUST))
+    declarations = "\n".join(map(rust_calls, HEADERS))
+    old_calls = r"(?<=^calls! \{\n).*?(?=^\}\n)"
+    return re.sub(old_calls, declarations, page, flags=re.M | re.S)
 
 
 def lacking():
     """What has to be written by hand, once: a new status in each language, with what it means there; a new exit status
     and a new option, with what the manual page says of it."""
-    found = [
-        f"{name}: lacks the status {status}"
-        for name, pattern in {**STATUSES, **NAMED}.items()
-        if name != JAVA
-        for status in statuses()
-        if status not in ("OK", "NO_MEMORY")
-        and not re.search(pattern.format(status), read(name))
-    ]
-    numbers = re.findall(r"u8 = (\d+);", read("crates/keywrap_cli/src/statuses.rt"))
-    found += [
-        f"{name}: lacks the exit status {number}"
-        for name, pattern in EXITS.items()
-        for number in numbers
-        if number not in re.findall(pattern, read(name), re.M)
-    ]
-    items = "\n".join(re.findall(r"^\.It .*", read("command/man/keywrap.1"), re.M))
-    return found + [
-        f"command/man/keywrap.1: lacks the option --{option.name}"
-        for option in completions.OPTIONS
-        if not re.search(rf"Fl -{option.name}(?![\w-])", items)
-    ]
+    return [*lacking_statuses(), *lacking_exits(), *lacking_options()]
+
+
+def lacking_statuses():
+    written = [status for status in statuses() if status not in ("OK", "NO_MEMORY")]
+    for name, pattern in {**STATUSES, **NAMED}.items():
+        if name == JAVA:
+            continue
+        page = read(name)
+        for status in written:
+            if not re.search(pattern.format(status), page):
+                yield f"{name}: lacks the status {status}"
+
+
+def lacking_exits():
+    source = read("crates/keywrap_cli/src/statuses.rt")
+    numbers = re.findall(r"u8 = (\d+);", source)
+    for name, pattern in EXITS.items():
+        written = re.findall(pattern, read(name), re.M)
+        for number in numbers:
+            if number not in written:
+                yield f"{name}: lacks the exit status {number}"
+
+
+def lacking_options():
+    page = "command/man/keywrap.1"
+    items = "\n".join(re.findall(r"^\.It .*", read(page), re.M))
+    for option in completions.OPTIONS:
+        if not re.search(rf"Fl -{option.name}(?![\w-])", items):
+            yield f"{page}: lacks the option --{option.name}"
+
+
+def crates():
+    """The crates of crates.txt, each with those of this repository that it uses."""
+    lines = (TOP / "crates.txt").read_text(encoding="utf-8").splitlines()
+    uses = {}
+    for line in lines:
+        if line.strip() and not line.startswith("#"):
+            name, _, used = line.partition(":")
+            uses[name.split()[0]] = used.split()
+    return {
+        name: [other for other in used if other in uses] for name, used in uses.items()
+    }
+
+
+def all_below(name, uses):
+    """The crates below a crate, at any distance."""
+    found = set()
+    for other in uses[name]:
+        found |= {other} | all_below(other, uses)
+    return found
 
 
 def crate_map():
-    """The crates and the crates below them, from crates.txt, as a Mermaid graph."""
-    below = {}
-    for line in (TOP / "crates.txt").read_text(encoding="utf-8").splitlines():
-        if line.strip() and not line.startswith("#"):
-            name, _, uses = line.partition(":")
-            below[name.split()[0]] = uses.split()
-
-    def closure(name):
-        """The crates of this repository below a crate."""
-        return {
-            far
-            for use in below.get(name, [])
-            if use in below
-            for far in {use} | closure(use)
-        }
-
+    """The crates and the crates below them as a Mermaid graph. An edge that follows from two others is left out."""
+    uses = crates()
     lines = ["```mermaid", "graph BT"]
-    for name, uses in below.items():
-        local = [use for use in uses if use in below]
-        # An edge that follows from two others is left out.
-        reachable = {far for use in local for far in closure(use)}
-        lines += [f"    {use} --> {name}" for use in local if use not in reachable] or [
-            f"    {name}"
-        ]
+    for name, used in uses.items():
+        follows = set()
+        for other in used:
+            follows |= all_below(other, uses)
+        edges = [f"    {other} --> {name}" for other in used if other not in follows]
+        lines += edges or [f"    {name}"]
     return "\n".join([*lines, "```"])
 
 
@@ -274,58 +268,65 @@ def versions():
     """Each place of the version: the file, a pattern with a group around it, and what is written there."""
     version = read("VERSION").strip()
     parts = version.removesuffix("-dev").split(".")
+    numbers = [int(part) for part in parts]
     yield "crates/keywrap_args/src/subcommands.rt", r'\.version\("(.*)"\)', version
     yield "dist/Cargo.toml", r'^version = "(.*)"', version
     yield "java/pom.xml", "^  <version>(.*)</version>", version
     yield "java/META-INF/MANIFEST.MF", "^Implementation-Version: (.*)", version
     yield "packaging/debian/changelog", r"\Akeywrap \((.*)\)", version.replace("-", "~")
+
+    header = "dist/keywrap.h"
     for name, part in zip(("MAJOR", "MINOR", "PATCH"), parts):
-        yield "dist/keywrap.h", rf"^#define KEYWRAP_VERSION_{name} (.*)", part
-    before = (
-        '#define KEYWRAP_PRERELEASE "dev" /* not defined in a release */\n'
-        * version.endswith("-dev")
-    )
-    yield "dist/keywrap.h", r"KEYWRAP_VERSION_PATCH .*\n((?:#define KEYWRAP_PRERELEASE.*\n)?)", before
-    for name, form in ("specs/Version.antt", "0x{:x}_{:02x}{:02x}"), (
-        "src/version_number.rt",
-        "0x{:04x}_{:02x}{:02x}",
-    ):
-        yield f"crates/keywrap_calls/{name}", r"[Tt]he version ([\d.]+),", ".".join(
-            parts
-        )
-        yield f"crates/keywrap_calls/{name}", "(0x[0-9a-f_]+)$", form.format(
-            *map(int, parts)
-        )
-    yield "tests/edits/keywrap_calls/another-version.edit", "^old: (.*)", form.format(
-        *map(int, parts)
-    )
+        yield header, rf"^#define KEYWRAP_VERSION_{name} (.*)", part
+    prerelease = ""
+    if version.endswith("-dev"):
+        prerelease = '#define KEYWRAP_PRERELEASE "dev" /* not defined in a release */\n'
+    old = r"KEYWRAP_VERSION_PATCH .*\n((?:#define KEYWRAP_PRERELEASE.*\n)?)"
+    yield header, old, prerelease
+
+    crate = "crates/keywrap_calls"
+    forms = {
+        "specs/Version.antt": "0x{:x}_{:02x}{:02x}",
+        "src/version_number.rt": "0x{:04x}_{:02x}{:02x}",
+    }
+    for name, form in forms.items():
+        yield f"{crate}/{name}", r"[Tt]he version ([\d.]+),", ".".join(parts)
+        yield f"{crate}/{name}", "(0x[0-9a-f_]+)$", form.format(*numbers)
+    edit = "tests/edits/keywrap_calls/another-version.edit"
+    yield edit, "^old: (.*)", forms["src/version_number.rt"].format(*numbers)
+
+
+def architecture():
+    """The page with the map of the crates, and with the hundreds of edits."""
+    page = "docs/ARCHITECTURE.md"
+    gate = [*TOP.glob("crates/*/must-fail/*.edit")]
+    evidence = [*TOP.glob("tests/edits/*/*.edit")]
+    hundreds = round(len(gate) + len(evidence), -2)
+    text = part(page, crate_map())
+    return with_value(text, r"about (\d+) with tests/edits", str(hundreds))
+
+
+def with_numbers_and_texts(name):
+    """A file of a language with the numbers and texts of keywrap.h that it has."""
+    text = rust() if name == RUST else read(name)
+    if name in STATUSES:
+        text = with_values(text, STATUSES[name], statuses())
+    if name in NUMBERS:
+        text = with_values(text, NUMBERS[name], header_numbers())
+    if name in TEXTS:
+        text = with_values(text, TEXTS[name], texts())
+    return text
 
 
 def results():
     """Each file that this script writes, with its text."""
     yield "command/man/keywrap.1", part("command/man/keywrap.1", synopsis())
-    page, edits = "docs/ARCHITECTURE.md", [
-        *TOP.glob("crates/*/must-fail/*.edit"),
-        *TOP.glob("tests/edits/*/*.edit"),
-    ]
-    yield page, with_value(
-        part(page, crate_map()),
-        r"about (\d+) with tests/edits",
-        str(round(len(edits), -2)),
-    )
+    yield "docs/ARCHITECTURE.md", architecture()
     yield "c/include/keywrap.map", export_map()
     yield "c/hardware/names", renamed()
     yield from exports.results()
     for name in sorted({*STATUSES, *NUMBERS, *TEXTS}):
-        text = rust() if name == RUST else read(name)
-        for patterns, values in (
-            (STATUSES, statuses),
-            (NUMBERS, header_numbers),
-            (TEXTS, texts),
-        ):
-            if name in patterns:
-                text = with_values(text, patterns[name], values())
-        yield name, text
+        yield name, with_numbers_and_texts(name)
     for name, pattern, value in versions():
         yield name, with_value(read(name), pattern, value)
 
