@@ -11,6 +11,7 @@ from typing import NamedTuple
 
 TOP = Path(__file__).resolve().parent.parent
 ARGS = TOP / "crates/keywrap_args/src"
+TEMPLATES = TOP / "packaging/templates"
 BY = "# Written by generate/completions.py from the tables of crates/keywrap_args."
 # What clap adds.
 HELP = "Print this message or the help of the given subcommand(s)"
@@ -29,7 +30,13 @@ class Option(NamedTuple):
 
     @property
     def words(self):
-        return [f"-{self.short}"] * bool(self.short) + [f"--{self.name}"]
+        short = [f"-{self.short}"] if self.short else []
+        return [*short, f"--{self.name}"]
+
+    @property
+    def is_key(self):
+        """Whether it is the argument without a name."""
+        return self.value == "Key"
 
 
 def text_of(name):
@@ -46,23 +53,28 @@ def commands():
 
 def users():
     """The commands of each variant of Users."""
-    variants = re.findall(
-        r"(\w+),",
-        re.search(r"enum Users \{(.*?)\}", text_of("options.rt"), re.DOTALL)[1],
-    )
-    conditions = re.findall(
-        r"Subcommand::(\w+) => (.*)", text_of("subcommands.rt").split("fn has", 1)[1]
-    )
+    enum = re.search(r"enum Users \{(.*?)\}", text_of("options.rt"), re.DOTALL)
+    _, has = text_of("subcommands.rt").split("fn has", 1)
+    conditions = re.findall(r"Subcommand::(\w+) => (.*)", has)
     return {
-        variant: [
-            name.lower()
-            for name, condition in conditions
-            if condition != "false,"
-            and (f"Users::{variant}" in re.findall(r"Users::\w+", condition))
-            != condition.startswith("!")
-        ]
-        for variant in variants
+        variant: [name.lower() for name, text in conditions if holds(text, variant)]
+        for variant in re.findall(r"(\w+),", enum[1])
     }
+
+
+def holds(condition, variant):
+    """Whether a command has the options of these users: its condition is false, a pattern, or not a pattern."""
+    if condition == "false,":
+        return False
+    is_named = f"Users::{variant}" in re.findall(r"Users::\w+", condition)
+    is_negated = condition.startswith("!")
+    return is_named != is_negated
+
+
+def names_in(field, text):
+    """The names of options in a field of an argument."""
+    fields = re.findall(rf"{field}: &\[(.*?)\]", text)
+    return re.findall(r'"([\w-]+)"', "".join(fields))
 
 
 def options():
@@ -72,32 +84,36 @@ def options():
         text_of("options.rt"),
         re.DOTALL,
     )
-    found, of_users = {}, users()
-    rows = re.findall(
-        r'(\w+): "([\w-]+)",\s*"(.*?)"(.*?)(?=\n    argument!|\Z)', table[2], re.DOTALL
-    )
-    for who, name, about, rest in rows:
-        value, short = (re.findall(r"Value::(\w+)(?:\('(\w)'\))?", rest) or [("", "")])[
-            0
-        ]
-        excludes = re.findall(
-            r'"([\w-]+)"', "".join(re.findall(r"conflicts: &\[(.*?)\]", rest))
+    row = r'(\w+): "([\w-]+)",\s*"(.*?)"(.*?)(?=\n    argument!|\Z)'
+    of_users = users()
+    found = {}
+    for who, name, about, rest in re.findall(row, table[2], re.DOTALL):
+        value = re.search(r"Value::(\w+)(?:\('(\w)'\))?", rest)
+        found[name] = Option(
+            name,
+            about,
+            value[1] if value else "",
+            (value and value[2]) or "",
+            names_in("conflicts", rest),
+            of_users[who],
+            names_in("needs", rest),
         )
-        needs = re.findall(
-            r'"([\w-]+)"', "".join(re.findall(r"needs: &\[(.*?)\]", rest))
-        )
-        found[name] = Option(name, about, value, short, excludes, of_users[who], needs)
-    used = all(option.commands for option in found.values())
-    assert len(found) == int(table[1]) and used, "options.rt is not as it was"
-    for option in [*found.values()]:
-        for other in option.conflicts:
-            if option.name not in found[other].conflicts:
-                found[other].conflicts.append(option.name)
+    are_used = all(option.commands for option in found.values())
+    assert len(found) == int(table[1]) and are_used, "options.rt is not as it was"
+    exclude_each_other(found)
     return [*found.values()]
 
 
+def exclude_each_other(found):
+    """What an option excludes, excludes it."""
+    for option in found.values():
+        for other in list(option.conflicts):
+            if option.name not in found[other].conflicts:
+                found[other].conflicts.append(option.name)
+
+
 COMMANDS, ARGUMENTS = commands(), options()
-OPTIONS = [option for option in ARGUMENTS if option.value != "Key"]
+OPTIONS = [option for option in ARGUMENTS if not option.is_key]
 NAMES = [*COMMANDS, "help"]
 
 
@@ -107,15 +123,15 @@ def of(command):
 
 def excluded(option):
     """The words that are not offered beside it, and itself, which is not offered twice."""
-    return [
-        *option.words,
-        *(
-            word
-            for other in OPTIONS
-            if other.name in option.conflicts
-            for word in other.words
-        ),
-    ]
+    words = list(option.words)
+    for other in OPTIONS:
+        if other.name in option.conflicts:
+            words += other.words
+    return words
+
+
+def excluded_by_others(option):
+    return excluded(option)[len(option.words) :]
 
 
 def lines(words, first, more="", last="", width=116):
@@ -125,191 +141,143 @@ def lines(words, first, more="", last="", width=116):
         if len(found[-1]) + 1 + len(word) + len(last) > width:
             found[-1] += last
             found.append(more)
-        found[-1] += " " * (not found[-1].endswith(" ")) + word
+        if not found[-1].endswith(" "):
+            found[-1] += " "
+        found[-1] += word
     return found
 
 
-def bash():
-    def offered(command):
-        words = [
-            word
-            for option in of(command)
-            if option.value != "Key"
-            for word in option.words
-        ]
-        text = (
-            '"\n'.join(lines(words, '        options="$common', '        options+=" '))
-            + '"'
-        )
-        if any(option.value == "Key" for option in of(command)):
-            text = f"""        # What is missing may be the HEX, which only the user knows.
+def filled(template, **parts):
+    """A template of packaging/templates, with these parts in the places of @NAME@."""
+    text = (TEMPLATES / template).read_text()
+    for name, part in {**parts, "by": BY}.items():
+        text = text.replace(f"@{name}@", part)
+    return text
+
+
+def bash_offered(command):
+    """The case of a command: its options."""
+    words = [
+        word for option in of(command) if not option.is_key for word in option.words
+    ]
+    parts = lines(words, '        options="$common', '        options+=" ')
+    text = '"\n'.join(parts) + '"'
+    if any(option.is_key for option in of(command)):
+        text = f"""        # What is missing may be the HEX, which only the user knows.
         [ "${{word:0:1}}" != - ] || {text.strip()}"""
-        return f"    {command})\n{text}\n        ;;"
+    return f"    {command})\n{text}\n        ;;"
 
-    def when(kinds):
-        return " | ".join(
-            word for option in OPTIONS if option.value in kinds for word in option.words
-        )
 
+def bash_words_with(*values):
+    """The options with one of these values, as a pattern."""
+    words = [
+        word for option in OPTIONS if option.value in values for word in option.words
+    ]
+    return " | ".join(words)
+
+
+def bash_gone(option):
+    """The case of an option that was given: what is not offered any more."""
+    return f"        {' | '.join(option.words)}) gone='{' '.join(excluded(option))}' ;;"
+
+
+def bash():
     common = " ".join(f"-{short} --{name}" for short, name, _ in COMMON)
-    cases = "\n".join(map(offered, COMMANDS))
-    gone = "\n".join(
-        f"        {' | '.join(option.words)}) gone='{' '.join(excluded(option))}' ;;"
-        for option in OPTIONS
-        if len(excluded(option)) > 1
+    cases = "\n".join(map(bash_offered, COMMANDS))
+    excluding = [option for option in OPTIONS if len(excluded(option)) > 1]
+    gone = "\n".join(map(bash_gone, excluding))
+    return filled(
+        "keywrap.bash.in",
+        common=common,
+        with_file=bash_words_with(*IS_FILE),
+        with_iv=bash_words_with("Iv"),
+        cases=cases,
+        commands=" ".join(NAMES),
+        gone=gone,
     )
-    return f"""# shellcheck shell=bash
-# Completion of keywrap for bash: the commands, the options of each, and file names after those that take one. An option
-# that was given already is not offered again, in neither of its forms, nor one that it excludes, as --padded and --iv
-# do.
-{BY}
 
-_keywrap() {{
-    local word=${{COMP_WORDS[COMP_CWORD]}} before=${{COMP_WORDS[COMP_CWORD - 1]}} command='' options='' at option gone
-    local common='{common}'
-    COMPREPLY=()
-    # Of --kek=FILE bash makes three words.
-    case $word in =) word='' ;; *) [ "$before" = = ] && before=${{COMP_WORDS[COMP_CWORD - 2]}} ;; esac
-    [ "$COMP_CWORD" -gt 1 ] && command=${{COMP_WORDS[1]}}
-    case $before in
-    {when(IS_FILE)})
-        compopt -o filenames 2>/dev/null
-        mapfile -t COMPREPLY < <(compgen -f -- "$word")
-        return
-        ;;
-    {when(["Iv"])}) return ;;
-    esac
-    case $command in
-{cases}
-    '') [ "${{word:0:1}}" = - ] && options=$common || options='{" ".join(NAMES)}' ;;
-    help) [ "$COMP_CWORD" != 2 ] || options='{" ".join(NAMES)}' ;;
-    esac
-    for ((at = 2; at < COMP_CWORD; at++)); do
-        gone=${{COMP_WORDS[at]}}
-        case $gone in
-{gone}
-        esac
-        for option in $gone; do
-            options=" $options "
-            options=${{options/ $option / }}
-        done
-    done
-    mapfile -t COMPREPLY < <(compgen -W "$options" -- "$word")
-}}
 
-complete -F _keywrap keywrap
-"""
+ZSH_VALUES = {
+    "": "",
+    "Kek": ":KEK file:_files",
+    "File": ":{} file:_files",
+    "Iv": ":16 hex digits: ",
+}
+
+
+def zsh_variable(option):
+    return option.name.replace("-", "_")
+
+
+def zsh_spec(option):
+    """What _arguments is told of an option."""
+    if option.is_key:
+        return f"'1:{option.about}: '"
+    value = ZSH_VALUES[option.value].format(option.name)
+    about = f"[{option.about}]{value}"
+    if option.short:
+        words = " ".join(option.words)
+        return f"'({words})'{{-{option.short}+,--{option.name}=}}'{about}'"
+    others = excluded_by_others(option)
+    excludes = f"({' '.join(others)})" if others else ""
+    return f"'{excludes}--{option.name}{about}'"
+
+
+def zsh_case(command):
+    variables = [f"${zsh_variable(option)}" for option in of(command)]
+    first = f"    {command}) _arguments $common"
+    return " \\\n".join(lines(variables, first, "        ")) + " ;;"
 
 
 def zsh():
-    def spec(option):
-        after = {
-            "": "",
-            "Kek": ":KEK file:_files",
-            "File": f":{option.name} file:_files",
-            "Iv": ":16 hex digits: ",
-            "Key": "",
-        }[option.value]
-        if option.value == "Key":
-            return f"'1:{option.about}: '"
-        if option.short:
-            return f"'({' '.join(option.words)})'{{-{option.short}+,--{option.name}=}}'[{option.about}]{after}'"
-        beside = " ".join(excluded(option)[1:])
-        return (
-            f"'{f'({beside})' if beside else ''}--{option.name}[{option.about}]{after}'"
-        )
-
-    described = "\n".join(
-        f"        '{name}:{about}'"
-        for name, about in [*COMMANDS.items(), ("help", HELP)]
-    )
+    commands = [*COMMANDS.items(), ("help", HELP)]
+    described = "\n".join(f"        '{name}:{about}'" for name, about in commands)
     common = " ".join(
         f"'(- *)'{{-{short},--{name}}}'[{about}]'" for short, name, about in COMMON
     )
     specs = "\n".join(
-        f"    local -a {option.name.replace('-', '_')}=({spec(option)})"
+        f"    local -a {zsh_variable(option)}=({zsh_spec(option)})"
         for option in ARGUMENTS
     )
-    cases = "\n".join(
-        " \\\n".join(
-            lines(
-                [f"${option.name.replace('-', '_')}" for option in of(command)],
-                f"    {command}) _arguments $common",
-                "        ",
-            )
-        )
-        + " ;;"
-        for command in COMMANDS
+    cases = "\n".join(map(zsh_case, COMMANDS))
+    return filled(
+        "_keywrap.in", described=described, common=common, specs=specs, cases=cases
     )
-    return f"""#compdef keywrap
-# Completion of keywrap for zsh: the commands, the options of each, and file names after those that take one.
-{BY}
 
-_keywrap_commands() {{
-    local -a commands=(
-{described}
-    )
-    _describe -t commands command commands
-}}
 
-_keywrap() {{
-    local curcontext=$curcontext state line
-    local -a common=({common})
-{specs}
-
-    _arguments -C $common '1: :_keywrap_commands' '*:: :->words'
-    [[ $state = words ]] || return
-    case $words[1] in
-{cases}
-    help) _arguments '1: :_keywrap_commands' ;;
-    esac
-}}
-
-_keywrap "$@"
-"""
+def fish_entry(option):
+    condition = f"__keywrap_is {' '.join(option.commands)}"
+    others = excluded_by_others(option)
+    if others:
+        condition += f"; and __keywrap_lacks {' '.join(others)}"
+    words = f"-l {option.name}"
+    if option.short:
+        words = f"-s {option.short} {words}"
+    if option.value in IS_FILE:
+        words += " -rF"
+    elif option.value:
+        words += " -x"
+    return f"complete -c keywrap -n '{condition}' {words} \\\n    -d '{option.about}'"
 
 
 def fish():
-    def entry(option):
-        condition = f"__keywrap_is {' '.join(option.commands)}"
-        beside = " ".join(excluded(option)[len(option.words) :])
-        condition += f"; and __keywrap_lacks {beside}" if beside else ""
-        takes = " -rF" if option.value in IS_FILE else " -x" if option.value else ""
-        short = f" -s {option.short}" if option.short else ""
-        return f"complete -c keywrap -n '{condition}'{short} -l {option.name}{takes} \\\n    -d '{option.about}'"
-
+    commands = [*COMMANDS.items(), ("help", HELP)]
     described = "\n".join(
         f"complete -c keywrap -n __fish_use_subcommand -a {name} \\\n    -d '{about}'"
-        for name, about in [*COMMANDS.items(), ("help", HELP)]
+        for name, about in commands
     )
     common = "\n".join(
         f"complete -c keywrap -s {short} -l {name} -d '{about}' -n 'not __keywrap_is help'"
         for short, name, about in COMMON
     )
-    return f"""# Completion of keywrap for fish: the commands, their options, and file names after those that take one.
-{BY}
-
-function __keywrap_is
-    set -l words (commandline -opc)
-    test (count $words) -gt 1; and contains -- $words[2] $argv
-end
-
-function __keywrap_lacks
-    for option in $argv
-        contains -- $option (commandline -opc); and return 1
-    end
-    return 0
-end
-
-complete -c keywrap -f
-{common}
-
-{described}
-complete -c keywrap -n '__keywrap_is help; and test (count (commandline -opc)) = 2' \\
-    -a '{" ".join(NAMES)}'
-
-{chr(10).join(entry(option) for option in OPTIONS)}
-"""
+    entries = "\n".join(map(fish_entry, OPTIONS))
+    return filled(
+        "keywrap.fish.in",
+        common=common,
+        described=described,
+        commands=" ".join(NAMES),
+        entries=entries,
+    )
 
 
 if __name__ == "__main__":
