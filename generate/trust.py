@@ -42,36 +42,26 @@ USE = re.compile(
 
 def imports(text):
     """The modules that a file uses, each with the words that it takes from it."""
-    return [
-        (
-            path,
-            [
-                word.strip()
-                for word in (words or alias or path.rsplit(".", 1)[-1]).split(",")
-            ],
-        )
-        for path, words, alias in USE.findall(text)
-    ]
+    found = []
+    for path, words, alias in USE.findall(text):
+        taken = words or alias or path.rsplit(".", 1)[-1]
+        found.append((path, [word.strip() for word in taken.split(",")]))
+    return found
+
+
+def function_text(text, name):
+    """The source of a public function."""
+    pattern = rf"^pub .*\bfn {name}\b.*?^}}"
+    return re.search(pattern, text, re.MULTILINE | re.DOTALL).group()
 
 
 def clauses(text, functions):
     """The contracts of these functions of a source file, or of all: the lines from `ensures` and `requires` to the
     body."""
     if functions:
-        text = "\n".join(
-            re.search(
-                rf"^pub .*\bfn {name}\b.*?^}}", text, re.MULTILINE | re.DOTALL
-            ).group()
-            for name in functions
-        )
-    return "\n".join(
-        match.group()
-        for match in re.finditer(
-            r"^\s*(?:ensures|requires)\b.*?(?=^\s*\{\s*$)",
-            text,
-            re.MULTILINE | re.DOTALL,
-        )
-    )
+        text = "\n".join(function_text(text, name) for name in functions)
+    contract = r"^\s*(?:ensures|requires)\b.*?(?=^\s*\{\s*$)"
+    return "\n".join(re.findall(contract, text, re.MULTILINE | re.DOTALL))
 
 
 def spec_file(path):
@@ -85,25 +75,30 @@ def spec_file(path):
 
 def is_used(words, text):
     """Whether a text has one of these words; an operator counts as used."""
-    return any(
-        "◌" in word
-        or re.search(r"(?<!\w)" + re.escape(word.split(" ")[0]) + r"(?!\w)", text)
-        for word in words
-    )
+    return any(is_word_used(word, text) for word in words)
+
+
+def is_word_used(word, text):
+    if "◌" in word:
+        return True
+    name = re.escape(word.split(" ")[0])
+    return re.search(rf"(?<!\w){name}(?!\w)", text) is not None
+
+
+def used_by_contracts(source, functions):
+    """What the contracts of a source file take from other modules."""
+    text = source.read_text(encoding="utf-8")
+    contract = clauses(text, functions)
+    return [(path, words) for path, words in imports(text) if is_used(words, contract)]
 
 
 def closure(roots):
     """The files of definitions that the contracts of these source files rest on, and the words of std and the kit."""
-    waiting, files, outside = [], set(), set()
+    waiting = []
     for pattern, functions in roots.items():
         for source in sorted(CRATES.glob(pattern)):
-            text = source.read_text(encoding="utf-8")
-            contract = clauses(text, functions)
-            waiting += [
-                (path, words)
-                for path, words in imports(text)
-                if is_used(words, contract)
-            ]
+            waiting += used_by_contracts(source, functions)
+    files, outside = set(), set()
     while waiting:
         path, words = waiting.pop()
         file = spec_file(path)
@@ -119,92 +114,105 @@ def closure(roots):
 def lines(file):
     """The lines of a file that state something: not blank, not a comment, not a `use`."""
     text = file.read_text(encoding="utf-8").splitlines()
-    return sum(
-        1
-        for line in text
-        if line.strip()
-        and not line.strip().startswith("--")
-        and not line.startswith("use ")
+    return sum(1 for line in text if states_something(line))
+
+
+def states_something(line):
+    is_comment = line.strip().startswith("--")
+    return line.strip() != "" and not is_comment and not line.startswith("use ")
+
+
+def summary(name, files, outside):
+    """The row of a headline."""
+    modules = {path for path, _ in outside}
+    return (
+        f"| {name} | {len(files)} | {sum(map(lines, files))} | "
+        f"{len(outside)} words of {len(modules)} modules |"
     )
 
 
+def by_crate(files):
+    """The files of each crate, in the order of their names."""
+    found = {}
+    for file in sorted(files):
+        crate, *_ = file.relative_to(CRATES).parts
+        found.setdefault(crate, []).append(file)
+    return sorted(found.items())
+
+
+def crate_item(crate, files):
+    """The item of a crate: its files with their lines. No line ends between a file and its number."""
+    counts = ", ".join(f"`{file.stem}`\u00a0{lines(file)}" for file in files)
+    item = textwrap.fill(
+        f"- `{crate}/specs`: {counts}",
+        118,
+        subsequent_indent="  ",
+        break_long_words=False,
+    )
+    return item.replace("\u00a0", " ")
+
+
+def files_of_headline(title, files):
+    items = [crate_item(crate, files) for crate, files in by_crate(files)]
+    return [f"{title[0].upper()}{title[1:]}:\n", *items, ""]
+
+
 def tables():
-    """The tables of the page."""
+    """The tables of the page. The lists of later headlines have only what the first one does not have."""
+    closures = [(name, *closure(roots)) for name, roots in HEADLINES]
     result = [
         "| Headline | Files | Lines | of std and the kit's crates |",
         "|---|---|---|---|",
     ]
-    closures = [(name, *closure(roots)) for name, roots in HEADLINES]
-    for name, files, outside in closures:
-        modules = sorted({path for path, _ in outside})
-        result.append(
-            f"| {name} | {len(files)} | {sum(map(lines, files))} | "
-            f"{len(outside)} words of {len(modules)} modules |"
-        )
+    result += [summary(*headline) for headline in closures]
     result.append("")
-    first = closures[0][1]
-    for name, files, _ in closures:
-        by_crate = {}
-        for file in files if files is first else files - first:
-            by_crate.setdefault(file.relative_to(CRATES).parts[0], []).append(file)
-        beside = (
-            "" if files is first else f", beside {len(files & first)} of the first list"
-        )
-        result.append(f"{name[0].upper() + name[1:]}{beside}:\n")
-        for crate in sorted(by_crate):
-            counts = ", ".join(
-                f"`{file.stem}`\u00a0{lines(file)}" for file in sorted(by_crate[crate])
-            )
-            item = textwrap.fill(
-                f"- `{crate}/specs`: {counts}",
-                118,
-                subsequent_indent="  ",
-                break_long_words=False,
-            )
-            result.append(item.replace("\u00a0", " "))
-        result.append("")
+    (name, first, _), *others = closures
+    result += files_of_headline(name, first)
+    for name, files, _ in others:
+        title = f"{name}, beside {len(files & first)} of the first list"
+        result += files_of_headline(title, files - first)
     return "\n".join(result)
 
 
 def hashes(sums):
     """The lines of a SHA256SUMS, in order of their names."""
-    found = sorted(
-        Path(sums).read_text(encoding="utf-8").splitlines(),
-        key=lambda line: line.split()[1],
-    )
+    found = Path(sums).read_text(encoding="utf-8").splitlines()
+    found.sort(key=lambda line: line.split()[1])
     return "\n".join(f"    {line}" for line in found)
 
 
+CODE = (".c", ".h", ".java", ".js", ".ts", ".go", ".py", ".rs")
+
+
+def is_by_hand(path):
+    """Whether a file is code of a program, not a test. program.* is generated."""
+    is_test = path.stem.endswith("_test")
+    return path.suffix in CODE and path.stem != "program" and not is_test
+
+
 def written_lines(place):
-    """The hundreds of lines of the programs below a directory or with these names. program.* is generated."""
+    """The hundreds of lines of the programs below a directory or with these names."""
     files = TOP.glob(place) if "*" in place else (TOP / place).rglob("*")
-    return round(
-        sum(
-            len(path.read_text(encoding="utf-8").splitlines())
-            for path in files
-            if path.suffix in (".c", ".h", ".java", ".js", ".ts", ".go", ".py", ".rs")
-            and path.stem != "program"
-            and not path.stem.endswith("_test")
-        ),
-        -2,
-    )
+    texts = (path.read_text(encoding="utf-8") for path in files if is_by_hand(path))
+    return round(sum(len(text.splitlines()) for text in texts), -2)
 
 
 def axioms(log):
     """A line for each crate: the axioms that its proof reached, of how many, and rt's own line."""
-    text, rows = Path(log).read_text(encoding="utf-8"), {}
-    for crate, reached, verdict in re.findall(
-        r"^crate (\w+):.*\n((?:axioms .*\n)+)(logic=proved .*)$", text, re.M
-    ):
+    text = Path(log).read_text(encoding="utf-8")
+    checked = r"^crate (\w+):.*\n((?:axioms .*\n)+)(logic=proved .*)$"
+    rows = {}
+    for crate, reached, verdict in re.findall(checked, text, re.M):
         declared = sum(map(int, re.findall(r"of the (\d+) declared", reached)))
         count = re.search(r" axioms=(\d+)", verdict)
+        number = count[1] if count else "none"
         rows[crate] = textwrap.fill(
-            f"- `{crate}`: {count[1] if count else 'none'} of {declared} axioms reached. `{verdict}`",
+            f"- `{crate}`: {number} of {declared} axioms reached. `{verdict}`",
             120,
             subsequent_indent="  ",
             break_on_hyphens=False,
         )
-    return "\n".join(text for _, text in sorted(rows.items()))
+    return "\n".join(rows[crate] for crate in sorted(rows))
 
 
 def are_listed(lines, listed):
@@ -213,48 +221,63 @@ def are_listed(lines, listed):
     return bool(compared) and compared <= set(listed.splitlines())
 
 
-def main(arguments):
-    page = PAGE.read_text(encoding="utf-8")
-    if arguments[:1] in (["--hashes"], ["--check-hashes"]):
-        if (TOP / "VERSION").read_text(encoding="utf-8").strip().endswith("-dev"):
-            return 0
-        part, text = " --hashes", hashes(arguments[1])
-    elif arguments[:1] == ["--axioms"]:
-        part, text = " --axioms", axioms(arguments[1])
-    else:
-        part, text = "", tables().strip()
-    begin, end = (
-        f"<!-- generate/trust.py{part}: {edge} -->" for edge in ("begin", "end")
-    )
+def with_part(page, edges, text):
+    """The page with this text between its two comments, and the text that is there."""
+    begin, end = edges
     head, rest = page.split(begin)
-    if arguments[:1] == ["--check-hashes"] and are_listed(text, rest.split(end)[0]):
+    old, tail = rest.split(end)
+    return f"{head}{begin}\n{text}\n{end}{tail}", old
+
+
+def with_counted_lines(page):
+    """The page with the lines of C around the module, as dist/README counts them, and the lines of other programs."""
+    readme = (TOP / "dist/README").read_text(encoding="utf-8")
+    (by_hand,) = re.findall(r"the (\d+) lines\sof\skeywrap.c", readme)
+    around = r"[\d,]+(?= lines of C around the module)"
+    page = re.sub(around, f"{int(by_hand):,}", page)
+    about = r"(?<=about )[\d,]+(?=\slines\sof\s`([a-z/.*]+)`)"
+    return re.sub(about, lambda place: f"{written_lines(place[1]):,}", page)
+
+
+def with_tools(page):
+    """The page with the versions of the tools that made keywrap.c."""
+    head = (TOP / "dist/keywrap.c").read_text(encoding="utf-8")[:2000]
+    ((binaryen, wabt),) = re.findall(r"(binaryen \d+), (wabt [\d.]*\d)", head)
+    return re.sub(r"binaryen \d+ and wabt [\d.]*\d", f"{binaryen} and {wabt}", page)
+
+
+def is_development():
+    version = (TOP / "VERSION").read_text(encoding="utf-8").strip()
+    return version.endswith("-dev")
+
+
+def main(arguments):
+    option, *operands = arguments or [""]
+    is_of_hashes = option in ("--hashes", "--check-hashes")
+    if is_of_hashes and is_development():
         return 0
-    (by_hand,) = re.findall(
-        r"the (\d+) lines\sof\skeywrap.c",
-        (TOP / "dist/README").read_text(encoding="utf-8"),
-    )
-    wanted = re.sub(
-        r"[\d,]+(?= lines of C around the module)",
-        f"{int(by_hand):,}",
-        f"{head}{begin}\n{text}\n{end}{rest.split(end)[1]}",
-    )
-    wanted = re.sub(
-        r"(?<=about )[\d,]+(?=\slines\sof\s`([a-z/.*]+)`)",
-        lambda found: f"{written_lines(found[1]):,}",
-        wanted,
-    )
-    (tools,) = re.findall(
-        r"(binaryen \d+), (wabt [\d.]*\d)",
-        (TOP / "dist/keywrap.c").read_text(encoding="utf-8")[:2000],
-    )
-    wanted = re.sub(r"binaryen \d+ and wabt [\d.]*\d", " and ".join(tools), wanted)
-    if not arguments or arguments[0] in ("--hashes", "--axioms"):
+    part, text = "", ""
+    if is_of_hashes:
+        part, text = " --hashes", hashes(operands[0])
+    elif option == "--axioms":
+        part, text = " --axioms", axioms(operands[0])
+    else:
+        text = tables().strip()
+    edges = [f"<!-- generate/trust.py{part}: {edge} -->" for edge in ("begin", "end")]
+
+    page = PAGE.read_text(encoding="utf-8")
+    wanted, old = with_part(page, edges, text)
+    if option == "--check-hashes" and are_listed(text, old):
+        return 0
+    wanted = with_tools(with_counted_lines(wanted))
+    if not option.startswith("--check"):
         PAGE.write_text(wanted, encoding="utf-8")
-    elif page != wanted:
-        words = " ".join(arguments).replace("check-", "").replace("--check", "").strip()
-        print(f"docs/TRUST.md: stale, run generate/trust.py {words}".strip())
-        return 1
-    return 0
+        return 0
+    if page == wanted:
+        return 0
+    command = " ".join(["generate/trust.py", f"{part} {' '.join(operands)}".strip()])
+    print(f"docs/TRUST.md: stale, run {command}".strip())
+    return 1
 
 
 if __name__ == "__main__":
