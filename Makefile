@@ -109,6 +109,7 @@ bench: build library library-hardware provider wheel wheel-rotate
 pictures:
 	generate/plots.py
 	generate/facts.py
+	generate/testing.py
 	generate/trust.py
 
 clean:

@@ -1,5 +1,5 @@
-"""Asks a face of the library for the rows of rows.txt, rows that are not kept (`more`), and published cases, and compares
-its answers.
+"""Asks a face of the library for the rows of rows.txt, rows that are not kept (`more`), and published cases, and
+compares its answers.
 
 A runner for each language reads lines
 

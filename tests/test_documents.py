@@ -203,9 +203,9 @@ class TestRepeatedFacts:
                 r'(?im)^ *"?licen[cs]e|License ::', text_of(name)
             ), name
 
-    @pytest.mark.parametrize("script", ["facts.py", "plots.py", "trust.py"])
+    @pytest.mark.parametrize("script", ["facts.py", "plots.py", "testing.py", "trust.py"])
     def test_what_scripts_make(self, script):
-        """The map of the crates, the plots, and the definitions that a reader has to read."""
+        """The map of the crates, the plots, the numbers of tests, and the definitions that a reader has to read."""
         ended = subprocess.run(
             [ROOT / "generate" / script, "--check"], capture_output=True, text=True
         )

@@ -1,5 +1,5 @@
-"""The rows of rows.txt say what keywrap.h and OpenSSL's key wrap say; so do published cases, by which rules.py is tested.
-test_library.py, test_hardware.py, test_portable.py, test_python.py, test_js.py, test_go.py, test_rust.py and
+"""The rows of rows.txt say what keywrap.h and OpenSSL's key wrap say; so do published cases, by which rules.py is
+tested. test_library.py, test_hardware.py, test_portable.py, test_python.py, test_js.py, test_go.py, test_rust.py and
 test_java.py run them over each face (see faces.py)."""
 
 import pytest

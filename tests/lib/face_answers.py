@@ -141,7 +141,7 @@ def many_in_buffers(row):
 
 
 def in_place(row):
-    """The same in one buffer. A wrap has its key behind eight bytes that may hold anything, an unwrap leaves it there."""
+    """The same in one buffer. Before the key of a wrap are eight bytes that may hold anything."""
     given, out = row.arguments["given"], row.due.get("out")
     is_wrap = row.call.startswith("w")
     buffer = given

@@ -1,7 +1,7 @@
 """What keywrap.h and OpenSSL's key wrap say of a call: its status, and what it writes.
 
-The arguments of a call are a dictionary: kek, new, iv and given are bytes, flags, room and key_len are numbers, and what
-is not given is not there. What is due is a dictionary, too: status, out, len, form and already."""
+The arguments of a call are a dictionary: kek, new, iv and given are bytes, flags, room and key_len are numbers, and
+what is not given is not there. What is due is a dictionary, too: status, out, len, form and already."""
 
 import ctypes.util
 import enum
