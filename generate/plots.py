@@ -10,6 +10,7 @@ import sys
 import textwrap
 from html import escape
 from pathlib import Path
+from typing import NamedTuple
 
 PICTURES = Path(__file__).resolve().parent.parent / "docs/pictures"
 STYLE = """\
@@ -61,7 +62,9 @@ class Drawing:
     """The elements of one picture, in the order in which they are painted."""
 
     def __init__(self, height, title, *heading):
-        self.height, self.title, self.elements = height, title, []
+        self.height = height
+        self.title = title
+        self.elements = []
         for number, words in enumerate(heading):
             self.text(8, 20 + 18 * number, words)
 
@@ -81,51 +84,38 @@ class Drawing:
         self.elements.append(f'<polyline class="{kind}" points="{path}"{dashes}/>')
 
     def note(self, about):
-        """Below a plot: on what it was measured, beside which versions, and when."""
-        for up, words in enumerate(
-            [
-                f"{about['date']}, commit {about['commit']}",
-                about["beside"],
-                about["processor"],
-            ]
-        ):
-            self.text(8, self.height - 10 - 16 * up, words)
+        """Below a plot: on what it was measured, next to which versions, and when."""
+        run = f"{about['date']}, commit {about['commit']}"
+        for number, words in enumerate([run, about["beside"], about["processor"]]):
+            self.text(8, self.height - 10 - 16 * number, words)
 
     def svg(self):
-        head = (
+        lines = [
             f'<svg xmlns="http://www.w3.org/2000/svg" width="480" height="{self.height}" '
-            f'viewBox="0 0 480 {self.height}" role="img">'
-        )
-        return "\n".join(
-            [
-                head,
-                f"<title>{escape(self.title)}</title>",
-                f"<style>\n{STYLE}\n</style>",
-                *self.elements,
-                "</svg>",
-                "",
-            ]
-        )
+            f'viewBox="0 0 480 {self.height}" role="img">',
+            f"<title>{escape(self.title)}</title>",
+            f"<style>\n{STYLE}\n</style>",
+            *self.elements,
+            "</svg>",
+        ]
+        return "\n".join(lines) + "\n"
 
 
 def read(name):
     """The comments (the processor, the date and the commit of the run, the others' versions) and the rows of a CSV."""
     lines = (PICTURES / f"{name}.csv").read_text(encoding="utf-8").splitlines()
     about = dict(line[2:].split(": ", 1) for line in lines if line.startswith("# "))
-    return about, list(
-        csv.DictReader(line for line in lines if not line.startswith("#"))
-    )
+    rows = csv.DictReader(line for line in lines if not line.startswith("#"))
+    return about, list(rows)
 
 
 def size(length):
     """A length of key, short."""
-    return (
-        f"{length >> 20} MiB"
-        if length >= 1 << 20
-        else f"{length >> 10} KiB"
-        if length >= 1 << 10
-        else f"{length}"
-    )
+    if length >= 1 << 20:
+        return f"{length >> 20} MiB"
+    if length >= 1 << 10:
+        return f"{length >> 10} KiB"
+    return str(length)
 
 
 def apart(places, gap):
@@ -140,52 +130,80 @@ def apart(places, gap):
     return moved
 
 
-def curves(drawing, top, rows, call):
-    """One call: nanoseconds for each block call over the key's length, on the logarithmic axes of all rows."""
+class Axes(NamedTuple):
+    """The logarithmic axes of a plot: lengths of keys to the right, nanoseconds upwards."""
+
+    top: int
+    shortest: int
+    longest: int
+    low: float
+    high: float
+
+    def x(self, length):
+        part = math.log(length / self.shortest) / math.log(self.longest / self.shortest)
+        return round(LEFT + PLOT * part, 1)
+
+    def y(self, time):
+        part = (self.high - math.log10(time)) / (self.high - self.low)
+        return round(self.top + HEIGHT * part, 1)
+
+    def point(self, row):
+        return self.x(int(row["key"])), self.y(float(row["ns_per_block"]))
+
+
+def axes_of(rows, top):
+    """Axes on which all these rows have room."""
     times = [float(row["ns_per_block"]) for row in rows]
-    lengths = sorted({int(row["key"]) for row in rows})
-    low, high = math.log10(min(times)) - 0.1, math.log10(max(times)) + 0.1
+    lengths = [int(row["key"]) for row in rows]
+    low = math.log10(min(times)) - 0.1
+    high = math.log10(max(times)) + 0.1
+    return Axes(top, min(lengths), max(lengths), low, high)
 
-    def x(length):
-        return round(
-            LEFT
-            + PLOT * math.log(length / lengths[0]) / math.log(lengths[-1] / lengths[0]),
-            1,
-        )
 
-    def y(time):
-        return round(top + HEIGHT * (high - math.log10(time)) / (high - low), 1)
-
-    drawing.text(8, top - 10, call, "strong")
+def grid(drawing, axes, lengths):
     for tick in (5, 10, 20, 50, 100, 200, 500, 1000, 2000):
-        if low < math.log10(tick) < high:
-            drawing.line("grid", (LEFT, y(tick)), (LEFT + PLOT, y(tick)))
-            drawing.text(LEFT - 6, y(tick) + 4, str(tick), "end")
+        if axes.low < math.log10(tick) < axes.high:
+            y = axes.y(tick)
+            drawing.line("grid", (LEFT, y), (LEFT + PLOT, y))
+            drawing.text(LEFT - 6, y + 4, str(tick), "end")
     for length in lengths:
+        # Its text would touch that of 16.
         if length != 32:
-            drawing.text(x(length), top + HEIGHT + 16, size(length), "middle")
-    found = {}
+            drawing.text(axes.x(length), axes.top + HEIGHT + 16, size(length), "middle")
+
+
+def label_of(row):
+    """The name of a library, and whether it is its build with AES instructions, where it has both."""
+    name = NAMES[row["library"]]
+    if row["blocks"] == "AES inst." and row["library"] != "hardware":
+        return f"{name}, AES inst."
+    return name
+
+
+def curve(drawing, row, points, label_y):
+    """The curve of one library, and its label, with a line from its end."""
+    name, label = NAMES[row["library"]], label_of(row)
+    is_ours = name.startswith("keywrap")
+    dash = DASHES.get(label, DASHES.get(name))
+    drawing.line("ours" if is_ours else "curve", *points, dash=dash)
+    x, y = points[-1]
+    drawing.line("leader", (x, y), (x + 12, round(label_y, 1)))
+    drawing.text(x + 15, round(label_y + 4, 1), label, "strong" if is_ours else "")
+
+
+def curves(drawing, top, rows, call):
+    """One call: nanoseconds for each block call over the key's length, on the axes of all rows."""
+    axes = axes_of(rows, top)
+    drawing.text(8, top - 10, call, "strong")
+    grid(drawing, axes, sorted({int(row["key"]) for row in rows}))
+    of_library = {}
     for row in rows:
         if row["call"] == call:
-            name = NAMES[row["library"]]
-            label = name + ", AES inst." * (
-                row["blocks"] == "AES inst." and row["library"] != "hardware"
-            )
-            found.setdefault((name, label), []).append(
-                (x(int(row["key"])), y(float(row["ns_per_block"])))
-            )
-    for ((name, label), points), end in zip(
-        found.items(), apart([points[-1][1] for points in found.values()], 16)
-    ):
-        kind = "ours" if name.startswith("keywrap") else "curve"
-        drawing.line(kind, *points, dash=DASHES.get(label, DASHES.get(name)))
-        drawing.line("leader", points[-1], (points[-1][0] + 12, round(end, 1)))
-        drawing.text(
-            points[-1][0] + 15,
-            round(end + 4, 1),
-            label,
-            "strong" if kind == "ours" else "",
-        )
+            of_library.setdefault(label_of(row), []).append(row)
+    points = [[axes.point(row) for row in found] for found in of_library.values()]
+    ends = apart([of_one[-1][1] for of_one in points], 16)
+    for (first, *_), of_one, end in zip(of_library.values(), points, ends):
+        curve(drawing, first, of_one, end)
 
 
 def wrap(about, rows):
@@ -204,22 +222,28 @@ def wrap(about, rows):
 
 def bars(about, title, below, rows):
     """A bar for each row of a group, a label and a value, all on one scale. keywrap's bars are blue."""
-    most, names = max(value for _, _, value in rows), {name for name, _, _ in rows}
-    drawing = Drawing(108 + 28 * len(names) + 26 * len(rows), title, title, below)
-    y, group = 46, None
+    most = max(value for _, _, value in rows)
+    groups = {name for name, _, _ in rows}
+    drawing = Drawing(108 + 28 * len(groups) + 26 * len(rows), title, title, below)
+    y = 46
+    group = None
     for name, label, value in rows:
         if name != group:
             drawing.text(8, y + 20, name, "strong")
-            y, group = y + 28, name
-        width, is_ours = max(1, round(188 * value / most, 1)), label.startswith(
-            "keywrap"
-        )
-        drawing.text(172, y + 15, label, "end")
-        drawing.box(180, y, width, 20, "ours_bar" if is_ours else "bar")
-        drawing.text(186 + width, y + 15, f"{value:,.0f}", "strong" if is_ours else "")
+            group = name
+            y += 28
+        bar(drawing, y, label, value, most)
         y += 26
     drawing.note(about)
     return drawing
+
+
+def bar(drawing, y, label, value, most):
+    is_ours = label.startswith("keywrap")
+    width = max(1, round(188 * value / most, 1))
+    drawing.text(172, y + 15, label, "end")
+    drawing.box(180, y, width, 20, "ours_bar" if is_ours else "bar")
+    drawing.text(186 + width, y + 15, f"{value:,.0f}", "strong" if is_ours else "")
 
 
 def many(about, rows):
@@ -253,70 +277,68 @@ def lines(about, rows):
 
 
 def provider(about, rows):
+    shown = []
+    for row in rows:
+        if row["cipher"] != "AES-256-WRAP":
+            continue
+        group = f"{row['call']}, key of {row['key']} bytes"
+        block_calls = 6 * int(row["key"]) / 8
+        for name, column in (
+            ("OpenSSL's provider", "default_ns"),
+            ("keywrap", "keywrap_ns"),
+        ):
+            shown.append((group, name, int(row[column]) / block_calls))
     return bars(
         about,
         "Nanoseconds for each block call by OpenSSL's EVP: less is better.",
         "AES-256-WRAP. Six block calls for each 8 bytes of key.",
-        [
-            (
-                f"{row['call']}, key of {row['key']} bytes",
-                name,
-                int(row[column]) / (6 * int(row["key"]) / 8),
-            )
-            for row in rows
-            if row["cipher"] == "AES-256-WRAP"
-            for name, column in (
-                ("OpenSSL's provider", "default_ns"),
-                ("keywrap", "keywrap_ns"),
-            )
-        ],
+        shown,
     )
+
+
+def terminal_lines(line):
+    """A line of the record on as many lines as the terminal has, each with its colour."""
+    mark, _, words = line.partition(" ")
+    if mark == "$":
+        first, *rest = textwrap.wrap(words, 57, break_on_hyphens=False)
+        parts = [f"$ {first}", *(f"    {part}" for part in rest)]
+        return [("shown", part) for part in parts]
+    colour = "faint" if mark == "during:" else "shown"
+    return [(colour, part) for part in textwrap.wrap(words, 61)]
 
 
 def rotation():
-    shown = []
-    key, *lines_shown = (
-        (PICTURES / "rotation.txt").read_text(encoding="utf-8").splitlines()
+    record = (PICTURES / "rotation.txt").read_text(encoding="utf-8").splitlines()
+    length = record[0].partition(" ")[2]
+    shown = [part for line in record[1:] for part in terminal_lines(line)]
+    title = (
+        f"A terminal during and after a rotation of a million keys of {length} bytes"
     )
-    for line in lines_shown:
-        mark, _, words = line.partition(" ")
-        if mark == "$":
-            first, *rest = textwrap.wrap(words, 57, break_on_hyphens=False)
-            shown += [
-                ("shown", f"$ {first}"),
-                *(("shown", f"    {part}") for part in rest),
-            ]
-        else:
-            shown += [
-                ("faint" if mark == "during:" else "shown", part)
-                for part in textwrap.wrap(words, 61)
-            ]
-    drawing = Drawing(
-        28 + 20 * len(shown),
-        f"A terminal during and after a rotation of a million keys of {key.partition(' ')[2]} bytes",
-    )
+    drawing = Drawing(28 + 20 * len(shown), title)
     drawing.box(1, 1, 478, 26 + 20 * len(shown), "screen")
-    for number, (kind, words) in enumerate(shown):
-        drawing.text(14, 28 + 20 * number, words, kind)
+    for number, (colour, words) in enumerate(shown):
+        drawing.text(14, 28 + 20 * number, words, colour)
     return drawing
 
 
+def pictures():
+    """The name and the text of each picture."""
+    for draw in wrap, many, lines, provider:
+        about, rows = read(draw.__name__)
+        yield draw.__name__, draw(about, rows).svg()
+    yield "rotation", rotation().svg()
+
+
 def main(arguments):
-    stale = False
-    for draw in wrap, many, lines, provider, rotation:
-        (
-            path,
-            data,
-        ) = PICTURES / f"{draw.__name__}.svg", () if draw == rotation else read(
-            draw.__name__
-        )
-        text = draw(*data).svg()
+    is_stale = False
+    for name, text in pictures():
+        path = PICTURES / f"{name}.svg"
         if arguments != ["--check"]:
             path.write_text(text, encoding="utf-8")
         elif not path.exists() or path.read_text(encoding="utf-8") != text:
-            stale = True
+            is_stale = True
             print(f"docs/pictures/{path.name}: stale, run make pictures")
-    return stale
+    return is_stale
 
 
 if __name__ == "__main__":
