@@ -21,39 +21,44 @@ def excludes(one, other):
     return other.name in one.conflicts
 
 
+def one_option(option, needing):
+    """An option, and in brackets those that are refused without it."""
+    words = f"Fl -{option.name}{VALUES[option.value]}"
+    if option.short:
+        words = f"Fl {option.short} | {words}"
+    for other in needing:
+        if option.name in other.needs:
+            words += f" Oo {one_option(other, [])} Oc"
+    return words
+
+
 def written(options, needing):
     """Options that exclude each other are alternatives. Others follow each other, each in brackets."""
     if len(options) == 1:
-        (option,) = options
-        words = (
-            f"Fl {option.short} | " * bool(option.short)
-            + f"Fl -{option.name}{VALUES[option.value]}"
-        )
-        return words + "".join(
-            f" Oo {written([other], [])} Oc"
-            for other in needing
-            if option.name in other.needs
-        )
+        return one_option(options[0], needing)
     apart = groups(options, excludes)
     if len(apart) > 1:
         return " ".join(f"Oo {written(group, needing)} Oc" for group in apart)
     ways = groups(options, lambda one, other: not excludes(one, other))
-    return " | ".join(written(way, needing) for way in sorted(ways, key=len))
+    ways.sort(key=len)
+    return " | ".join(written(way, needing) for way in ways)
 
 
 def command_lines(command):
-    yield ".Nm\n.Cm " + command
-    options = [option for option in of(command) if option.value not in ("Kek", "Key")]
-    yield from (
-        f".{written([option], [])}" for option in of(command) if option.value == "Kek"
-    )
-    needing = [option for option in options if option.needs]
-    found = groups([option for option in options if not option.needs], excludes)
-    yield from (
-        f".Op {written(group, needing)}"
-        for group in sorted(found, key=lambda group: group[0].value == "File")
-    )
-    yield from (f".Ar {option.name}" for option in of(command) if option.value == "Key")
+    """The KEKs, the other options with those of files last, and the argument without a name."""
+    yield f".Nm\n.Cm {command}"
+    for option in of(command):
+        if option.value == "Kek":
+            yield f".{one_option(option, [])}"
+    others = [option for option in of(command) if option.value not in ("Kek", "Key")]
+    needing = [option for option in others if option.needs]
+    found = groups([option for option in others if not option.needs], excludes)
+    found.sort(key=lambda group: group[0].value == "File")
+    for group in found:
+        yield f".Op {written(group, needing)}"
+    for option in of(command):
+        if option.is_key:
+            yield f".Ar {option.name}"
 
 
 def synopsis():
