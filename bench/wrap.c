@@ -35,7 +35,7 @@ static struct aes256_ctx decrypting, encrypting;
                  uint8_t *out, size_t out_len)
 typedef CALL(wrap_call);
 
-/* Of other builds of the library, as bench/wrap.sh renames them. */
+/* The calls of other builds of the library, renamed by bench/wrap.sh. */
 wrap_call portable_wrap, portable_unwrap, portable_hw_wrap, portable_hw_unwrap, hw_wrap, hw_unwrap;
 
 static CALL(openssl_wrap) {

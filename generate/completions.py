@@ -13,7 +13,7 @@ TOP = Path(__file__).resolve().parent.parent
 ARGS = TOP / "crates/keywrap_args/src"
 TEMPLATES = TOP / "packaging/templates"
 BY = "# Written by generate/completions.py from the tables of crates/keywrap_args."
-# What clap adds.
+# Added by clap.
 HELP = "Print this message or the help of the given subcommand(s)"
 COMMON = [("h", "help", "Print help"), ("V", "version", "Print version")]
 IS_FILE = "Kek", "File"
@@ -45,7 +45,7 @@ def text_of(name):
 
 
 def commands():
-    """What each command is about, by its name."""
+    """The description of each command, by its name."""
     return dict(
         re.findall(r'name: "(\w+)",\s*about: "(.*)"', text_of("subcommands.rt"))
     )
@@ -105,7 +105,7 @@ def options():
 
 
 def exclude_each_other(found):
-    """What an option excludes, excludes it."""
+    """Makes exclusion mutual."""
     for option in found.values():
         for other in list(option.conflicts):
             if option.name not in found[other].conflicts:
@@ -210,7 +210,7 @@ def zsh_variable(option):
 
 
 def zsh_spec(option):
-    """What _arguments is told of an option."""
+    """The argument of _arguments for an option."""
     if option.is_key:
         return f"'1:{option.about}: '"
     value = ZSH_VALUES[option.value].format(option.name)

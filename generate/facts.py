@@ -84,7 +84,7 @@ def calls(*headers):
 
 
 def export_map():
-    """What libkeywrap.so shows: the nodes of the last release, and later calls in the node of the next one."""
+    """The exports of libkeywrap.so: the nodes of the last release, and later calls in the node of the next one."""
     released = read("tests/library/released/keywrap.map")
     before = re.sub(r"\s+(keywrap_\w+;)", r"\n        \1", released)
     later = [call for call in calls(*HEADERS) if f" {call};" not in before]
@@ -196,8 +196,8 @@ def rust():
 
 
 def lacking():
-    """What has to be written by hand, once: a new status in each language, with what it means there; a new exit status
-    and a new option, with what the manual page says of it."""
+    """Finds what is missing and written by hand: a new status in each language, a new exit status and a new option in
+    the manual page."""
     return [*lacking_statuses(), *lacking_exits(), *lacking_options()]
 
 

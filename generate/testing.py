@@ -40,7 +40,7 @@ def theorems():
 
 
 def numbers():
-    """What is counted, each with its number."""
+    """The rows of the table, each a name and a number."""
     yield "rows of calls, each with its name", len(rows.read())
     yield "these and the rows that follow from them", len([*rows.with_kept_keks()])
     yield "calls with a published answer of Wycheproof or ACVP", len(

@@ -86,7 +86,7 @@ def is_word_used(word, text):
 
 
 def used_by_contracts(source, functions):
-    """What the contracts of a source file take from other modules."""
+    """The imports that the contracts of a source file use."""
     text = source.read_text(encoding="utf-8")
     contract = clauses(text, functions)
     return [(path, words) for path, words in imports(text) if is_used(words, contract)]

@@ -20,7 +20,7 @@ for (const [name, error] of Object.entries(ERRORS)) {
     error.prototype.name = name;
 }
 
-/* What a call takes: the longest legal length in bytes, and the text of all legal ones */
+/* Legal lengths: the longest in bytes, and the text of all of them */
 
 const MAX_KEY = 1048576;
 const MAX_WRAPPED = MAX_KEY + 8;
@@ -78,7 +78,7 @@ function flagOf(name, given) {
     return given;
 }
 
-/* What the statuses say of the inputs of a call. generate/facts.py writes the numbers and the texts. */
+/* Statuses and their messages. generate/facts.py writes the numbers and the texts. */
 
 const BAD_IV = 2;
 const BAD_KEK = 3;

@@ -1,5 +1,5 @@
 #!/usr/bin/env python3
-"""Makes the files that are handed out, of what make built. packaging/Makefile calls it at the top of the repository.
+"""Builds the release artifacts. packaging/Makefile calls it at the top of the repository.
 
 usage: package.py documents DIRECTORY MACHINE README DOCUMENT..   copies documents, and README from its template
        package.py headers DIRECTORY                 copies the headers of dist/ as those of the C library

@@ -91,7 +91,7 @@ static int32_t step_unwrap_each(uint8_t *texts, size_t text_len, size_t count, u
     return step_each(keywrap_step_unwrap, texts, text_len, count, left, blocks);
 }
 
-/* By volatile writes, which no compiler leaves out. */
+/* Writes are volatile, so that no compiler leaves them out. */
 static void wipe(uint8_t *bytes, size_t len) {
     volatile uint8_t *at = bytes;
     while (len-- > 0) *at++ = 0;
@@ -147,8 +147,8 @@ ffi.cdef(
     declarations(header, Path(C, "keywrap_steps.h").read_text(encoding="utf-8"))
     + HELPERS
 )
-# Of the library: without debugging information, which names the directory, and stripped. The package calls the library
-# that is in it, whatever another one in the process shows.
+# The library has no debugging information, which would name the directory, and is stripped. The package calls the
+# library that is linked into it, whichever another one in the process exports.
 NATIVE = {
     "extra_objects": ["libkeywrap_hw.a"],
     "extra_compile_args": ["-std=c99", "-g0"],

@@ -47,6 +47,6 @@ setup(
     cffi_modules=["build_ffi.py:ffi"],
     scripts=["keywrap"],
     cmdclass={"build_scripts": BuildCommand},
-    # What an earlier build left may have other flags.
+    # Objects of an earlier build may have been built with other flags.
     options={"bdist_wheel": {"py_limited_api": "cp39"}, "build_ext": {"force": True}},
 )

@@ -51,7 +51,7 @@ def by_steps(call, name, kek, new_kek, given, **more):
 
 
 def called(kind, call, kek, new, iv, flags, given):
-    """What the call returns or raises. Its arguments are of this type, and stay."""
+    """Returns what the call returns or raises. Its arguments have this type, and the call leaves them unchanged."""
     is_many = call.endswith("_many")
     of_key = fresh if kind is keywrap.Kek else kind
     items = (
@@ -88,7 +88,7 @@ def status_of(found):
 
 
 def answer(call, found):
-    """What was returned of bytes, kinds and refusals, and what the first of these says."""
+    """The returned bytes, kinds and refusals, and the message of the first refusal."""
     words = [("status", status_of(found))]
     refusals = [
         one

@@ -102,7 +102,7 @@ end_unwrap_any end_unwrap_many wrap_with unwrap_with begin_wrap begin_wrap_many 
 
 
 def test_needs_only_python():
-    """What is handed out imports only the standard library and itself."""
+    """The checker imports only the standard library and itself."""
     own = {path.stem for path in CHECKER.glob("*.py")}
     for path in CHECKER.glob("*.py"):
         for name in re.findall(r"^(?:from|import) (\w+)", path.read_text(), re.M):

@@ -70,7 +70,7 @@ def packed(making, tmp_path):
 
 @pytest.fixture(scope="session")
 def dist(making, python):
-    """What `make dist` packs."""
+    """The archive that `make dist` packs."""
     need_sysroot()
     return making("dist")
 

@@ -107,7 +107,7 @@ def in_root(debs, script, **files):
     "root", "overlay of the root directory", "cc", "openssl", "pkg-config", "zsh"
 )
 def test_installed_in_use_and_removed(debs):
-    """What README shows, the provider, the Python package, the C library. zsh finds its completion."""
+    """README's commands, the provider, the Python package and the C library work, and zsh finds its completion."""
     example = re.search(
         r"^    \$ \(umask.*?^$", (ROOT / "README.md").read_text(), re.M | re.S
     )[0]
@@ -132,7 +132,7 @@ zsh -fc 'autoload -U compinit && compinit -D -u && print -r -- $_comps[keywrap]'
     )
     answers = [line for line in lines if line and not line.startswith("$ ")]
     assert len(answers) == 2
-    # By Python and by C.
+    # After README's answers come Python's, that of the example in C, and zsh's.
     assert found == [*answers, WRAPPED16, f"wrap: done: {WRAPPED24}", "_keywrap"]
     assert left == ""
 

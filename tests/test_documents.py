@@ -203,7 +203,9 @@ class TestRepeatedFacts:
                 r'(?im)^ *"?licen[cs]e|License ::', text_of(name)
             ), name
 
-    @pytest.mark.parametrize("script", ["facts.py", "plots.py", "testing.py", "trust.py"])
+    @pytest.mark.parametrize(
+        "script", ["facts.py", "plots.py", "testing.py", "trust.py"]
+    )
     def test_what_scripts_make(self, script):
         """The map of the crates, the plots, the numbers of tests, and the definitions that a reader has to read."""
         ended = subprocess.run(
@@ -212,7 +214,7 @@ class TestRepeatedFacts:
         assert (ended.returncode, ended.stdout) == (0, "")
 
     def test_what_scripts_miss(self, monkeypatch):
-        """The item of an option with a longer name does not count, and no line is no list of hashes."""
+        """`--raw` is not found in `--raw-kek`, and an empty text is not a list of hashes."""
         monkeypatch.syspath_prepend(ROOT / "generate")
         facts, trust = map(importlib.import_module, ("facts", "trust"))
         monkeypatch.setattr(

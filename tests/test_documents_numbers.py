@@ -143,7 +143,7 @@ class TestMeasured:
         assert text.format(*map(times.get, ways)) in words_of("docs/C_LIBRARY.md")
 
     def test_times_in_python(self):
-        """Of a wrap of 32 bytes, in docs/pictures/python.csv."""
+        """The times of a wrap of 32 bytes are those of docs/pictures/python.csv."""
         times = {
             call: float(us) for key, call, us in measured("python")[1:] if key == "32"
         }

@@ -61,7 +61,7 @@ def java(classes, library):
 
 
 def test_no_warning_for_java_11():
-    """Of the provider and of the example."""
+    """Compiles the provider and the example."""
     run(
         "javac",
         *"-Xlint:all -Werror --release 11 -d . -cp".split(),
@@ -126,7 +126,7 @@ def test_self_test(java, tmp_path):
 
 
 def test_other_library(java, thing):
-    """By its path, in the property keywrap.library."""
+    """Loads the library by its path, in the property keywrap.library."""
 
     def called(path):
         env = {**os.environ, "JAVA_TOOL_OPTIONS": f"-Dkeywrap.library={path}"}

@@ -212,7 +212,7 @@ def files_under(directory):
 
 
 def files_of(include, lib):
-    """What an install makes, except documents."""
+    """The installed files, except documents."""
     names = [
         "libkeywrap.a",
         "libkeywrap.so",

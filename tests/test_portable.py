@@ -39,7 +39,7 @@ MACHINES = {
     "s390x": (["s390x-linux-gnu-gcc", "-static"], ["qemu-s390x"]),
 }
 NATIVE = ["gcc", "clang"]
-# Of these the gate runs the native ones and one that is big-endian.
+# The gate runs the native ones and a big-endian one.
 IN_GATE = [*NATIVE, "gcc, tables", "s390x"]
 
 
@@ -274,7 +274,7 @@ def test_stack(portable, portable_program, name, level):
 @pytest.mark.parametrize("only", all_of(["", "-DKEYWRAP_STEPS_ONLY"], [""]))
 @pytest.mark.parametrize("name", all_of(MACHINES, ["gcc"], IN_GATE))
 def test_object(portable, name, only):
-    """What the object needs, that it shows the calls of the headers only, and what of its data can be written."""
+    """The object imports nothing unexpected, exports the calls of the headers only, and has no other writable data."""
     compiler, _ = MACHINES[name]
     need(compiler[0])
     tools = compiler[0].removesuffix("gcc") if compiler[0] not in NATIVE else ""
@@ -299,7 +299,7 @@ def test_object(portable, name, only):
         }
         for flags in (["-u"], ["-g", "--defined-only"])
     )
-    # Those with leading underscores are of the compiler: division on 32-bit Arm, and atomics on aarch64.
+    # Names with leading underscores are the compiler's: division on 32-bit Arm, and atomics on aarch64.
     assert {symbol for symbol in needed if not symbol.startswith("__a")} <= {
         "memcpy",
         "memmove",
@@ -738,7 +738,7 @@ def test_bugs_can_be_planted(tmp_path, suite, base):
     "bug", all_of([*bugs_of("portable")], [], ["numbers-exchanged"])
 )
 def test_bug_is_caught(portable, portable_program, library, tmp_path, bug):
-    """By random calls, with AES instructions or without, by the longest lengths, or by what is left on the stack."""
+    """Caught by random calls with or without AES instructions, by the longest lengths, or on the stack."""
     need("sanitizers of gcc")
     for name in "keywrap.c", "keywrap.h", "keywrap_steps.h":
         shutil.copy(portable / name, tmp_path)

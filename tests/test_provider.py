@@ -233,7 +233,7 @@ def refuses(text, *command, **options):
 
 
 def enc(given, *words, env=None):
-    """What openssl enc makes of the hex digits, in hex."""
+    """The output of openssl enc for these hex digits, in hex."""
     ended = subprocess.run(
         ["openssl", "enc", *words, "-K", KEK32],
         input=raw(given),

@@ -68,7 +68,7 @@ class Cargo:
 
 @pytest.fixture(scope="session")
 def home(once):
-    """What is built is kept here."""
+    """Builds are kept here."""
     need("no network")
     return once("rust", lambda directory: None)
 

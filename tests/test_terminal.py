@@ -206,7 +206,7 @@ class TestProgress:
         "pause, screen", [(124, ""), (126, rewritten(FAR + ", 100 % done, 0 s left"))]
     )
     def test_nothing_in_the_first_half_second(self, terminal, compiled, pause, screen):
-        """By a clock that only goes on in the four reads, of a KEK and its end and of an input and its end."""
+        """Uses a fake clock that advances only in the four reads: of a KEK and its end, and of an input and its end."""
         preload = f"env LD_PRELOAD={compiled('fail_read')} TICK_READ={pause}"
         ended = terminal(f"{preload} {LINES} --input first >out").ended()
         assert ended.status == 0 and re.fullmatch(

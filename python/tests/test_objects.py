@@ -78,7 +78,7 @@ BY_STEPS = [
         (steps.unwrap_padded, steps.wrap_padded(swapped, KEY)),
     )
 ]
-# Of many keys, with an item and with all items in one object.
+# Calls for many keys, with an item and with all items in one object.
 MANY = [
     (
         lambda kek, key: keywrap.wrap_many(kek, [KEY, key]),

@@ -104,7 +104,7 @@ def caught_by(archive, bug):
         if bug:
             plant("hardware", bug, directory)
         for name, (sources, command, wanted) in PROGRAMS.items():
-            # What does not build is a bug of the edit.
+            # An edit that does not build is wrong itself.
             subprocess.run(COMPILE + sources, shell=True, cwd=directory, check=True)
             if has_fault(directory, command, wanted):
                 return name

@@ -1,4 +1,4 @@
-// What the tests take from their host, here Node; page/host.mjs is the same for a page.
+// The host of the tests, here Node. page/host.mjs is the same for a page.
 
 import assert from 'node:assert/strict';
 import { execFileSync } from 'node:child_process';

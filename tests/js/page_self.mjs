@@ -1,4 +1,4 @@
-// That the page's own assertions can fail: page/test.mjs replaces Node's.
+// Shows that the page's own assertions can fail: page/test.mjs replaces Node's.
 
 import assert from 'node:assert/strict';
 import { test } from 'node:test';

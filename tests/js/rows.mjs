@@ -40,7 +40,7 @@ const formOf = (found) => (found && found.form === 'padded' ? 1 : 0);
 
 const bytesOf = (found) => (found instanceof Uint8Array ? found : found && found.key);
 
-// What was returned of bytes, kinds and refusals. A refusal has no bytes.
+// The returned bytes, kinds and refusals. A refusal has no bytes.
 function answer(call, found) {
     const each = [found].flat(), isMany = Array.isArray(found), many = isMany ? 's' : '';
     const refusal = each.find((one) => one instanceof Error);

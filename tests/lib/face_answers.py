@@ -1,4 +1,4 @@
-"""What a runner is asked for a row, and what it has to answer.
+"""The questions to a runner for a row, and the answers that are due.
 
 C and Rust write buffers of the caller: `given` is the buffer with all slots side by side, and `room` is the length of a
 buffer that is written, or - if it is the buffer that is given. Other faces return what they make."""
@@ -59,7 +59,7 @@ def asked_of(face, row):
 
 
 def answer(face, row, asked):
-    """What is due, as a dictionary."""
+    """The answer that is due, as a dictionary."""
     found = {"status": row.due["status"]}
     if asked.out is not None:
         found["out"] = asked.out
@@ -161,7 +161,7 @@ def in_place(row):
 
 
 def with_values(row):
-    """What is returned: nothing at a refusal, and no key for a question."""
+    """A refusal returns nothing, and a question for the form no key."""
     call, given, out = row.call, row.arguments["given"], row.due.get("out")
     if not row.is_many:
         returned = given if out is None else out
@@ -187,7 +187,7 @@ def is_refusal(status):
 
 
 def numbers(face, call, row):
-    """What is returned or written beside bytes."""
+    """The numbers that are returned or written in addition to bytes."""
     has_buffers = face in WITH_BUFFERS
     names = (WRITTEN if has_buffers else RETURNED).get(call, ())
     found = {}

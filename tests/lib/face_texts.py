@@ -1,4 +1,4 @@
-"""What the faces say of a refusal: patterns of their messages."""
+"""Patterns of the messages of each face for a refusal."""
 
 from face_limits import wrong_keks
 from rules import (
@@ -73,7 +73,7 @@ def says_what_is_needed(call, row):
 
 
 def of_python(call, row, status):
-    """Of JavaScript, too."""
+    """JavaScript has the same messages."""
     text = TEXTS[status]
     if status == Status.BAD_KEK:
         length = len(wrong_keks(row)[0])
@@ -107,7 +107,7 @@ def of_length(call, row):
 
 
 def legal_lengths(call, row):
-    """What the length of a key or a wrapped key has to be in this call."""
+    """The legal lengths of a key or a wrapped key in this call."""
     is_padded = takes_padded(call, row.arguments.get("flags", 0))
     if not call.startswith("w"):
         return f"a multiple of 8 from {16 if is_padded else 24} to 1048584"

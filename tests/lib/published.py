@@ -97,7 +97,7 @@ def refusal(case):
 
 
 def due(case):
-    """What a call returns and writes."""
+    """The status and the output that are due."""
     if case.answer is None:
         status = refusal(case)
         if status == Status.INTEGRITY:

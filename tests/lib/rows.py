@@ -17,7 +17,7 @@ FILE = pathlib.Path(__file__).resolve().parent.parent / "rows.txt"
 LONG = 1 << 16
 
 BYTES = ("kek", "new", "iv", "given", "out")
-# What a call is given, in the order of a line. Everything else is due.
+# The arguments of a call, in the order of a line. Everything else is due.
 ARGUMENTS = (
     "kek",
     "new",
@@ -107,7 +107,7 @@ def row_of(words, names):
 
 
 def content_with_digest(digest, call, arguments):
-    """What is too long for rows.txt is computed, and compared with its digest there."""
+    """Computes an output that is too long for rows.txt, and compares it with the digest there."""
     content = rules.due(call, arguments)["out"]
     assert shown_digest(content) == digest, (call, digest)
     return content
@@ -132,7 +132,7 @@ def read():
     return rows
 
 
-# What follows from a row
+# Rows that follow from a row
 
 
 def kept():
@@ -269,7 +269,7 @@ def is_changed(row):
 
 
 def changes(row):
-    """What is changed in the arguments of a row, each time."""
+    """Each change of the arguments of a row."""
     yield from damaged(row)
     yield from other_rooms(row)
     yield from other_lengths(row)
@@ -308,7 +308,7 @@ def other_lengths(row):
 
 
 def other_keks(row):
-    """Of other lengths, and other KEKs of 24 bytes."""
+    """KEKs of other lengths, and other KEKs of 24 bytes."""
     for name in ("kek", "new"):
         if name not in row.arguments:
             continue

@@ -1,4 +1,4 @@
-"""What keywrap.h and OpenSSL's key wrap say of a call: its status, and what it writes.
+"""The rules of keywrap.h over OpenSSL's key wrap: the status of a call, and its output.
 
 The arguments of a call are a dictionary: kek, new, iv and given are bytes, flags, room and key_len are numbers, and
 what is not given is not there. What is due is a dictionary, too: status, out, len, form and already."""
@@ -53,7 +53,7 @@ def key_schedule(kek, direction):
 
 
 def by_openssl(operation, direction, form, kek, given, iv):
-    """What OpenSSL's CRYPTO_128_wrap, CRYPTO_128_unwrap_pad and so on write, or None."""
+    """The output of OpenSSL's CRYPTO_128_wrap, CRYPTO_128_unwrap_pad and so on, or None."""
     function = f"CRYPTO_128_{operation}"
     if form == Form.PADDED:
         function += "_pad"
@@ -261,7 +261,7 @@ def wrapping_in(forms, kek, text):
 
 
 def rewrap(arguments):
-    """What is refused stays in the buffer."""
+    """A refusal leaves the buffer as it was."""
     text, flags = arguments["given"], arguments["flags"]
     if not are_flags("rewrap", flags):
         return {"status": Status.BAD_LENGTH}
@@ -321,8 +321,8 @@ def is_slot_length(call, flags, length):
 
 
 def due_of_slots(call, flags, slots):
-    """What a call for many keys returns and writes. `slots` has the content of each, and what is due of a call for that
-    one key. `flags` is None for a call that has none."""
+    """The statuses and the outputs of a call for many keys. `slots` has the content of each, and what is due of a call
+    for that one key. `flags` is None for a call that has none."""
     contents = [content for content, _ in slots]
     alone = [found for _, found in slots]
     if alone[0]["status"] == Status.BAD_KEK:
@@ -347,7 +347,7 @@ def slot_status(found):
 
 
 def slot_after(call, content, found):
-    """What a slot has afterwards. Of a refused one it is nothing, but a rewrap leaves what it refuses."""
+    """The content of a slot after the call. A refused slot has none, but a rewrap leaves it as it was."""
     if found["status"] == Status.OK or call == "rewrap_many":
         return found.get("out", content)
     return b""

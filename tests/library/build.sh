@@ -1,7 +1,7 @@
 #!/usr/bin/env bash
 # Builds the C library by both of the toolchain's compilers, as the archives rattle.a and llvm.a of a directory. If
 # asked and possible, it also builds the library for aarch64 as its directory arm64, and the module as keywrap.wasm.
-# What exists is not built again. A second process waits for the first one.
+# An archive that exists is not built again. A second process waits for the first one.
 #
 # usage: tests/library/build.sh DIRECTORY [arm64] [keywrap.wasm]
 

@@ -143,7 +143,7 @@ fn many(line: &Line, call: &str, kek: &KekSlice, out: &mut Vec<u8>) -> Result<St
     let (new_kek, given, of_rewrapped) = (line.bytes(2), line.bytes(5), |one: Rewrapped| vec![one as u8]);
     let (new_kek, of_kind) = (KekSlice::new(&new_kek), |one: Kind| vec![one.form as u8, one.key_len as u8]);
     let (all, each_len) = (&mut statuses, &mut lens);
-    // What the iterators return of each slot.
+    // The results of the iterators, a slot each.
     let each: Vec<Result<Vec<u8>>> = match call {
         "wrap_many" => kek.wrap_many(padded, out, line.number(7), all).map(|()| vec![])?,
         "unwrap_many" => kek.unwrap_many(padded, out, each_len, all)?.map(|key| key.map(<[u8]>::to_vec)).collect(),

@@ -1,2 +1,2 @@
-/* What keywrap.c needs of stdlib.h, for a machine that has none. */
+/* The part of stdlib.h that keywrap.c needs, for a machine without a C library. */
 void abort(void);

@@ -1,4 +1,4 @@
-/* What keywrap.c needs of string.h, for a machine that has none. */
+/* The part of string.h that keywrap.c needs, for a machine without a C library. */
 #include <stddef.h>
 #define memcpy __builtin_memcpy
 #define memmove __builtin_memmove

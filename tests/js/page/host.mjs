@@ -1,4 +1,4 @@
-// What the tests take from their host, here a page.
+// The host of the tests, here a page.
 
 export const webcrypto = crypto;
 
