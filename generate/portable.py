@@ -49,18 +49,20 @@ STEPS = {call for call in STEPS if not call.endswith("_many")}
 # A call between two runs of a rewrap takes more of the stack than a step. There are many steps.
 TURNS = {call for call in STEPS if "_next_" in call}
 WHOLE_ONLY, WITH_AES = "#ifndef KEYWRAP_STEPS_ONLY\n", "#ifdef WITH_AES\n"
-# The processor's AES, in the order in which one file can have them. A template is a `.c.in`.
+# The processor's AES and the calls by it, in the order in which one file can have them. A template is a `.c.in`.
 HARDWARE = [
-    "aes.h",
-    "run.h",
-    "x86_64.c",
-    "aarch64.c",
-    "aes.c",
-    "checks.c.in",
-    "keywrap.c",
-    "lanes.c.in",
-    "many.c",
+    "c/aes/aes.h",
+    "c/aes/x86_64.c",
+    "c/aes/aarch64.c",
+    "c/aes/aes.c",
+    "c/hardware/run.h",
+    "c/portable/checks.c.in",
+    "c/hardware/keywrap.c",
+    "c/portable/lanes.c.in",
+    "c/hardware/many.c",
 ]
+# Headers that keywrap.c includes before.
+INCLUDED = r"(?:\.\./aes/)?aes\.h|run\.h|keywrap(?:_steps|_checks)?\.h|std(?:int|def)\.h|string\.h"
 
 
 def the_one(what, pattern, text):
@@ -342,23 +344,16 @@ def hardware():
     """The calls by the processor's AES as one part of the file, in which nothing but the calls has a name outside."""
     parts = []
     for name in HARDWARE:
-        text = (
-            (PARTS if name.endswith(".in") else ROOT / "c/hardware") / name
-        ).read_text()
+        text = (ROOT / name).read_text()
         text = text.replace(
             "@CHECKS@\n",
             translators("c/include/keywrap_checks.h", "HIDDEN, perform_steps"),
         )
-        text = re.sub(
-            r"^#include (?:\"(?:aes|run)\.h\"|<keywrap(?:_steps|_checks)?\.h>|<std\w+\.h>|<string\.h>)\n",
-            "",
-            text,
-            flags=re.M,
-        )
+        text = re.sub(rf"^#include [\"<](?:{INCLUDED})[\">]\n", "", text, flags=re.M)
         if name.endswith(".h"):
             # A compiler that sees the round keys of an inlined function would keep copies of them on the stack.
             text = re.sub(
-                r"^(?=(?:int|void|int32_t) \w+\()", "static APART ", text, flags=re.M
+                r"^(?=(?:bool|void|int32_t) \w+\()", "static APART ", text, flags=re.M
             )
         parts.append(text)
     return "\n".join(parts)

@@ -28,10 +28,11 @@ from tools import missing, need
 from vectors import WRAPPED16
 
 pytestmark = pytest.mark.needs("cc")
-OWN, HARDWARE = ROOT / "tests/hardware", ROOT / "c/hardware"
+OWN, HARDWARE, AES = ROOT / "tests/hardware", ROOT / "c/hardware", ROOT / "c/aes"
+# All C of libkeywrap_hw.
+SOURCES = sorted([*AES.glob("*.c"), *HARDWARE.glob("*.c")])
 INCLUDED = [f"-I{ROOT}/c/include", f"-I{ROOT}/tests/reference"]
 OPTIONS = [*STRICT, "-O2", *INCLUDED]
-AES = [HARDWARE / f"{name}.c" for name in ("aes", "x86_64", "aarch64")]
 COMPARING = [
     path
     for path in sorted((ROOT / "tests/provider").glob("*.c"))
@@ -250,7 +251,7 @@ class TestHere:
         ids=["short", "all"],
     )
     def test_sanitized(self, proved, names):
-        sources = [ROOT / "tests/rows.c", *sorted(HARDWARE.glob("*.c"))]
+        sources = [ROOT / "tests/rows.c", *SOURCES]
         run("cc", *OPTIONS, "-g", *SANITIZED, *sources, proved, "-o", "program")
         faces.check("c", ["./program"], *names)
 
@@ -264,7 +265,7 @@ class TestHere:
     @pytest.mark.needs("the processor's AES")
     def test_wrong_aes_is_not_chosen(self):
         """Each way of the processor's AES is tested, with each length of a KEK."""
-        sources = [OWN / "chosen.c", OWN / "wrong_aes.c", HARDWARE / "aes.c"]
+        sources = [OWN / "chosen.c", OWN / "wrong_aes.c", AES / "aes.c"]
         run("cc", *OPTIONS, *sources, "-o", "chosen")
         places = [
             "",
@@ -281,7 +282,7 @@ class TestHere:
             run(
                 *threads,
                 "-fsanitize=thread",
-                *sorted(HARDWARE.glob("*.c")),
+                *SOURCES,
                 request.getfixturevalue("proved"),
             )
         else:
@@ -332,7 +333,7 @@ def programs(once, request):
             *compiler,
             *OPTIONS,
             OWN / "chosen.c",
-            *AES,
+            *sorted(AES.glob("*.c")),
             *more,
             "-o",
             directory / "chosen",
@@ -370,7 +371,7 @@ def programs(once, request):
         if has_openssl:
             provider(directory, library, request.getfixturevalue("built")("llvm.a"))
             assert re.search(
-                r"\baes_set_encrypt\b", run("nm", directory / "keywrap.so")
+                r"\bkeywrap_aes_encrypt\b", run("nm", directory / "keywrap.so")
             )
 
     def of_arm(*more):

@@ -7,8 +7,23 @@
 #include <keywrap_steps.h>
 #include <string.h>
 
-#include "aes.h"
 #include "run.h"
+
+void aes_set(struct aes *aes, const uint8_t *kek, size_t kek_len) {
+    if (kek_len > 32) {
+        /* A kept KEK has its schedule behind 8 bytes. */
+        aes->schedule = kek + 8;
+        aes->len = kek_len - 8;
+    } else {
+        aes->schedule = aes->own;
+        aes->len = 4 * kek_len + 112;
+        keywrap_aes_expand(kek, kek_len, aes->own, aes->len);
+    }
+}
+
+void aes_clear(struct aes *aes) {
+    if (aes->schedule == aes->own) wipe(aes->own, aes->len);
+}
 
 /* Makes all steps over the registers, or undoes them. */
 static inline void run_steps(const uint8_t *kek, size_t kek_len, int decrypts, struct run *run,
@@ -16,9 +31,10 @@ static inline void run_steps(const uint8_t *kek, size_t kek_len, int decrypts, s
     const uint64_t end = decrypts ? 0 : keywrap_step_count(len);
     int32_t status = KEYWRAP_OK;
     struct aes aes;
-    decrypts ? aes_set_decrypt(&aes, kek, kek_len) : aes_set_encrypt(&aes, kek, kek_len);
+    aes_set(&aes, kek, kek_len);
     while (status == KEYWRAP_OK && run->steps != end) {
-        decrypts ? decrypt_block(&aes, run->block) : encrypt_block(&aes, run->block);
+        decrypts ? keywrap_aes_decrypt(aes.schedule, aes.len, run->block)
+                 : keywrap_aes_encrypt(aes.schedule, aes.len, run->block);
         status = decrypts ? keywrap_step_unwrap(registers, len, &run->steps, run->block)
                           : keywrap_step_wrap(registers, len, &run->steps, run->block);
     }
@@ -229,6 +245,6 @@ int32_t keywrap_rewrap_in_place(const uint8_t *old_kek, size_t old_kek_len, cons
 
 int32_t keywrap_self_test(void) {
     extern __typeof__(keywrap_self_test) proved_keywrap_self_test;
-    if (aes_works() && !aes_known_answers()) return KEYWRAP_INTEGRITY;
+    if (keywrap_aes_available() && !keywrap_aes_known_answers()) return KEYWRAP_INTEGRITY;
     return proved_keywrap_self_test();
 }

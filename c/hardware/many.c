@@ -6,7 +6,6 @@
 #include <keywrap_steps.h>
 #include <string.h>
 
-#include "aes.h"
 #include "run.h"
 
 /* Six groups of 8 blocks: a step of half as many costs a key more. The longest text that a turn copies. */
@@ -31,17 +30,15 @@ static void next_turn(struct turn *turn, uint8_t *texts, size_t count) {
     turn->steps = 0;
 }
 
-/* Makes all steps of wrappings that have begun, or undoes those of unwrappings, over whole groups of
- * 8 blocks. */
+/* Makes all steps of wrappings that have begun, or undoes those of unwrappings. */
 static void run_turn(const struct aes *aes, int decrypts, struct turn *turn) {
     const size_t len = turn->text_len, texts_len = len * turn->count,
                  of_blocks = BLOCK * turn->count;
-    const size_t grouped = (turn->count + 7) / 8 * 8;
     const uint64_t end = decrypts ? 0 : keywrap_step_count(turn->text_len - 8);
     int32_t status = KEYWRAP_OK;
     while (status == KEYWRAP_OK && turn->steps != end) {
-        decrypts ? aes_decrypt_many(aes, turn->blocks, grouped)
-                 : aes_encrypt_many(aes, turn->blocks, grouped);
+        decrypts ? keywrap_aes_decrypt_many(aes->schedule, aes->len, turn->blocks, of_blocks)
+                 : keywrap_aes_encrypt_many(aes->schedule, aes->len, turn->blocks, of_blocks);
         status = decrypts ? keywrap_step_unwrap_many(turn->texts, texts_len, len, &turn->steps,
                                                      turn->blocks, of_blocks)
                           : keywrap_step_wrap_many(turn->texts, texts_len, len, &turn->steps,
@@ -57,11 +54,11 @@ static void unwrap_turn(const struct aes *aes, struct turn *turn) {
     if (status == KEYWRAP_OK) run_turn(aes, 1, turn);
 }
 
-/* What the bits of a phase ask for; and a turn of a rewrap: the schedules by these bits, the texts as
- * they were, and for each lane its phase and its steps. */
+/* What the bits of a phase ask for; and a turn of a rewrap: AES under both KEKs, the texts as they
+ * were, and for each lane its phase and its steps. */
 enum { OPERATION = KEYWRAP_DECRYPT | KEYWRAP_NEW };
 struct rewraps {
-    struct aes of[OPERATION + 1];
+    struct aes old_aes, new_aes;
     uint8_t before[COPIED * LANES];
     uint32_t phases[LANES];
     uint64_t steps[LANES];
@@ -82,6 +79,7 @@ static void copy_lanes(struct turn *turn, struct turn *part, const size_t *lanes
 static void run_lanes(struct rewraps *rewraps, struct turn *turn, size_t first, uint32_t flags,
                       uint8_t *statuses) {
     const uint32_t operation = rewraps->phases[first] & OPERATION;
+    const struct aes *aes = operation & KEYWRAP_NEW ? &rewraps->new_aes : &rewraps->old_aes;
     uint8_t copies[COPIED * LANES];
     size_t lanes[LANES], count = 0;
     for (size_t i = first; i < turn->count; i++)
@@ -89,11 +87,11 @@ static void run_lanes(struct rewraps *rewraps, struct turn *turn, size_t first, 
             lanes[count++] = i;
     turn->steps = rewraps->steps[first];
     if (count == turn->count) {
-        run_turn(&rewraps->of[operation], operation & KEYWRAP_DECRYPT, turn);
+        run_turn(aes, operation & KEYWRAP_DECRYPT, turn);
     } else {
         struct turn part = {copies, turn->text_len, count, turn->steps, {0}};
         copy_lanes(turn, &part, lanes, 0);
-        run_turn(&rewraps->of[operation], operation & KEYWRAP_DECRYPT, &part);
+        run_turn(aes, operation & KEYWRAP_DECRYPT, &part);
         copy_lanes(turn, &part, lanes, 1);
         turn->steps = part.steps;
         wipe(copies, turn->text_len * count);
@@ -138,10 +136,8 @@ int32_t keywrap_rewrap_many(const uint8_t *old_kek, size_t old_kek_len, const ui
         return KEYWRAP_OK;
     }
     struct rewraps rewraps;
-    aes_set_encrypt(&rewraps.of[0], old_kek, old_kek_len);
-    aes_set_decrypt(&rewraps.of[KEYWRAP_DECRYPT], old_kek, old_kek_len);
-    aes_set_encrypt(&rewraps.of[KEYWRAP_NEW], new_kek, new_kek_len);
-    aes_set_decrypt(&rewraps.of[OPERATION], new_kek, new_kek_len);
+    aes_set(&rewraps.old_aes, old_kek, old_kek_len);
+    aes_set(&rewraps.new_aes, new_kek, new_kek_len);
     struct turn turn = {.text_len = text_len};
     for (size_t i = 0; i < count; i += LANES) {
         next_turn(&turn, texts + text_len * i, count - i);
@@ -164,7 +160,7 @@ int32_t keywrap_wrap_many(const uint8_t *kek, size_t kek_len, uint8_t *texts, si
         return KEYWRAP_OK;
     }
     struct aes aes;
-    aes_set_encrypt(&aes, kek, kek_len);
+    aes_set(&aes, kek, kek_len);
     struct turn turn = {.text_len = text_len};
     for (size_t i = 0; i < count; i += LANES) {
         next_turn(&turn, texts + text_len * i, count - i);
@@ -198,7 +194,7 @@ int32_t keywrap_unwrap_many(const uint8_t *kek, size_t kek_len, uint8_t *texts, 
         return KEYWRAP_OK;
     }
     struct aes aes;
-    aes_set_decrypt(&aes, kek, kek_len);
+    aes_set(&aes, kek, kek_len);
     struct turn turn = {.text_len = text_len};
     for (size_t i = 0; i < count; i += LANES) {
         next_turn(&turn, texts + text_len * i, count - i);
@@ -237,7 +233,7 @@ int32_t keywrap_kind_many(const uint8_t *kek, size_t kek_len, const uint8_t *tex
     }
     uint8_t copy[COPIED * LANES];
     struct aes aes;
-    aes_set_decrypt(&aes, kek, kek_len);
+    aes_set(&aes, kek, kek_len);
     struct turn turn = {.text_len = text_len};
     for (size_t i = 0; i < count; i += LANES) {
         next_turn(&turn, copy, count - i);

@@ -3,7 +3,7 @@
 #ifndef HARDWARE_RUN_H
 #define HARDWARE_RUN_H
 
-#include "aes.h"
+#include "../aes/aes.h"
 
 static const uint8_t DEFAULT_IV[8] = {0xa6, 0xa6, 0xa6, 0xa6, 0xa6, 0xa6, 0xa6, 0xa6};
 
@@ -11,7 +11,20 @@ static const uint8_t DEFAULT_IV[8] = {0xa6, 0xa6, 0xa6, 0xa6, 0xa6, 0xa6, 0xa6, 
  * c/hardware/names. */
 #define OR_PROVED(call, ...)                                 \
     extern __typeof__(keywrap_##call) proved_keywrap_##call; \
-    if (!aes_works()) return proved_keywrap_##call(__VA_ARGS__)
+    if (!keywrap_aes_available()) return proved_keywrap_##call(__VA_ARGS__)
+
+/* AES under one KEK: its key schedule, in memory of its own or in a kept KEK. */
+struct aes {
+    uint8_t own[SCHEDULE];
+    const uint8_t *schedule;
+    size_t len;
+};
+
+/* Takes a KEK of 16, 24 or 32 bytes, or a kept KEK, which a proved call has checked. */
+void aes_set(struct aes *aes, const uint8_t *kek, size_t kek_len);
+
+/* Clears the schedule, except that of a kept KEK. */
+void aes_clear(struct aes *aes);
 
 /* A wrapping or an unwrapping that has begun. */
 struct run {

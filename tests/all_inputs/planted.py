@@ -110,7 +110,7 @@ BUGS = [
         "the processor has leaf 7 of cpuid",
         "wrap_with 16 16",
         "has_leaf_7()",
-        (r"(int aes_works\(void\) \{)", PROCESSOR + r"\n\1"),
+        (r"(bool keywrap_aes_available\(void\) \{)", PROCESSOR + r"\n\1"),
     ),
     gated(
         "what memset leaves below the stack",
@@ -169,7 +169,7 @@ BUGS = [
         "without AES instructions",
         "unwrap_padded_in_place 16 16",
         SECRET,
-        [at("unwrap_padded_in_place", "    if (!aes_works()) return 0;")],
+        [at("unwrap_padded_in_place", "    if (!keywrap_aes_available()) return 0;")],
     ),
     Bug(
         "keywrap_version sets a variable",

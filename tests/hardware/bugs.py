@@ -1,5 +1,5 @@
-"""Plants the bugs of bugs.txt in the C of c/hardware/, one at a time in a copy. The programs of test_hardware.py
-must catch each bug, and must pass without one. Prints which program caught which bug.
+"""Plants the bugs of bugs.txt in the C of c/aes/ and c/hardware/, one at a time in a copy. The programs of
+test_hardware.py must catch each bug, and must pass without one. Prints which program caught which bug.
 
 usage: bugs.py ARCHIVE        (ARCHIVE: the C library, for x86-64)"""
 
@@ -17,25 +17,25 @@ sys.path[:0] = [str(ROOT / "tests"), str(ROOT / "tests/lib")]
 import faces  # noqa: E402
 
 COMPILE = "cc -std=c99 -O2 -Wall -Wextra -Ic/include -Itests/reference -o program "
-CALLS = "tests/rows.c c/hardware/*.c proved.a"
+CALLS = "tests/rows.c c/aes/*.c c/hardware/*.c proved.a"
 # It is asked for the rows that are kept, and for those that are not.
 ROWS = "rows"
 # Each program, in this order: its sources and options, how it is run, and what is written if no fault is found.
 PROGRAMS = {
     "chooses": (
-        "tests/hardware/chosen.c c/hardware/aes.c c/hardware/x86_64.c",
+        "tests/hardware/chosen.c c/aes/aes.c c/aes/x86_64.c",
         "qemu-x86_64 -cpu max ./program && qemu-x86_64 -cpu Nehalem ./program",
         "instructions\nsoftware\n",
     ),
     "refuses_wrong_aes": (
-        "tests/hardware/chosen.c tests/hardware/wrong_aes.c c/hardware/aes.c",
+        "tests/hardware/chosen.c tests/hardware/wrong_aes.c c/aes/aes.c",
         "for place in {e,d,E,D,F,C}1{0,2,4}; do "
         "WRONG=$place qemu-x86_64 -cpu max ./program || exit; done",
         "software\n" * 18,
     ),
     # The AES becomes wrong after its first use.
     "tests_itself": (
-        "tests/hardware/self_test.c tests/hardware/wrong_aes.c c/hardware/keywrap.c c/hardware/aes.c "
+        "tests/hardware/self_test.c tests/hardware/wrong_aes.c c/hardware/keywrap.c c/aes/aes.c "
         "proved.a",
         "qemu-x86_64 -cpu max ./program",
         "0 5\n",
@@ -44,7 +44,7 @@ PROGRAMS = {
     # At most 16 bytes below the stack pointer depend on a secret: they are a block of the wrapped key. With -flto the
     # compiler sees that nothing reads what is cleared.
     "clears": (
-        "tests/secrets/stack.c c/hardware/*.c proved.a -flto -Wl,-z,now",
+        "tests/secrets/stack.c c/aes/*.c c/hardware/*.c proved.a -flto -Wl,-z,now",
         "set -o pipefail; ./program | awk 'NR > 1 && ($4 > 16 || $5 > 16 || $6 > 16)'",
         "",
     ),
@@ -93,7 +93,7 @@ def has_fault(directory, command, wanted):
 def caught_by(archive, bug):
     """The first program that finds a fault over a copy with the bug, or None."""
     with tempfile.TemporaryDirectory() as directory:
-        for name in "c/hardware", "c/include", "tests":
+        for name in "c/aes", "c/hardware", "c/include", "tests":
             shutil.copytree(ROOT / name, f"{directory}/{name}")
         os.symlink(ROOT / "dist", f"{directory}/dist")
         subprocess.run(

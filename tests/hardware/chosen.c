@@ -2,9 +2,9 @@
 
 #include <stdio.h>
 
-#include "../../c/hardware/aes.h"
+#include "../../c/aes/aes.h"
 
 int main(void) {
-    puts(aes_works() ? "instructions" : "software");
+    puts(keywrap_aes_available() ? "instructions" : "software");
     return 0;
 }
