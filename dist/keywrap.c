@@ -21264,83 +21264,50 @@ CALL(SHOWN, perform_turn, next_rewrap_from, (uint32_t flags, const uint8_t *copy
 #ifdef WITH_AES
 /*** The calls by the processor's AES ***/
 
-/* aes.h: AES by the processor's instructions, chosen at run time (FIPS 197). */
+/* aes.h: AES by the processor's instructions (FIPS 197), chosen at run time. A key schedule is the
+ * standard's, 16 bytes for each round key: 176, 208 or 240 bytes. */
 
-#ifndef HARDWARE_AES_H
-#define HARDWARE_AES_H
+#ifndef KEYWRAP_AES_H
+#define KEYWRAP_AES_H
 
+#include <stdbool.h>
 
-enum { BLOCK = 16, ROUNDS_AT_MOST = 14, SCHEDULE = BLOCK * (ROUNDS_AT_MOST + 1) };
+/* The bytes of a block and of the longest key schedule; the blocks that are worked on at once. */
+enum { BLOCK = 16, SCHEDULE = 240, GROUP = 8 };
 
-/* The round keys in the order of the cipher, or of the inverse cipher: its own, or those of a kept KEK. */
-struct aes {
-    uint8_t own[SCHEDULE];
-    const uint8_t *keys;
-    unsigned rounds;
-};
+/* Returns whether the processor has the instructions and they passed a known-answer test. The first
+ * call decides. Threads may make it at once. */
+static APART bool keywrap_aes_available(void);
 
-/* aes_works returns whether the processor has the instructions and they passed a known-answer test.
- * The first call decides. Threads may make it at once. */
-static APART int aes_works(void);
+/* Makes that test. The processor needs the instructions for it, as for all functions below. */
+static APART bool keywrap_aes_known_answers(void);
 
-/* aes_known_answers makes that test, for which the processor needs the instructions. */
-static APART int aes_known_answers(void);
+/* Writes the key schedule of a KEK of 16, 24 or 32 bytes. */
+static APART void keywrap_aes_expand(const uint8_t *kek, size_t kek_len, uint8_t *schedule, size_t len);
 
-/* aes_set_encrypt and aes_set_decrypt take a KEK of 16, 24 or 32 bytes, or a kept KEK, which a proved
- * call has checked. */
-static APART void aes_set_encrypt(struct aes *aes, const uint8_t *kek, size_t kek_len);
-static APART void aes_set_decrypt(struct aes *aes, const uint8_t *kek, size_t kek_len);
+/* Encrypts or decrypts one block. */
+static APART void keywrap_aes_encrypt(const uint8_t *schedule, size_t len, uint8_t block[BLOCK]);
+static APART void keywrap_aes_decrypt(const uint8_t *schedule, size_t len, uint8_t block[BLOCK]);
 
-/* Work on the blocks side by side, 8 at once: count is a multiple of 8. */
-static APART void aes_encrypt_many(const struct aes *aes, uint8_t *blocks, size_t count);
-static APART void aes_decrypt_many(const struct aes *aes, uint8_t *blocks, size_t count);
+/* Encrypts or decrypts each block of a buffer of whole blocks. */
+static APART void keywrap_aes_encrypt_many(const uint8_t *schedule, size_t len, uint8_t *blocks,
+                              size_t blocks_len);
+static APART void keywrap_aes_decrypt_many(const uint8_t *schedule, size_t len, uint8_t *blocks,
+                              size_t blocks_len);
 
-/* wipe clears memory even if nothing reads it afterwards, and aes_clear the round keys that are its own. */
+/* x86_64.c and aarch64.c have these, and the functions above for a KEK and for one block. The first
+ * returns whether the processor has the instructions. The others work on whole groups of blocks. */
+static APART bool keywrap_aes_has_instructions(void);
+static APART void keywrap_aes_encrypt_groups(const uint8_t *schedule, size_t len, uint8_t *blocks,
+                                size_t blocks_len);
+static APART void keywrap_aes_decrypt_groups(const uint8_t *schedule, size_t len, uint8_t *blocks,
+                                size_t blocks_len);
+
+/* Clears memory even if nothing reads it afterwards. */
 static inline void wipe(void *memory, size_t len) {
     memset(memory, 0, len);
     __asm__ volatile("" : : "r"(memory) : "memory");
 }
-static APART void aes_clear(struct aes *aes);
-
-/* What each processor provides, in x86_64.c and aarch64.c. expand writes the round keys of a KEK, and
- * invert turns them into the round keys of the inverse cipher. The number of rounds is set before. */
-static APART int has_instructions(void);
-static APART void expand(struct aes *aes, const uint8_t *kek);
-static APART void invert(struct aes *aes);
-static APART void encrypt_block(const struct aes *aes, uint8_t block[BLOCK]);
-static APART void decrypt_block(const struct aes *aes, uint8_t block[BLOCK]);
-static APART void encrypt_8_blocks(const struct aes *aes, uint8_t blocks[8 * BLOCK]);
-static APART void decrypt_8_blocks(const struct aes *aes, uint8_t blocks[8 * BLOCK]);
-
-#endif
-
-/* run.h: what the calls for one key and those for many share. */
-
-#ifndef HARDWARE_RUN_H
-#define HARDWARE_RUN_H
-
-
-static const uint8_t DEFAULT_IV[8] = {0xa6, 0xa6, 0xa6, 0xa6, 0xa6, 0xa6, 0xa6, 0xa6};
-
-/* On a processor without the instructions a call is the proved one of the whole library, by its name in
- * c/hardware/names. */
-#define OR_PROVED(call, ...)                                 \
-    extern __typeof__(keywrap_##call) proved_keywrap_##call; \
-    if (!aes_works()) return proved_keywrap_##call(__VA_ARGS__)
-
-/* A wrapping or an unwrapping that has begun. */
-struct run {
-    uint64_t steps;
-    uint8_t block[BLOCK];
-};
-
-/* The calls for one key in place, in the form of the flags, whose arguments are checked. */
-static APART int32_t wrap_slot(const uint8_t *kek, size_t kek_len, uint32_t flags, uint8_t *text,
-                  size_t text_len, size_t key_len);
-static APART int32_t unwrap_slot(const uint8_t *kek, size_t kek_len, uint32_t flags, uint8_t *text,
-                    size_t text_len, size_t *key_len);
-static APART int32_t rewrap_slot(const uint8_t *old_kek, size_t old_kek_len, const uint8_t *new_kek,
-                    size_t new_kek_len, uint8_t *text, size_t text_len, uint32_t flags);
 
 #endif
 
@@ -21355,17 +21322,17 @@ static APART int32_t rewrap_slot(const uint8_t *old_kek, size_t old_kek_len, con
 
 #define BY_AES __attribute__((target("aes,sse2")))
 
-int has_instructions(void) {
+bool keywrap_aes_has_instructions(void) {
     unsigned a, b, c, d;
     return __get_cpuid(1, &a, &b, &c, &d) && (c & bit_AES);
 }
 
-BY_AES static __m128i round_key(const struct aes *aes, unsigned i) {
-    return _mm_loadu_si128((const __m128i *)(aes->keys + BLOCK * i));
+BY_AES static __m128i round_key(const uint8_t *schedule, size_t i) {
+    return _mm_loadu_si128((const __m128i *)(schedule + BLOCK * i));
 }
 
-BY_AES static void set_round_key(struct aes *aes, unsigned i, __m128i key) {
-    _mm_storeu_si128((__m128i *)(aes->own + BLOCK * i), key);
+BY_AES static void set_round_key(uint8_t *schedule, size_t i, __m128i key) {
+    _mm_storeu_si128((__m128i *)(schedule + BLOCK * i), key);
 }
 
 /* Each word is the sum of the words up to it. */
@@ -21385,22 +21352,21 @@ BY_AES static __m128i rotated(__m128i words) {
     return _mm_or_si128(_mm_srli_epi32(words, 8), _mm_slli_epi32(words, 24));
 }
 
-BY_AES static void expand_16(struct aes *aes, __m128i a) {
+BY_AES static void expand_16(uint8_t *schedule, __m128i a) {
     __m128i constant = _mm_set1_epi32(1);
-    set_round_key(aes, 0, a);
+    set_round_key(schedule, 0, a);
     for (unsigned i = 1; i <= 10; i++) {
         __m128i last = rotated(_mm_shuffle_epi32(a, 0xff));
         if (i == 9) constant = _mm_set1_epi32(0x1b);
         a = _mm_xor_si128(sums(a), sub_words(last, constant));
-        set_round_key(aes, i, a);
+        set_round_key(schedule, i, a);
         constant = _mm_slli_epi32(constant, 1);
     }
 }
 
 /* Turns: six words each, in a and the lower half of b. */
-BY_AES static void expand_24(struct aes *aes, __m128i a, __m128i b) {
+BY_AES static void expand_24(uint8_t *at, __m128i a, __m128i b) {
     __m128i constant = _mm_set1_epi32(1);
-    uint8_t *at = aes->own;
     for (unsigned turn = 0;; turn++, at += 24) {
         _mm_storeu_si128((__m128i *)at, a);
         if (turn == 8) break;
@@ -21412,38 +21378,26 @@ BY_AES static void expand_24(struct aes *aes, __m128i a, __m128i b) {
     }
 }
 
-BY_AES static void expand_32(struct aes *aes, __m128i a, __m128i b) {
+BY_AES static void expand_32(uint8_t *schedule, __m128i a, __m128i b) {
     __m128i constant = _mm_set1_epi32(1);
-    set_round_key(aes, 0, a);
-    set_round_key(aes, 1, b);
+    set_round_key(schedule, 0, a);
+    set_round_key(schedule, 1, b);
     for (unsigned i = 2;; i += 2) {
         a = _mm_xor_si128(sums(a), sub_words(rotated(_mm_shuffle_epi32(b, 0xff)), constant));
-        set_round_key(aes, i, a);
+        set_round_key(schedule, i, a);
         if (i == 14) break;
         b = _mm_xor_si128(sums(b), sub_words(_mm_shuffle_epi32(a, 0xff), _mm_setzero_si128()));
-        set_round_key(aes, i + 1, b);
+        set_round_key(schedule, i + 1, b);
         constant = _mm_slli_epi32(constant, 1);
     }
 }
 
-BY_AES void expand(struct aes *aes, const uint8_t *kek) {
+BY_AES void keywrap_aes_expand(const uint8_t *kek, size_t kek_len, uint8_t *schedule, size_t len) {
     __m128i a = _mm_loadu_si128((const __m128i *)kek);
-    if (aes->rounds == 10) expand_16(aes, a);
-    else if (aes->rounds == 12) expand_24(aes, a, _mm_loadl_epi64((const __m128i *)(kek + 16)));
-    else expand_32(aes, a, _mm_loadu_si128((const __m128i *)(kek + 16)));
-}
-
-/* In the other order, with all but the outer two mixed. */
-BY_AES void invert(struct aes *aes) {
-    unsigned low = 1, high = aes->rounds - 1;
-    __m128i first = round_key(aes, 0);
-    set_round_key(aes, 0, round_key(aes, aes->rounds));
-    set_round_key(aes, aes->rounds, first);
-    for (; low <= high; low++, high--) {
-        __m128i key = _mm_aesimc_si128(round_key(aes, low));
-        set_round_key(aes, low, _mm_aesimc_si128(round_key(aes, high)));
-        set_round_key(aes, high, key);
-    }
+    (void)len;
+    if (kek_len == 16) expand_16(schedule, a);
+    else if (kek_len == 24) expand_24(schedule, a, _mm_loadl_epi64((const __m128i *)(kek + 16)));
+    else expand_32(schedule, a, _mm_loadu_si128((const __m128i *)(kek + 16)));
 }
 
 BY_AES static __m128i load(const uint8_t block[BLOCK]) {
@@ -21454,24 +21408,28 @@ BY_AES static __m128i load(const uint8_t block[BLOCK]) {
 
 /* Adds the first round key. Only the lower half of a block depends on the AES of the block before, so
  * it is added last: the empty asm keeps the compiler from another order. */
-BY_AES static __m128i begin(const struct aes *aes, const uint8_t block[BLOCK]) {
+BY_AES static __m128i begin(__m128i key, const uint8_t block[BLOCK]) {
     __m128i high = _mm_loadl_epi64((const __m128i *)(block + 8));
-    __m128i state = _mm_xor_si128(_mm_slli_si128(high, 8), round_key(aes, 0));
+    __m128i state = _mm_xor_si128(_mm_slli_si128(high, 8), key);
     __asm__("" : "+x"(state));
     return _mm_xor_si128(state, _mm_loadl_epi64((const __m128i *)block));
 }
 
-BY_AES void encrypt_block(const struct aes *aes, uint8_t block[BLOCK]) {
-    __m128i state = begin(aes, block);
-    for (unsigned i = 1; i < aes->rounds; i++) state = _mm_aesenc_si128(state, round_key(aes, i));
-    state = _mm_aesenclast_si128(state, round_key(aes, aes->rounds));
+BY_AES void keywrap_aes_encrypt(const uint8_t *schedule, size_t len, uint8_t block[BLOCK]) {
+    const size_t rounds = len / BLOCK - 1;
+    __m128i state = begin(round_key(schedule, 0), block);
+    for (size_t i = 1; i < rounds; i++) state = _mm_aesenc_si128(state, round_key(schedule, i));
+    state = _mm_aesenclast_si128(state, round_key(schedule, rounds));
     _mm_storeu_si128((__m128i *)block, state);
 }
 
-BY_AES void decrypt_block(const struct aes *aes, uint8_t block[BLOCK]) {
-    __m128i state = begin(aes, block);
-    for (unsigned i = 1; i < aes->rounds; i++) state = _mm_aesdec_si128(state, round_key(aes, i));
-    state = _mm_aesdeclast_si128(state, round_key(aes, aes->rounds));
+/* The equivalent inverse cipher (section 5.3.5). Its round keys are made on the way: this does not
+ * wait for the block, and so takes no time. */
+BY_AES void keywrap_aes_decrypt(const uint8_t *schedule, size_t len, uint8_t block[BLOCK]) {
+    size_t i = len / BLOCK - 1;
+    __m128i state = begin(round_key(schedule, i), block);
+    while (--i > 0) state = _mm_aesdec_si128(state, _mm_aesimc_si128(round_key(schedule, i)));
+    state = _mm_aesdeclast_si128(state, round_key(schedule, 0));
     _mm_storeu_si128((__m128i *)block, state);
 }
 
@@ -21484,28 +21442,61 @@ BY_AES void decrypt_block(const struct aes *aes, uint8_t block[BLOCK]) {
 #define DECRYPT(i) b##i = _mm_aesdec_si128(b##i, key);
 #define DECRYPT_LAST(i) b##i = _mm_aesdeclast_si128(b##i, key);
 
-BY_AES void encrypt_8_blocks(const struct aes *aes, uint8_t blocks[8 * BLOCK]) {
-    __m128i key = round_key(aes, 0);
+BY_AES static void encrypt_8(const uint8_t *schedule, size_t rounds, uint8_t *blocks) {
+    __m128i key = round_key(schedule, 0);
     EACH(BEGIN)
-    for (unsigned i = 1; i < aes->rounds; i++) {
-        key = round_key(aes, i);
+    for (size_t i = 1; i < rounds; i++) {
+        key = round_key(schedule, i);
         EACH(ENCRYPT)
     }
-    key = round_key(aes, aes->rounds);
+    key = round_key(schedule, rounds);
     EACH(ENCRYPT_LAST)
     EACH(END)
 }
 
-BY_AES void decrypt_8_blocks(const struct aes *aes, uint8_t blocks[8 * BLOCK]) {
-    __m128i key = round_key(aes, 0);
+/* By a schedule that is inverted. */
+BY_AES static void decrypt_8(const uint8_t *inverted, size_t rounds, uint8_t *blocks) {
+    __m128i key = round_key(inverted, 0);
     EACH(BEGIN)
-    for (unsigned i = 1; i < aes->rounds; i++) {
-        key = round_key(aes, i);
+    for (size_t i = 1; i < rounds; i++) {
+        key = round_key(inverted, i);
         EACH(DECRYPT)
     }
-    key = round_key(aes, aes->rounds);
+    key = round_key(inverted, rounds);
     EACH(DECRYPT_LAST)
     EACH(END)
+}
+
+/* The schedule of the equivalent inverse cipher (section 5.3.5): in the other order, with all round
+ * keys but the outer two mixed. */
+BY_AES static void invert(const uint8_t *schedule, size_t rounds, uint8_t *inverted) {
+    set_round_key(inverted, 0, round_key(schedule, rounds));
+    for (size_t i = 1; i < rounds; i++)
+        set_round_key(inverted, i, _mm_aesimc_si128(round_key(schedule, rounds - i)));
+    set_round_key(inverted, rounds, round_key(schedule, 0));
+}
+
+/* Clears a schedule. gcc would make one slow instruction of memset. */
+BY_AES static void forget(uint8_t *schedule, size_t rounds) {
+    for (size_t i = 0; i <= rounds; i++) {
+        set_round_key(schedule, i, _mm_setzero_si128());
+        __asm__ volatile("" : : "r"(schedule) : "memory");
+    }
+}
+
+void keywrap_aes_encrypt_groups(const uint8_t *schedule, size_t len, uint8_t *blocks,
+                                size_t blocks_len) {
+    for (size_t at = 0; at < blocks_len; at += GROUP * BLOCK)
+        encrypt_8(schedule, len / BLOCK - 1, blocks + at);
+}
+
+void keywrap_aes_decrypt_groups(const uint8_t *schedule, size_t len, uint8_t *blocks,
+                                size_t blocks_len) {
+    uint8_t inverted[SCHEDULE];
+    invert(schedule, len / BLOCK - 1, inverted);
+    for (size_t at = 0; at < blocks_len; at += GROUP * BLOCK)
+        decrypt_8(inverted, len / BLOCK - 1, blocks + at);
+    forget(inverted, len / BLOCK - 1);
 }
 
 #else
@@ -21530,7 +21521,7 @@ typedef int of_another_processor;
 /* HWCAP_AES of Linux, asm/hwcap.h. */
 enum { HAS_AES = 1 << 3 };
 
-int has_instructions(void) {
+bool keywrap_aes_has_instructions(void) {
     return (getauxval(AT_HWCAP) & HAS_AES) != 0;
 }
 
@@ -21540,69 +21531,58 @@ BY_AES static uint32_t sub_word(uint32_t word) {
     return vgetq_lane_u32(vreinterpretq_u32_u8(vaeseq_u8(columns, vdupq_n_u8(0))), 0);
 }
 
-static uint32_t word_at(const struct aes *aes, unsigned i) {
+static uint32_t word_at(const uint8_t *schedule, size_t i) {
     uint32_t word;
-    memcpy(&word, aes->keys + 4 * i, 4);
+    memcpy(&word, schedule + 4 * i, 4);
     return word;
 }
 
 /* Words are in the order of their bytes in memory. */
-void expand(struct aes *aes, const uint8_t *kek) {
-    unsigned n = aes->rounds - 6;
+void keywrap_aes_expand(const uint8_t *kek, size_t kek_len, uint8_t *schedule, size_t len) {
+    const size_t n = kek_len / 4;
     uint32_t constant = 1;
-    memcpy(aes->own, kek, 4 * n);
-    for (unsigned i = n; i < 4 * (aes->rounds + 1); i++) {
-        uint32_t word = word_at(aes, i - 1);
+    memcpy(schedule, kek, kek_len);
+    for (size_t i = n; i < len / 4; i++) {
+        uint32_t word = word_at(schedule, i - 1);
         if (i % n == 0) {
             word = sub_word(word >> 8 | word << 24) ^ constant;
             constant = constant << 1 ^ (constant >> 7) * 0x11b;
         } else if (n == 8 && i % n == 4) {
             word = sub_word(word);
         }
-        word ^= word_at(aes, i - n);
-        memcpy(aes->own + 4 * i, &word, 4);
+        word ^= word_at(schedule, i - n);
+        memcpy(schedule + 4 * i, &word, 4);
     }
 }
 
-static uint8x16_t round_key(const struct aes *aes, unsigned i) {
-    return vld1q_u8(aes->keys + BLOCK * i);
+static uint8x16_t round_key(const uint8_t *schedule, size_t i) {
+    return vld1q_u8(schedule + BLOCK * i);
 }
 
-static void set_round_key(struct aes *aes, unsigned i, uint8x16_t key) {
-    vst1q_u8(aes->own + BLOCK * i, key);
-}
-
-/* In the other order, with all but the outer two mixed. */
-BY_AES void invert(struct aes *aes) {
-    unsigned low = 1, high = aes->rounds - 1;
-    uint8x16_t first = round_key(aes, 0);
-    set_round_key(aes, 0, round_key(aes, aes->rounds));
-    set_round_key(aes, aes->rounds, first);
-    for (; low <= high; low++, high--) {
-        uint8x16_t key = vaesimcq_u8(round_key(aes, low));
-        set_round_key(aes, low, vaesimcq_u8(round_key(aes, high)));
-        set_round_key(aes, high, key);
-    }
+static void set_round_key(uint8_t *schedule, size_t i, uint8x16_t key) {
+    vst1q_u8(schedule + BLOCK * i, key);
 }
 
 static uint8x16_t load(const uint8_t block[BLOCK]) {
     return vcombine_u8(vld1_u8(block), vld1_u8(block + 8));
 }
 
-BY_AES void encrypt_block(const struct aes *aes, uint8_t block[BLOCK]) {
+BY_AES void keywrap_aes_encrypt(const uint8_t *schedule, size_t len, uint8_t block[BLOCK]) {
+    const size_t last = len / BLOCK - 2;
     uint8x16_t state = load(block);
-    unsigned last = aes->rounds - 1;
-    for (unsigned i = 0; i < last; i++) state = vaesmcq_u8(vaeseq_u8(state, round_key(aes, i)));
-    state = vaeseq_u8(state, round_key(aes, last));
-    vst1q_u8(block, veorq_u8(state, round_key(aes, aes->rounds)));
+    for (size_t i = 0; i < last; i++) state = vaesmcq_u8(vaeseq_u8(state, round_key(schedule, i)));
+    state = vaeseq_u8(state, round_key(schedule, last));
+    vst1q_u8(block, veorq_u8(state, round_key(schedule, last + 1)));
 }
 
-BY_AES void decrypt_block(const struct aes *aes, uint8_t block[BLOCK]) {
-    uint8x16_t state = load(block);
-    unsigned last = aes->rounds - 1;
-    for (unsigned i = 0; i < last; i++) state = vaesimcq_u8(vaesdq_u8(state, round_key(aes, i)));
-    state = vaesdq_u8(state, round_key(aes, last));
-    vst1q_u8(block, veorq_u8(state, round_key(aes, aes->rounds)));
+/* The equivalent inverse cipher (section 5.3.5). Its round keys are made on the way: this does not
+ * wait for the block. */
+BY_AES void keywrap_aes_decrypt(const uint8_t *schedule, size_t len, uint8_t block[BLOCK]) {
+    size_t i = len / BLOCK - 1;
+    uint8x16_t state = vaesimcq_u8(vaesdq_u8(load(block), round_key(schedule, i)));
+    while (--i > 1) state = vaesimcq_u8(vaesdq_u8(state, vaesimcq_u8(round_key(schedule, i))));
+    state = vaesdq_u8(state, vaesimcq_u8(round_key(schedule, 1)));
+    vst1q_u8(block, veorq_u8(state, round_key(schedule, 0)));
 }
 
 #define EACH(X) X(0) X(1) X(2) X(3) X(4) X(5) X(6) X(7)
@@ -21613,67 +21593,86 @@ BY_AES void decrypt_block(const struct aes *aes, uint8_t block[BLOCK]) {
 #define DECRYPT(i) b##i = vaesimcq_u8(vaesdq_u8(b##i, key));
 #define DECRYPT_LAST(i) b##i = vaesdq_u8(b##i, key);
 
-BY_AES void encrypt_8_blocks(const struct aes *aes, uint8_t blocks[8 * BLOCK]) {
-    uint8x16_t key = round_key(aes, 0);
+BY_AES static void encrypt_8(const uint8_t *schedule, size_t rounds, uint8_t *blocks) {
+    uint8x16_t key = round_key(schedule, 0);
     EACH(BEGIN)
-    for (unsigned i = 1; i < aes->rounds; i++) {
+    for (size_t i = 1; i < rounds; i++) {
         EACH(ENCRYPT)
-        key = round_key(aes, i);
+        key = round_key(schedule, i);
     }
     EACH(ENCRYPT_LAST)
-    key = round_key(aes, aes->rounds);
+    key = round_key(schedule, rounds);
     EACH(END)
 }
 
-BY_AES void decrypt_8_blocks(const struct aes *aes, uint8_t blocks[8 * BLOCK]) {
-    uint8x16_t key = round_key(aes, 0);
+/* By a schedule that is inverted. */
+BY_AES static void decrypt_8(const uint8_t *inverted, size_t rounds, uint8_t *blocks) {
+    uint8x16_t key = round_key(inverted, 0);
     EACH(BEGIN)
-    for (unsigned i = 1; i < aes->rounds; i++) {
+    for (size_t i = 1; i < rounds; i++) {
         EACH(DECRYPT)
-        key = round_key(aes, i);
+        key = round_key(inverted, i);
     }
     EACH(DECRYPT_LAST)
-    key = round_key(aes, aes->rounds);
+    key = round_key(inverted, rounds);
     EACH(END)
+}
+
+/* The schedule of the equivalent inverse cipher (section 5.3.5): in the other order, with all round
+ * keys but the outer two mixed. */
+BY_AES static void invert(const uint8_t *schedule, size_t rounds, uint8_t *inverted) {
+    set_round_key(inverted, 0, round_key(schedule, rounds));
+    for (size_t i = 1; i < rounds; i++)
+        set_round_key(inverted, i, vaesimcq_u8(round_key(schedule, rounds - i)));
+    set_round_key(inverted, rounds, round_key(schedule, 0));
+}
+
+void keywrap_aes_encrypt_groups(const uint8_t *schedule, size_t len, uint8_t *blocks,
+                                size_t blocks_len) {
+    for (size_t at = 0; at < blocks_len; at += GROUP * BLOCK)
+        encrypt_8(schedule, len / BLOCK - 1, blocks + at);
+}
+
+void keywrap_aes_decrypt_groups(const uint8_t *schedule, size_t len, uint8_t *blocks,
+                                size_t blocks_len) {
+    uint8_t inverted[SCHEDULE];
+    invert(schedule, len / BLOCK - 1, inverted);
+    for (size_t at = 0; at < blocks_len; at += GROUP * BLOCK)
+        decrypt_8(inverted, len / BLOCK - 1, blocks + at);
+    wipe(inverted, len);
 }
 
 #else
 typedef int of_another_processor;
 #endif
 
-/* aes.c: the schedules of a KEK, and the known-answer test. */
+/* aes.c: whether the processor's AES is used, and the blocks that are not a whole group. */
 
 
+typedef void crypt_groups(const uint8_t *schedule, size_t len, uint8_t *blocks, size_t blocks_len);
 
-void aes_clear(struct aes *aes) {
-    if (aes->keys == aes->own) wipe(aes->own, BLOCK * (aes->rounds + 1));
-}
-
-/* Key expansion (FIPS 197, section 5.2), or what a kept KEK has of it behind its mark. */
-void aes_set_encrypt(struct aes *aes, const uint8_t *kek, size_t kek_len) {
-    if (kek_len > 32) {
-        aes->rounds = (unsigned)kek_len / BLOCK - 1;
-        aes->keys = kek + 8;
-    } else {
-        aes->rounds = (unsigned)kek_len / 4 + 6;
-        aes->keys = aes->own;
-        expand(aes, kek);
+/* The blocks behind the last whole group become a group of their own. */
+static void crypt_many(crypt_groups *groups, const uint8_t *schedule, size_t len, uint8_t *blocks,
+                       size_t blocks_len) {
+    const size_t rest = blocks_len % (GROUP * BLOCK);
+    groups(schedule, len, blocks, blocks_len - rest);
+    if (rest != 0) {
+        uint8_t group[GROUP * BLOCK] = {0};
+        memcpy(group, blocks + blocks_len - rest, rest);
+        groups(schedule, len, group, sizeof group);
+        memcpy(blocks + blocks_len - rest, group, rest);
+        wipe(group, sizeof group);
     }
 }
 
-/* The schedule of the equivalent inverse cipher (section 5.3.5). */
-void aes_set_decrypt(struct aes *aes, const uint8_t *kek, size_t kek_len) {
-    aes_set_encrypt(aes, kek, kek_len);
-    invert(aes);
-    aes->keys = aes->own;
+void keywrap_aes_encrypt_many(const uint8_t *schedule, size_t len, uint8_t *blocks,
+                              size_t blocks_len) {
+    crypt_many(keywrap_aes_encrypt_groups, schedule, len, blocks, blocks_len);
 }
 
-void aes_encrypt_many(const struct aes *aes, uint8_t *blocks, size_t count) {
-    for (size_t i = 0; i < count; i += 8) encrypt_8_blocks(aes, blocks + BLOCK * i);
-}
-
-void aes_decrypt_many(const struct aes *aes, uint8_t *blocks, size_t count) {
-    for (size_t i = 0; i < count; i += 8) decrypt_8_blocks(aes, blocks + BLOCK * i);
+void keywrap_aes_decrypt_many(const uint8_t *schedule, size_t len, uint8_t *blocks,
+                              size_t blocks_len) {
+    crypt_many(keywrap_aes_decrypt_groups, schedule, len, blocks, blocks_len);
 }
 
 /* FIPS 197, appendix C: 00112233445566778899aabbccddeeff under the keys that count from 00. */
@@ -21686,42 +21685,89 @@ static const uint8_t CIPHERTEXTS[3][BLOCK] = {
      0x89},
 };
 
-/* Whether each of 8 blocks is this one. */
-static int are_all(const uint8_t blocks[8 * BLOCK], const uint8_t block[BLOCK]) {
-    int same = 1;
-    for (unsigned i = 0; i < 8; i++) same &= memcmp(blocks + BLOCK * i, block, BLOCK) == 0;
+/* A group and the blocks of most of another. */
+enum { TESTED = 2 * GROUP - 1 };
+
+/* Whether each of these blocks is this one. */
+static bool are_all(const uint8_t blocks[TESTED * BLOCK], const uint8_t block[BLOCK]) {
+    bool same = true;
+    for (unsigned i = 0; i < TESTED; i++) same &= memcmp(blocks + BLOCK * i, block, BLOCK) == 0;
     return same;
 }
 
-int aes_known_answers(void) {
-    uint8_t kek[32], plaintext[BLOCK], block[BLOCK], blocks[8 * BLOCK];
+bool keywrap_aes_known_answers(void) {
+    uint8_t kek[32], plaintext[BLOCK], block[BLOCK], blocks[TESTED * BLOCK];
+    uint8_t schedule[SCHEDULE];
     for (unsigned i = 0; i < sizeof kek; i++) kek[i] = (uint8_t)i;
     for (unsigned i = 0; i < BLOCK; i++) block[i] = plaintext[i] = (uint8_t)(0x11 * i);
-    for (unsigned i = 0; i < 8; i++) memcpy(blocks + BLOCK * i, plaintext, BLOCK);
+    for (unsigned i = 0; i < TESTED; i++) memcpy(blocks + BLOCK * i, plaintext, BLOCK);
     for (unsigned i = 0; i < 3; i++) {
-        struct aes aes;
-        aes_set_encrypt(&aes, kek, 16 + 8 * i);
-        encrypt_block(&aes, block);
-        encrypt_8_blocks(&aes, blocks);
-        if (memcmp(block, CIPHERTEXTS[i], BLOCK) != 0 || !are_all(blocks, block)) return 0;
-        aes_set_decrypt(&aes, kek, 16 + 8 * i);
-        decrypt_block(&aes, block);
-        decrypt_8_blocks(&aes, blocks);
-        if (memcmp(block, plaintext, BLOCK) != 0 || !are_all(blocks, block)) return 0;
+        const size_t len = 176 + 32 * i;
+        keywrap_aes_expand(kek, 16 + 8 * i, schedule, len);
+        keywrap_aes_encrypt(schedule, len, block);
+        keywrap_aes_encrypt_many(schedule, len, blocks, sizeof blocks);
+        if (memcmp(block, CIPHERTEXTS[i], BLOCK) != 0 || !are_all(blocks, block)) return false;
+        keywrap_aes_decrypt(schedule, len, block);
+        keywrap_aes_decrypt_many(schedule, len, blocks, sizeof blocks);
+        if (memcmp(block, plaintext, BLOCK) != 0 || !are_all(blocks, block)) return false;
     }
-    return 1;
+    return true;
 }
 
-int aes_works(void) {
+bool keywrap_aes_available(void) {
     enum { UNKNOWN, WORKS, MISSING };
     static int state = UNKNOWN;
     int known = __atomic_load_n(&state, __ATOMIC_ACQUIRE);
     if (known == UNKNOWN) {
-        known = has_instructions() && aes_known_answers() ? WORKS : MISSING;
+        const bool works = keywrap_aes_has_instructions() && keywrap_aes_known_answers();
+        known = works ? WORKS : MISSING;
         __atomic_store_n(&state, known, __ATOMIC_RELEASE);
     }
     return known == WORKS;
 }
+
+/* run.h: what the calls for one key and those for many share. */
+
+#ifndef HARDWARE_RUN_H
+#define HARDWARE_RUN_H
+
+
+static const uint8_t DEFAULT_IV[8] = {0xa6, 0xa6, 0xa6, 0xa6, 0xa6, 0xa6, 0xa6, 0xa6};
+
+/* On a processor without the instructions a call is the proved one of the whole library, by its name in
+ * c/hardware/names. */
+#define OR_PROVED(call, ...)                                 \
+    extern __typeof__(keywrap_##call) proved_keywrap_##call; \
+    if (!keywrap_aes_available()) return proved_keywrap_##call(__VA_ARGS__)
+
+/* AES under one KEK: its key schedule, in memory of its own or in a kept KEK. */
+struct aes {
+    uint8_t own[SCHEDULE];
+    const uint8_t *schedule;
+    size_t len;
+};
+
+/* Takes a KEK of 16, 24 or 32 bytes, or a kept KEK, which a proved call has checked. */
+static APART void aes_set(struct aes *aes, const uint8_t *kek, size_t kek_len);
+
+/* Clears the schedule, except that of a kept KEK. */
+static APART void aes_clear(struct aes *aes);
+
+/* A wrapping or an unwrapping that has begun. */
+struct run {
+    uint64_t steps;
+    uint8_t block[BLOCK];
+};
+
+/* The calls for one key in place, in the form of the flags, whose arguments are checked. */
+static APART int32_t wrap_slot(const uint8_t *kek, size_t kek_len, uint32_t flags, uint8_t *text,
+                  size_t text_len, size_t key_len);
+static APART int32_t unwrap_slot(const uint8_t *kek, size_t kek_len, uint32_t flags, uint8_t *text,
+                    size_t text_len, size_t *key_len);
+static APART int32_t rewrap_slot(const uint8_t *old_kek, size_t old_kek_len, const uint8_t *new_kek,
+                    size_t new_kek_len, uint8_t *text, size_t text_len, uint32_t flags);
+
+#endif
 
 /* checks.c: the calls of keywrap_checks.h. */
 
@@ -21807,15 +21853,32 @@ static int32_t keywrap_end_rewrap(uint32_t status, uint32_t *already) {
 
 
 
+void aes_set(struct aes *aes, const uint8_t *kek, size_t kek_len) {
+    if (kek_len > 32) {
+        /* A kept KEK has its schedule behind 8 bytes. */
+        aes->schedule = kek + 8;
+        aes->len = kek_len - 8;
+    } else {
+        aes->schedule = aes->own;
+        aes->len = 4 * kek_len + 112;
+        keywrap_aes_expand(kek, kek_len, aes->own, aes->len);
+    }
+}
+
+void aes_clear(struct aes *aes) {
+    if (aes->schedule == aes->own) wipe(aes->own, aes->len);
+}
+
 /* Makes all steps over the registers, or undoes them. */
 static inline void run_steps(const uint8_t *kek, size_t kek_len, int decrypts, struct run *run,
                              uint8_t *registers, size_t len) {
     const uint64_t end = decrypts ? 0 : keywrap_step_count(len);
     int32_t status = KEYWRAP_OK;
     struct aes aes;
-    decrypts ? aes_set_decrypt(&aes, kek, kek_len) : aes_set_encrypt(&aes, kek, kek_len);
+    aes_set(&aes, kek, kek_len);
     while (status == KEYWRAP_OK && run->steps != end) {
-        decrypts ? decrypt_block(&aes, run->block) : encrypt_block(&aes, run->block);
+        decrypts ? keywrap_aes_decrypt(aes.schedule, aes.len, run->block)
+                 : keywrap_aes_encrypt(aes.schedule, aes.len, run->block);
         status = decrypts ? keywrap_step_unwrap(registers, len, &run->steps, run->block)
                           : keywrap_step_wrap(registers, len, &run->steps, run->block);
     }
@@ -22026,7 +22089,7 @@ int32_t keywrap_rewrap_in_place(const uint8_t *old_kek, size_t old_kek_len, cons
 
 int32_t keywrap_self_test(void) {
     extern __typeof__(keywrap_self_test) proved_keywrap_self_test;
-    if (aes_works() && !aes_known_answers()) return KEYWRAP_INTEGRITY;
+    if (keywrap_aes_available() && !keywrap_aes_known_answers()) return KEYWRAP_INTEGRITY;
     return proved_keywrap_self_test();
 }
 
@@ -22106,17 +22169,15 @@ static void next_turn(struct turn *turn, uint8_t *texts, size_t count) {
     turn->steps = 0;
 }
 
-/* Makes all steps of wrappings that have begun, or undoes those of unwrappings, over whole groups of
- * 8 blocks. */
+/* Makes all steps of wrappings that have begun, or undoes those of unwrappings. */
 static void run_turn(const struct aes *aes, int decrypts, struct turn *turn) {
     const size_t len = turn->text_len, texts_len = len * turn->count,
                  of_blocks = BLOCK * turn->count;
-    const size_t grouped = (turn->count + 7) / 8 * 8;
     const uint64_t end = decrypts ? 0 : keywrap_step_count(turn->text_len - 8);
     int32_t status = KEYWRAP_OK;
     while (status == KEYWRAP_OK && turn->steps != end) {
-        decrypts ? aes_decrypt_many(aes, turn->blocks, grouped)
-                 : aes_encrypt_many(aes, turn->blocks, grouped);
+        decrypts ? keywrap_aes_decrypt_many(aes->schedule, aes->len, turn->blocks, of_blocks)
+                 : keywrap_aes_encrypt_many(aes->schedule, aes->len, turn->blocks, of_blocks);
         status = decrypts ? keywrap_step_unwrap_many(turn->texts, texts_len, len, &turn->steps,
                                                      turn->blocks, of_blocks)
                           : keywrap_step_wrap_many(turn->texts, texts_len, len, &turn->steps,
@@ -22132,11 +22193,11 @@ static void unwrap_turn(const struct aes *aes, struct turn *turn) {
     if (status == KEYWRAP_OK) run_turn(aes, 1, turn);
 }
 
-/* What the bits of a phase ask for; and a turn of a rewrap: the schedules by these bits, the texts as
- * they were, and for each lane its phase and its steps. */
+/* What the bits of a phase ask for; and a turn of a rewrap: AES under both KEKs, the texts as they
+ * were, and for each lane its phase and its steps. */
 enum { OPERATION = KEYWRAP_DECRYPT | KEYWRAP_NEW };
 struct rewraps {
-    struct aes of[OPERATION + 1];
+    struct aes old_aes, new_aes;
     uint8_t before[COPIED * LANES];
     uint32_t phases[LANES];
     uint64_t steps[LANES];
@@ -22157,6 +22218,7 @@ static void copy_lanes(struct turn *turn, struct turn *part, const size_t *lanes
 static void run_lanes(struct rewraps *rewraps, struct turn *turn, size_t first, uint32_t flags,
                       uint8_t *statuses) {
     const uint32_t operation = rewraps->phases[first] & OPERATION;
+    const struct aes *aes = operation & KEYWRAP_NEW ? &rewraps->new_aes : &rewraps->old_aes;
     uint8_t copies[COPIED * LANES];
     size_t lanes[LANES], count = 0;
     for (size_t i = first; i < turn->count; i++)
@@ -22164,11 +22226,11 @@ static void run_lanes(struct rewraps *rewraps, struct turn *turn, size_t first, 
             lanes[count++] = i;
     turn->steps = rewraps->steps[first];
     if (count == turn->count) {
-        run_turn(&rewraps->of[operation], operation & KEYWRAP_DECRYPT, turn);
+        run_turn(aes, operation & KEYWRAP_DECRYPT, turn);
     } else {
         struct turn part = {copies, turn->text_len, count, turn->steps, {0}};
         copy_lanes(turn, &part, lanes, 0);
-        run_turn(&rewraps->of[operation], operation & KEYWRAP_DECRYPT, &part);
+        run_turn(aes, operation & KEYWRAP_DECRYPT, &part);
         copy_lanes(turn, &part, lanes, 1);
         turn->steps = part.steps;
         wipe(copies, turn->text_len * count);
@@ -22213,10 +22275,8 @@ int32_t keywrap_rewrap_many(const uint8_t *old_kek, size_t old_kek_len, const ui
         return KEYWRAP_OK;
     }
     struct rewraps rewraps;
-    aes_set_encrypt(&rewraps.of[0], old_kek, old_kek_len);
-    aes_set_decrypt(&rewraps.of[KEYWRAP_DECRYPT], old_kek, old_kek_len);
-    aes_set_encrypt(&rewraps.of[KEYWRAP_NEW], new_kek, new_kek_len);
-    aes_set_decrypt(&rewraps.of[OPERATION], new_kek, new_kek_len);
+    aes_set(&rewraps.old_aes, old_kek, old_kek_len);
+    aes_set(&rewraps.new_aes, new_kek, new_kek_len);
     struct turn turn = {.text_len = text_len};
     for (size_t i = 0; i < count; i += LANES) {
         next_turn(&turn, texts + text_len * i, count - i);
@@ -22239,7 +22299,7 @@ int32_t keywrap_wrap_many(const uint8_t *kek, size_t kek_len, uint8_t *texts, si
         return KEYWRAP_OK;
     }
     struct aes aes;
-    aes_set_encrypt(&aes, kek, kek_len);
+    aes_set(&aes, kek, kek_len);
     struct turn turn = {.text_len = text_len};
     for (size_t i = 0; i < count; i += LANES) {
         next_turn(&turn, texts + text_len * i, count - i);
@@ -22273,7 +22333,7 @@ int32_t keywrap_unwrap_many(const uint8_t *kek, size_t kek_len, uint8_t *texts, 
         return KEYWRAP_OK;
     }
     struct aes aes;
-    aes_set_decrypt(&aes, kek, kek_len);
+    aes_set(&aes, kek, kek_len);
     struct turn turn = {.text_len = text_len};
     for (size_t i = 0; i < count; i += LANES) {
         next_turn(&turn, texts + text_len * i, count - i);
@@ -22312,7 +22372,7 @@ int32_t keywrap_kind_many(const uint8_t *kek, size_t kek_len, const uint8_t *tex
     }
     uint8_t copy[COPIED * LANES];
     struct aes aes;
-    aes_set_decrypt(&aes, kek, kek_len);
+    aes_set(&aes, kek, kek_len);
     struct turn turn = {.text_len = text_len};
     for (size_t i = 0; i < count; i += LANES) {
         next_turn(&turn, copy, count - i);
