@@ -9,8 +9,8 @@
  *
  * It has four parts: the runtime; the module, which wasm2c translated from the WebAssembly that the
  * proved source compiles to; the calls, which let the module work in the caller's buffers; and, for
- * gcc and clang on x86-64 and on aarch64 with Linux, AES by the processor's instructions around the
- * proved steps. All but the module is written by hand.
+ * gcc and clang on x86-64 and on aarch64 with Linux or by Apple, AES by the processor's instructions
+ * around the proved steps. All but the module is written by hand.
  *
  * Macros, all optional:
  *   KEYWRAP_NO_AES_INSTRUCTIONS   always uses the module's AES, which looks up tables
@@ -31,7 +31,10 @@
 #else
 #define MODULE_ORDER(value, len) (value)
 #endif
-#if defined(__GNUC__) && (defined(__x86_64__) || (defined(__aarch64__) && defined(__linux__)))     \
+#if defined(__aarch64__) && (defined(__linux__) || defined(__ARM_FEATURE_AES))
+#define AARCH64_WITH_AES
+#endif
+#if (defined(__GNUC__) || defined(__clang__)) && (defined(__x86_64__) || defined(AARCH64_WITH_AES)) \
     && !defined(KEYWRAP_NO_AES_INSTRUCTIONS) && !defined(KEYWRAP_STEPS_ONLY)
 #define WITH_AES
 #endif
@@ -21509,7 +21512,9 @@ typedef int of_another_processor;
 #ifdef __aarch64__
 
 #include <arm_neon.h>
+#ifndef __ARM_FEATURE_AES
 #include <sys/auxv.h>
+#endif
 
 
 #ifdef __clang__
@@ -21518,11 +21523,14 @@ typedef int of_another_processor;
 #define BY_AES __attribute__((target("+crypto")))
 #endif
 
-/* HWCAP_AES of Linux, asm/hwcap.h. */
-enum { HAS_AES = 1 << 3 };
-
+/* The compiler knows it of every processor of Apple. Otherwise Linux is asked: HWCAP_AES of asm/hwcap.h. */
 bool keywrap_aes_has_instructions(void) {
+#ifdef __ARM_FEATURE_AES
+    return 1;
+#else
+    enum { HAS_AES = 1 << 3 };
     return (getauxval(AT_HWCAP) & HAS_AES) != 0;
+#endif
 }
 
 /* ShiftRows changes nothing in a block of four equal columns. */

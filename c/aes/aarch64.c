@@ -4,7 +4,9 @@
 #ifdef __aarch64__
 
 #include <arm_neon.h>
+#ifndef __ARM_FEATURE_AES
 #include <sys/auxv.h>
+#endif
 
 #include "aes.h"
 
@@ -14,11 +16,14 @@
 #define BY_AES __attribute__((target("+crypto")))
 #endif
 
-/* HWCAP_AES of Linux, asm/hwcap.h. */
-enum { HAS_AES = 1 << 3 };
-
+/* The compiler knows it of every processor of Apple. Otherwise Linux is asked: HWCAP_AES of asm/hwcap.h. */
 bool keywrap_aes_has_instructions(void) {
+#ifdef __ARM_FEATURE_AES
+    return 1;
+#else
+    enum { HAS_AES = 1 << 3 };
     return (getauxval(AT_HWCAP) & HAS_AES) != 0;
+#endif
 }
 
 /* ShiftRows changes nothing in a block of four equal columns. */

@@ -9,7 +9,7 @@
 
 enum { BLOCK = 16, PAIR = 2 * BLOCK, ROUNDS_AT = 15 * PAIR };
 
-#if defined __GNUC__ && !defined KEYWRAP_NO_AES_INSTRUCTIONS
+#if (defined __GNUC__ || defined __clang__) && !defined KEYWRAP_NO_AES_INSTRUCTIONS
 
 #if defined __x86_64__
 
@@ -41,10 +41,12 @@ static int has_aes_instructions(void) {
     return has_bit(bit_SSSE3) && has_bit(bit_AES);
 }
 
-#elif defined __aarch64__ && defined __linux__
+#elif defined __aarch64__ && (defined __linux__ || defined __ARM_FEATURE_AES)
 
 #include <arm_neon.h>
+#ifndef __ARM_FEATURE_AES
 #include <sys/auxv.h>
+#endif
 
 #define WITH_AES
 #ifdef __clang__
@@ -66,9 +68,14 @@ static int has_shuffle_instruction(void) {
     return 1;
 }
 
+/* The compiler knows it of every processor of Apple. Otherwise Linux is asked: HWCAP_AES of asm/hwcap.h. */
 static int has_aes_instructions(void) {
-    enum { HAS_AES = 1 << 3 }; /* HWCAP_AES of Linux, asm/hwcap.h */
+#ifdef __ARM_FEATURE_AES
+    return 1;
+#else
+    enum { HAS_AES = 1 << 3 };
     return (getauxval(AT_HWCAP) & HAS_AES) != 0;
+#endif
 }
 
 #endif

@@ -117,12 +117,28 @@ void host___lshrti3(u64 result, u64 low, u64 high, u32 by) {
 
 /*** The program ***/
 
+#ifdef _WIN32
+/* The module's message names the key that ends a typed input on POSIX. */
+static void name_the_key_of_windows(void) {
+    static const char MESSAGE[] = "; Ctrl-D ends it";
+    for (size_t at = TOP; at + sizeof MESSAGE <= SIZE; at++)
+        if (!memcmp(memory + at, MESSAGE, sizeof MESSAGE - 1)) {
+            memory[at + sizeof "; Ctrl-" - 1] = 'Z';
+            return;
+        }
+    abort();
+}
+#endif
+
 int run_program(int count, char **words) {
     static const char BUILD[] = "built from C (dist/command)\n";
     int status;
     arg_count = count;
     args = words;
     memcpy(memory + TOP, constants, sizeof constants);
+#ifdef _WIN32
+    name_the_key_of_windows();
+#endif
     status = (int)module_main(0, 0);
     /* After `--version` alone a second line says which build this is. */
     if (status == 0 && count == 2 && (!strcmp(words[1], "--version") || !strcmp(words[1], "-V"))
