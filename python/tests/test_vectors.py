@@ -25,8 +25,8 @@ def text_of(name):
         return file.read().decode()
 
 
-class TestCommand:
-    """Requests and responses are NIST's, with and without the answers."""
+class Files:
+    """Runs the command over files."""
 
     @pytest.fixture(autouse=True)
     def in_directory(self, tmp_path, monkeypatch):
@@ -42,173 +42,51 @@ class TestCommand:
         )
         return ended.returncode, ended.stdout.decode(), ended.stderr.decode()
 
+
+class TestCavp(Files):
+    """Requests and responses are NIST's, with and without the answers."""
+
     @pytest.mark.parametrize("name", FILES)
     def test_response_to_cavp(self, name):
         text = text_of(f"kwtestvectors/{name}.txt")
-        request = re.sub(
-            r"^(P = \w+|FAIL)\r?\n" if "AD" in name else r"^C = \w+\r?\n",
-            "",
-            text,
-            flags=re.M,
-        )
+        answer = r"^(P = \w+|FAIL)\r?\n" if "AD" in name else r"^C = \w+\r?\n"
+        request = re.sub(answer, "", text, flags=re.M)
         assert request.count("COUNT") == 500 and len(request) < len(text)
         assert self.command(request=request) == (0, text, "")
         # The last line of a file may have no end.
         status, out, err = self.command(request=request.rstrip())
         assert (status, out.rstrip(), err) == (0, text.rstrip(), "")
 
-    def test_wrong_digit(self):
-        right, refusals = (
-            text_of("kwtestvectors/KWP_AD_192.txt"),
-            "500 cases: 400 answered, 100 refused, 0 of them",
-        )
-        assert self.command(file=right) == (
-            0,
-            f"file: {refusals} acceptable, 0 wrong\n",
-            "",
-        )
-        section = right.index("[PLAINTEXT LENGTH = 64]")
-        for value in "K", "C", "P":
-            # The first case of this section that has a key.
-            found = re.compile(
-                rf"COUNT = (\d+)\r\nK = (\w+)\r\nC = (\w+)\r\nP = (\w+)"
-            ).search(right, section)
-            start = found.start("KCP".index(value) + 2)
-            status, out, err = self.command(
-                file=right[:start]
-                + f"{int(right[start], 16) ^ 1:x}"
-                + right[start + 1 :]
-            )
-            counts = (
-                refusals
-                if value == "P"
-                else refusals.replace("400", "399").replace("100", "101")
-            )
-            assert (status, out) == (5, f"file: {counts} acceptable, 1 wrong\n")
-            name = f"[PLAINTEXT LENGTH = 64] COUNT = {found[1]}"
-            assert (
-                err == f"keywrap.vectors: file: {name}: wrong answer of unwrap_padded\n"
-            )
+    def test_right_file(self):
+        right = text_of("kwtestvectors/KWP_AD_192.txt")
+        counts = "500 cases: 400 answered, 100 refused, 0 of them acceptable, 0 wrong"
+        assert self.command(file=right) == (0, f"file: {counts}\n", "")
 
-    def test_acvp(self):
-        kek, key = bytes(range(16)), bytes(range(100, 124))
-        groups = [
-            {
-                "tgId": 1,
-                "direction": "encrypt",
-                "kwCipher": "cipher",
-                "tests": [{"tcId": 1, "key": kek.hex(), "pt": key.hex()}],
-            },
-            {
-                "tgId": 2,
-                "direction": "decrypt",
-                "kwCipher": "cipher",
-                "tests": [
-                    {
-                        "tcId": 2,
-                        "key": kek.hex(),
-                        "ct": keywrap.wrap_padded(kek, key[:5]).hex(),
-                    },
-                    {"tcId": 3, "key": kek.hex(), "ct": bytes(16).hex()},
-                ],
-            },
-        ]
-        request = json.dumps(
-            [
-                {"url": "here"},
-                {"algorithm": "ACVP-AES-KWP", "vsId": 9, "testGroups": groups},
-            ]
+    @pytest.mark.parametrize(
+        "value, counts",
+        [
+            ("K", "399 answered, 101 refused"),
+            ("C", "399 answered, 101 refused"),
+            ("P", "400 answered, 100 refused"),
+        ],
+    )
+    def test_wrong_digit(self, value, counts):
+        """A wrong KEK or wrapped key is refused, and a wrong key is answered by the right one."""
+        right = text_of("kwtestvectors/KWP_AD_192.txt")
+        section = "[PLAINTEXT LENGTH = 64]"
+        with_key = re.compile(
+            r"COUNT = (\d+)\r\nK = (?P<K>\w+)\r\nC = (?P<C>\w+)\r\nP = (?P<P>\w+)"
         )
-        status, out, err = self.command(request=request)
-        assert (status, err) == (0, "")
-        assert json.loads(out) == [
-            {"url": "here"},
-            {
-                "vsId": 9,
-                "testGroups": [
-                    {
-                        "tgId": 1,
-                        "tests": [
-                            {"tcId": 1, "ct": keywrap.wrap_padded(kek, key).hex()}
-                        ],
-                    },
-                    {
-                        "tgId": 2,
-                        "tests": [
-                            {"tcId": 2, "pt": key[:5].hex(), "testPassed": True},
-                            {"tcId": 3, "testPassed": False},
-                        ],
-                    },
-                ],
-            },
-        ]
-        counts = (
-            "request: 3 cases: 2 answered, 1 refused, 0 of them acceptable, {} wrong\n"
-        )
-        assert self.command(request=request, response=out) == (0, counts.format(0), "")
-        for tcid, call, wrong in [
-            (2, "unwrap_padded", out.replace(key[:5].hex(), key[1:6].hex())),
-            (3, "unwrap_padded", out.replace('"testPassed": false', '"pt": "00"')),
-        ]:
-            assert self.command(request=request, response=wrong) == (
-                5,
-                counts.format(1),
-                f"keywrap.vectors: request: tcId {tcid}: wrong answer of {call}\n",
-            )
-        assert self.command(response=out)[0] == 2
-        for more in out.replace('"tcId": 3', '"tcId": 4'), out.replace(
-            '"tests": [', '"tests": [{"tcId": 4},', 1
-        ):
-            status, _, err = self.command(request=request, response=more)
-            assert status == 2 and err.startswith("keywrap.vectors: response: ")
-        assert self.command(request=request, other=request)[:2] == (2, "")
-        inverse = request.replace('"kwCipher": "cipher"', '"kwCipher": "inverse"', 1)
-        assert self.command(request=inverse) == (
-            2,
-            "",
-            "keywrap.vectors: request: KWP with kwCipher inverse is not offered\n",
-        )
+        case = with_key.search(right, right.index(section))
+        at = case.start(value)
+        other_digit = f"{int(right[at], 16) ^ 1:x}"
+        wrong = right[:at] + other_digit + right[at + 1 :]
 
-    def test_wycheproof(self):
-        kek, key = bytes(32), b"five."
-        row = {
-            "key": kek.hex(),
-            "flags": ["SmallKey"],
-            "msg": key.hex(),
-            "ct": keywrap.wrap_padded(kek, key).hex(),
-        }
-        tests = [
-            {**row, "tcId": 1, "result": "valid"},
-            {**row, "tcId": 2, "result": "acceptable"},
-            {**row, "tcId": 3, "msg": "", "ct": "00" * 16, "result": "acceptable"},
-            {**row, "tcId": 4, "ct": "00" * 16, "result": "invalid", "flags": []},
-            {
-                **row,
-                "tcId": 5,
-                "msg": "",
-                "ct": "00" * 16,
-                "result": "invalid",
-                "flags": [],
-            },
-        ]
-        text = json.dumps({"algorithm": "KWP", "testGroups": [{"tests": tests}]})
-        assert self.command(file=text) == (
-            0,
-            "file: tcId 3 SmallKey: unwrap_padded refuses it; acceptable\n"
-            "file: tcId 3 SmallKey: wrap_padded refuses it; acceptable\n"
-            "file: 9 cases: 4 answered, 5 refused, 2 of them acceptable, 0 wrong\n",
-            "",
-        )
-        assert (
-            self.command(file=text.replace('"invalid"', '"valid"'), right=text)[0] == 5
-        )
-        assert self.command(file=text.replace('"valid"', '"invalid"'))[0] == 5
-        # An acceptable case may be refused, but not answered otherwise.
-        other = {**row, "tcId": 6, "msg": b"other".hex(), "result": "acceptable"}
-        status, out, _ = self.command(
-            file=json.dumps({"algorithm": "KWP", "testGroups": [{"tests": [other]}]})
-        )
-        assert (status, out.split(", ")[-1]) == (5, "2 wrong\n")
+        status, out, err = self.command(file=wrong)
+        counted = f"500 cases: {counts}, 0 of them acceptable, 1 wrong"
+        assert (status, out) == (5, f"file: {counted}\n")
+        name = f"{section} COUNT = {case[1]}"
+        assert err == f"keywrap.vectors: file: {name}: wrong answer of unwrap_padded\n"
 
     @pytest.mark.parametrize(
         "name", ["KW_AE_128_inv", "KWP_AD_256_inv", "TKW_AE", "Readme"]
@@ -237,3 +115,158 @@ class TestCommand:
             [sys.executable, "-m", "keywrap.vectors", "--help"], capture_output=True
         )
         assert ended.returncode == 0 and b"Exit status" in ended.stdout
+
+
+class TestAcvp(Files):
+    """A request of ACVP with one wrap and two unwraps, of which one is refused."""
+
+    KEK = bytes(range(16))
+    KEY = bytes(range(100, 124))
+    SHORT_KEY = KEY[:5]
+    WRAPPED = keywrap.wrap_padded(KEK, KEY).hex()
+    WRAPPED_SHORT_KEY = keywrap.wrap_padded(KEK, SHORT_KEY).hex()
+    NO_WRAPPING = bytes(16).hex()
+
+    ENCRYPT = {
+        "tgId": 1,
+        "direction": "encrypt",
+        "kwCipher": "cipher",
+        "tests": [{"tcId": 1, "key": KEK.hex(), "pt": KEY.hex()}],
+    }
+    DECRYPT = {
+        "tgId": 2,
+        "direction": "decrypt",
+        "kwCipher": "cipher",
+        "tests": [
+            {"tcId": 2, "key": KEK.hex(), "ct": WRAPPED_SHORT_KEY},
+            {"tcId": 3, "key": KEK.hex(), "ct": NO_WRAPPING},
+        ],
+    }
+    REQUEST = json.dumps(
+        [
+            {"url": "here"},
+            {
+                "algorithm": "ACVP-AES-KWP",
+                "vsId": 9,
+                "testGroups": [ENCRYPT, DECRYPT],
+            },
+        ]
+    )
+    ENCRYPTED = {"tgId": 1, "tests": [{"tcId": 1, "ct": WRAPPED}]}
+    DECRYPTED = {
+        "tgId": 2,
+        "tests": [
+            {"tcId": 2, "pt": SHORT_KEY.hex(), "testPassed": True},
+            {"tcId": 3, "testPassed": False},
+        ],
+    }
+    RESPONSE = [
+        {"url": "here"},
+        {"vsId": 9, "testGroups": [ENCRYPTED, DECRYPTED]},
+    ]
+    COUNTS = "request: 3 cases: 2 answered, 1 refused, 0 of them acceptable, {} wrong\n"
+
+    def test_response(self):
+        status, out, err = self.command(request=self.REQUEST)
+        assert (status, err) == (0, "")
+        assert json.loads(out) == self.RESPONSE
+        ended = self.command(request=self.REQUEST, response=out)
+        assert ended == (0, self.COUNTS.format(0), "")
+
+    @pytest.mark.parametrize(
+        "case, right, wrong",
+        [
+            (2, SHORT_KEY.hex(), KEY[1:6].hex()),
+            (3, '"testPassed": false', '"pt": "00"'),
+        ],
+        ids=["another-key", "a-key-of-none"],
+    )
+    def test_wrong_response(self, case, right, wrong):
+        response = json.dumps(self.RESPONSE).replace(right, wrong)
+        assert self.command(request=self.REQUEST, response=response) == (
+            5,
+            self.COUNTS.format(1),
+            f"keywrap.vectors: request: tcId {case}: wrong answer of unwrap_padded\n",
+        )
+
+    def test_response_alone(self):
+        status, _, _ = self.command(response=json.dumps(self.RESPONSE))
+        assert status == 2
+
+    @pytest.mark.parametrize(
+        "text, other",
+        [
+            ('"tcId": 3', '"tcId": 4'),
+            ('"tests": [', '"tests": [{"tcId": 4},'),
+        ],
+        ids=["of-another-case", "of-a-case-more"],
+    )
+    def test_response_to_another_request(self, text, other):
+        response = json.dumps(self.RESPONSE).replace(text, other, 1)
+        status, _, err = self.command(request=self.REQUEST, response=response)
+        assert status == 2 and err.startswith("keywrap.vectors: response: ")
+
+    def test_two_requests(self):
+        status, out, _ = self.command(request=self.REQUEST, other=self.REQUEST)
+        assert (status, out) == (2, "")
+
+    def test_inverse_cipher(self):
+        cipher, inverse = '"kwCipher": "cipher"', '"kwCipher": "inverse"'
+        request = self.REQUEST.replace(cipher, inverse, 1)
+        refusal = "KWP with kwCipher inverse is not offered"
+        said = f"keywrap.vectors: request: {refusal}\n"
+        assert self.command(request=request) == (2, "", said)
+
+
+class TestWycheproof(Files):
+    """A file of Wycheproof. Each case is a wrap and an unwrap, but for one without a key, which is only an unwrap."""
+
+    KEK = bytes(32)
+    KEY = b"five."
+    NO_WRAPPING = bytes(16).hex()
+    RIGHT = {
+        "key": KEK.hex(),
+        "flags": ["SmallKey"],
+        "msg": KEY.hex(),
+        "ct": keywrap.wrap_padded(KEK, KEY).hex(),
+    }
+    WRONG = {**RIGHT, "ct": NO_WRAPPING}
+    TESTS = [
+        {**RIGHT, "tcId": 1, "result": "valid"},
+        {**RIGHT, "tcId": 2, "result": "acceptable"},
+        {**WRONG, "tcId": 3, "result": "acceptable", "msg": ""},
+        {**WRONG, "tcId": 4, "result": "invalid", "flags": []},
+        {**WRONG, "tcId": 5, "result": "invalid", "flags": [], "msg": ""},
+    ]
+
+    @staticmethod
+    def file_of(tests):
+        return json.dumps({"algorithm": "KWP", "testGroups": [{"tests": tests}]})
+
+    def test_right_file(self):
+        assert self.command(file=self.file_of(self.TESTS)) == (
+            0,
+            "file: tcId 3 SmallKey: unwrap_padded refuses it; acceptable\n"
+            "file: tcId 3 SmallKey: wrap_padded refuses it; acceptable\n"
+            "file: 9 cases: 4 answered, 5 refused, 2 of them acceptable, 0 wrong\n",
+            "",
+        )
+
+    @pytest.mark.parametrize(
+        "right, wrong", [('"invalid"', '"valid"'), ('"valid"', '"invalid"')]
+    )
+    def test_wrong_verdict(self, right, wrong):
+        text = self.file_of(self.TESTS)
+        status, _, _ = self.command(file=text.replace(right, wrong), right=text)
+        assert status == 5
+
+    def test_acceptable_case_with_another_answer(self):
+        """It may be refused, but not answered otherwise."""
+        other = {
+            **self.RIGHT,
+            "tcId": 6,
+            "msg": b"other".hex(),
+            "result": "acceptable",
+        }
+        status, out, _ = self.command(file=self.file_of([other]))
+        assert (status, out.split(", ")[-1]) == (5, "2 wrong\n")
