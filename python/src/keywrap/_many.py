@@ -54,37 +54,40 @@ def _listed(items: Items, length: Optional[int]) -> List[ReadableBuffer]:
     return [view[at : at + length] for at in range(0, len(view), length)]
 
 
+def _size(item: ReadableBuffer) -> int:
+    return len(item) if type(item) is bytes else memoryview(item).nbytes
+
+
+def _joined(items: List[ReadableBuffer], zeros: int) -> bytearray:
+    """Copies the items side by side, with zeros before, between and after them. There is no other copy to wipe."""
+    if zeros == 0:
+        return bytearray().join(items)
+    return bytearray(zeros).join([b"", *items, b""])
+
+
 def _slots(
     items: Items, length: Optional[int], what: str, gap: int = 0, padded: bool = False
 ) -> _Slots:
     """Copies the items into slots, each after a gap of zeros, and if it is padded before zeros up to 8 bytes."""
     try:
         parts = _listed(items, length)
-        lengths = {
-            len(part) if type(part) is bytes else memoryview(part).nbytes
-            for part in parts
-        } or {0}
-        each, zeros = max(lengths), -max(lengths) % 8 if padded else 0
-        # One copy, and none besides it that would have to be wiped: the gaps and zeros are what joins the items.
-        buffer = bytearray(zeros + gap).join(
-            [b"", *parts, b""] if zeros + gap else parts
-        )
+        lengths = {_size(part) for part in parts} or {0}
+        longest = max(lengths)
+        padding = -longest % 8 if padded else 0
+        buffer = _joined(parts, padding + gap)
     except BadLength:
         raise
-    except (
-        TypeError,
-        ValueError,
-        BufferError,
-        NotImplementedError,
-    ):  # the last one of a view of two dimensions
+    # NotImplementedError is that of a view of two dimensions.
+    except (TypeError, ValueError, BufferError, NotImplementedError):
         raise TypeError(
             "a list of contiguous bytes-like objects is required, or one and a length"
         ) from None
-    slots = _Slots(buffer, zeros, len(parts), each)
-    if len(buffer) != len(parts) * (gap + each + zeros) + gap + zeros:
+    slots = _Slots(buffer, padding, len(parts), longest)
+    slot = gap + longest + padding
+    if len(buffer) != len(parts) * slot + gap + padding:
         slots.wipe()
         raise BadLength(
-            f"bad length: {what} is {max(lengths)} bytes long, another one {min(lengths)}"
+            f"bad length: {what} is {longest} bytes long, another one {min(lengths)}"
         )
     return slots
 
@@ -101,13 +104,13 @@ def _results(
     """Returns the result or the refusal of each slot."""
     if statuses.count(0) + statuses.count(ALREADY) == len(statuses):
         return list(results)
-    refused = (0, ALREADY)
-    return [
-        result
-        if status in refused
-        else _refusals.refusal(status, "the wrapped key", len(result), legal)
-        for result, status in zip(results, statuses)
-    ]
+    return [_result(result, status, legal) for result, status in zip(results, statuses)]
+
+
+def _result(result: bytes, status: int, legal: str) -> Union[bytes, KeywrapError]:
+    if status in (0, ALREADY):
+        return result
+    return _refusals.refusal(status, "the wrapped key", len(result), legal)
 
 
 def wrap_many(
@@ -119,7 +122,7 @@ def wrap_many(
 ) -> List[bytes]:
     """Wraps keys of one length, each as `wrap` does, or as `wrap_padded` if it is `padded`.
 
-    The keys are in a list, or, with their `length` in bytes, behind each other in one buffer. Lengths that differ raise
+    The keys are in a list, or, with their `length` in bytes, one after the other in a buffer. Lengths that differ raise
     `BadLength`. For the other exceptions see these calls.
     """
     if type(kek) is not bytes and type(kek) is not Kek:
@@ -128,19 +131,27 @@ def wrap_many(
     size = 8 + slots.length + slots.offset
     try:
         if slots.number:
-            legal = _refusals.PADDED_KEYS if padded else _refusals.PLAIN_KEYS
-            buffer, statuses = _from("uint8_t[]", slots.buffer), _new(
-                "uint8_t[]", slots.number
-            )
-            texts = buffer + slots.offset, slots.number * size, slots.length
-            flags = _lib.KEYWRAP_NEW_PADDED if padded else 0
-            status = _lib.keywrap_wrap_many(
-                kek, len(kek), *texts, flags, statuses, slots.number
-            )
-            _ended(status, "the key", slots.length, legal, kek)
+            _wrap_slots(kek, slots, size, padded)
         return slots.each(size)
     finally:
         slots.wipe()
+
+
+def _wrap_slots(kek: bytes, slots: _Slots, size: int, padded: bool) -> None:
+    """Wraps the keys in the slots, each of `size` bytes."""
+    statuses = _new("uint8_t[]", slots.number)
+    status = _lib.keywrap_wrap_many(
+        kek,
+        len(kek),
+        _from("uint8_t[]", slots.buffer) + slots.offset,
+        slots.number * size,
+        slots.length,
+        _lib.KEYWRAP_NEW_PADDED if padded else 0,
+        statuses,
+        slots.number,
+    )
+    legal = _refusals.PADDED_KEYS if padded else _refusals.PLAIN_KEYS
+    _ended(status, "the key", slots.length, legal, kek)
 
 
 def unwrap_many(
@@ -161,24 +172,35 @@ def unwrap_many(
         )
     slots = _slots(wrapped, length, "the wrapped key")
     try:
-        if not slots.number:
-            return []
-        legal = _refusals.WRAPPED_PADDED if padded else _refusals.WRAPPED_PLAIN
-        statuses, lengths = bytearray(slots.number), _new("size_t[]", slots.number)
-        texts, flags = (
-            _from(slots.buffer),
-            len(slots.buffer),
-        ), _lib.KEYWRAP_OLD_PADDED if padded else 0
-        filled = lengths, slots.number, _from(statuses), slots.number
-        status = _lib.keywrap_unwrap_many(kek, len(kek), *texts, flags, *filled)
-        _ended(status, "the wrapped key", slots.length, legal, kek)
-        begins, view = range(8, len(slots.buffer) + 8, slots.length), memoryview(
-            slots.buffer
-        )
-        keys = [bytes(view[at : at + size]) for at, size in zip(begins, lengths)]
-        return _results(keys, statuses, legal)
+        return _unwrapped(kek, slots, padded) if slots.number else []
     finally:
         slots.wipe()
+
+
+def _unwrapped(
+    kek: bytes, slots: _Slots, padded: bool
+) -> List[Union[bytes, KeywrapError]]:
+    """Unwraps the wrapped keys in the slots, and returns a copy of each key."""
+    statuses = bytearray(slots.number)
+    lengths = _new("size_t[]", slots.number)
+    status = _lib.keywrap_unwrap_many(
+        kek,
+        len(kek),
+        _from(slots.buffer),
+        len(slots.buffer),
+        _lib.KEYWRAP_OLD_PADDED if padded else 0,
+        lengths,
+        slots.number,
+        _from(statuses),
+        slots.number,
+    )
+    legal = _refusals.WRAPPED_PADDED if padded else _refusals.WRAPPED_PLAIN
+    _ended(status, "the wrapped key", slots.length, legal, kek)
+    # A key begins after the first 8 bytes of its slot.
+    view = memoryview(slots.buffer)
+    begins = range(8, len(slots.buffer) + 8, slots.length)
+    keys = [bytes(view[at : at + size]) for at, size in zip(begins, lengths)]
+    return _results(keys, statuses, legal)
 
 
 def rewrap_many(
@@ -221,17 +243,22 @@ def rewrap_slots(
     """Rewraps the wrapped keys in the slots of `texts`, and returns their statuses. A refused one stays as it is."""
     # Keys of no bytes are refused as one is.
     statuses = bytearray(len(texts) // length if length else 1)
-    if statuses:
-        keks = old_kek, len(old_kek), new_kek, len(new_kek)
-        status = _lib.keywrap_rewrap_many(
-            *keks, _from(texts), len(texts), flags, _from(statuses), len(statuses)
-        )
-        legal = (
-            _refusals.WRAPPED_PADDED
-            if flags & _EITHER_LENGTH
-            else _refusals.WRAPPED_PLAIN
-        )
-        _ended(status, "the wrapped key", length, legal, old_kek, new_kek)
+    if not statuses:
+        return statuses
+    status = _lib.keywrap_rewrap_many(
+        old_kek,
+        len(old_kek),
+        new_kek,
+        len(new_kek),
+        _from(texts),
+        len(texts),
+        flags,
+        _from(statuses),
+        len(statuses),
+    )
+    is_padded = flags & _EITHER_LENGTH
+    legal = _refusals.WRAPPED_PADDED if is_padded else _refusals.WRAPPED_PLAIN
+    _ended(status, "the wrapped key", length, legal, old_kek, new_kek)
     return statuses
 
 
@@ -255,23 +282,24 @@ def check_slots(
     """Returns for each slot a status, 0 if it is a wrapped key, and 1 if it is a padded one, else 0."""
     number = len(texts) // length if length else 0
     statuses, forms = bytearray(number), bytearray(number)
-    if number:
-        room = max(length - 8, 0)
-        scratch, lengths = _new("uint8_t[]", room), _new("size_t[]", number)
-        filled = (
-            scratch,
-            room,
-            _from(forms),
-            number,
-            lengths,
-            number,
-            _from(statuses),
-            number,
-        )
-        status = _lib.keywrap_kind_many(
-            kek, len(kek), _from(texts), len(texts), *filled
-        )
-        if status == _lib.KEYWRAP_BAD_LENGTH:
-            return bytearray([_lib.KEYWRAP_INTEGRITY]) * number, forms
-        _ended(status, "the wrapped key", length, _refusals.WRAPPED_PADDED, kek)
+    if not number:
+        return statuses, forms
+    scratch_size = max(length - 8, 0)
+    status = _lib.keywrap_kind_many(
+        kek,
+        len(kek),
+        _from(texts),
+        len(texts),
+        _new("uint8_t[]", scratch_size),
+        scratch_size,
+        _from(forms),
+        number,
+        _new("size_t[]", number),
+        number,
+        _from(statuses),
+        number,
+    )
+    if status == _lib.KEYWRAP_BAD_LENGTH:
+        return bytearray([_lib.KEYWRAP_INTEGRITY]) * number, forms
+    _ended(status, "the wrapped key", length, _refusals.WRAPPED_PADDED, kek)
     return statuses, forms
