@@ -81,48 +81,46 @@ class Cavp:
         if header is None:
             raise NotOffered("not a file of vectors for AES Key Wrap")
         form, direction, cipher, variant = header.groups()
-        if (form, cipher[:3], variant.strip()) not in [
-            (form, "AES", "cipher") for form in ("KW", "KWP")
-        ]:
+        is_aes = cipher[:3] == "AES" and variant.strip() == "cipher"
+        if form not in ("KW", "KWP") or not is_aes:
             raise NotOffered(
                 f"{form} with the {cipher} {variant}function is not offered"
             )
         self._call = _CALLS[form, direction == "E"]
         self._given, self._answer = ("C", "P") if self._call.unwraps else ("P", "C")
         self._parts = re.split(r"^(?=COUNT = |\[)", text, flags=re.M)
-        self.cases = [self._case(number) for number in self._numbers()]
+        self.cases = list(self._read())
 
     def _numbers(self) -> List[int]:
+        """Returns the numbers of the parts that are cases."""
         return [
             number
             for number, part in enumerate(self._parts)
             if part.startswith("COUNT")
         ]
 
-    def _case(self, number: int) -> Case:
-        part = self._parts[number]
+    def _read(self) -> Iterator[Case]:
+        """Yields the cases. The name of one has the section before it."""
+        section = "]"
+        for part in self._parts:
+            if part.startswith("["):
+                section = part.split("]")[0] + "]"
+            elif part.startswith("COUNT"):
+                yield self._case(section, part)
+
+    def _case(self, section: str, part: str) -> Case:
         values = dict(re.findall(r"^(\w+)(?: = (\w+))?\r?$", part, re.M))
-        section = next(
-            (part for part in self._parts[number::-1] if part[0] == "["), ""
-        ).split("]")[0]
-        name = f"{section}] COUNT = {values['COUNT']}"
-        kek, given = bytes.fromhex(values["K"]), bytes.fromhex(values[self._given])
-        if self._answer in values:
-            return Case(
-                name,
-                self._call,
-                kek,
-                given,
-                Verdict.VALID,
-                bytes.fromhex(values[self._answer]),
-            )
-        return Case(
-            name,
+        case = Case(
+            f"{section} COUNT = {values['COUNT']}",
             self._call,
-            kek,
-            given,
+            bytes.fromhex(values["K"]),
+            bytes.fromhex(values[self._given]),
             Verdict.INVALID if "FAIL" in values else Verdict.ASKED,
         )
+        if self._answer not in values:
+            return case
+        answer = bytes.fromhex(values[self._answer])
+        return case._replace(verdict=Verdict.VALID, answer=answer)
 
     def response(self, answers: Answers) -> str:
         """Returns the response to a request: its text, with a line for each answer."""
@@ -140,21 +138,21 @@ class Acvp:
 
     def __init__(self, request: List[Any]) -> None:
         self._request = request
-        form = request[-1]["algorithm"].replace("ACVP-AES-", "")
-        self.cases = []
-        for group in request[-1]["testGroups"]:
-            if (form, group["kwCipher"]) not in [("KW", "cipher"), ("KWP", "cipher")]:
-                raise NotOffered(
-                    f"{form} with kwCipher {group['kwCipher']} is not offered"
-                )
+        content = request[-1]
+        form = content["algorithm"].replace("ACVP-AES-", "")
+        self.cases: List[Case] = []
+        for group in content["testGroups"]:
+            cipher = group["kwCipher"]
+            if form not in ("KW", "KWP") or cipher != "cipher":
+                raise NotOffered(f"{form} with kwCipher {cipher} is not offered")
             call = _CALLS[form, group["direction"] == "encrypt"]
-            for test in group["tests"]:
-                kek, given = bytes.fromhex(test["key"]), bytes.fromhex(
-                    test["ct" if call.unwraps else "pt"]
-                )
-                self.cases.append(
-                    Case(f"tcId {test['tcId']}", call, kek, given, Verdict.ASKED)
-                )
+            self.cases += [self._case(call, test) for test in group["tests"]]
+
+    @staticmethod
+    def _case(call: Call, test: Dict[str, Any]) -> Case:
+        kek = bytes.fromhex(test["key"])
+        given = bytes.fromhex(test["ct" if call.unwraps else "pt"])
+        return Case(f"tcId {test['tcId']}", call, kek, given, Verdict.ASKED)
 
     def expect(self, response: List[Any]) -> None:
         """Takes the expected answers from a response."""
@@ -165,42 +163,39 @@ class Acvp:
         }
         if tests.keys() != {case.name for case in self.cases}:
             raise NotOffered("a response to other cases than the request's")
-        for number, case in enumerate(self.cases):
-            digits = tests[case.name].get("pt" if case.call.unwraps else "ct")
-            case = case._replace(
-                verdict=Verdict.INVALID if digits is None else Verdict.VALID
-            )
-            self.cases[number] = case._replace(
-                answer=None if digits is None else bytes.fromhex(digits)
-            )
+        self.cases = [self._expected(case, tests[case.name]) for case in self.cases]
+
+    @staticmethod
+    def _expected(case: Case, test: Dict[str, Any]) -> Case:
+        digits = test.get("pt" if case.call.unwraps else "ct")
+        if digits is None:
+            return case._replace(verdict=Verdict.INVALID, answer=None)
+        return case._replace(verdict=Verdict.VALID, answer=bytes.fromhex(digits))
 
     def response(self, answers: Answers) -> str:
         """Returns the response to the request."""
+        content = self._request[-1]
         given = iter(answers)
+        groups = []
+        for group in content["testGroups"]:
+            tests = [
+                self._answered(test, group["direction"], next(given))
+                for test in group["tests"]
+            ]
+            groups.append({"tgId": group["tgId"], "tests": tests})
+        head = {"vsId": content["vsId"], "testGroups": groups}
+        return json.dumps([*self._request[:-1], head], indent=2) + "\n"
 
-        def answered(test: Dict[str, Any], direction: str) -> Dict[str, Any]:
-            answer = next(given)
-            passed = (
-                {} if direction == "encrypt" else {"testPassed": answer is not None}
-            )
-            value = (
-                {}
-                if answer is None
-                else {"ct" if direction == "encrypt" else "pt": answer.hex()}
-            )
-            return {"tcId": test["tcId"], **value, **passed}
-
-        groups = [
-            {
-                "tgId": group["tgId"],
-                "tests": [
-                    answered(test, group["direction"]) for test in group["tests"]
-                ],
-            }
-            for group in self._request[-1]["testGroups"]
-        ]
-        head = [{"vsId": self._request[-1]["vsId"], "testGroups": groups}]
-        return json.dumps(self._request[:-1] + head, indent=2) + "\n"
+    @staticmethod
+    def _answered(
+        test: Dict[str, Any], direction: str, answer: Optional[bytes]
+    ) -> Dict[str, Any]:
+        answered = {"tcId": test["tcId"]}
+        if answer is not None:
+            answered["ct" if direction == "encrypt" else "pt"] = answer.hex()
+        if direction != "encrypt":
+            answered["testPassed"] = answer is not None
+        return answered
 
 
 class Wycheproof:
@@ -210,12 +205,10 @@ class Wycheproof:
         form = file["algorithm"]
         if (form, True) not in _CALLS:
             raise NotOffered(f"{form} is not offered")
-        self.cases = [
-            case
-            for group in file["testGroups"]
-            for test in group["tests"]
-            for case in self._cases(form, test)
-        ]
+        self.cases: List[Case] = []
+        for group in file["testGroups"]:
+            for test in group["tests"]:
+                self.cases += self._cases(form, test)
 
     @staticmethod
     def _cases(form: str, test: Dict[str, Any]) -> Iterator[Case]:
@@ -228,7 +221,8 @@ class Wycheproof:
             yield from case._replace(answer=key).both_ways()
             return
         yield case
-        if not key or (form == "KW" and (len(key) < 16 or len(key) % 8)):
+        is_plain_key = len(key) >= 16 and len(key) % 8 == 0
+        if not key or (form == "KW" and not is_plain_key):
             yield case._replace(call=_CALLS[form, True], given=key)
 
 
