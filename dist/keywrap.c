@@ -21657,30 +21657,35 @@ typedef int of_another_processor;
 /* aes.c: whether the processor's AES is used, and the blocks that are not a whole group. */
 
 
-typedef void crypt_groups(const uint8_t *schedule, size_t len, uint8_t *blocks, size_t blocks_len);
+static void crypt_groups(bool decrypts, const uint8_t *schedule, size_t len, uint8_t *blocks,
+                         size_t blocks_len) {
+    if (decrypts) keywrap_aes_decrypt_groups(schedule, len, blocks, blocks_len);
+    else keywrap_aes_encrypt_groups(schedule, len, blocks, blocks_len);
+}
 
 /* The blocks behind the last whole group become a group of their own. */
-static void crypt_many(crypt_groups *groups, const uint8_t *schedule, size_t len, uint8_t *blocks,
+static void crypt_many(bool decrypts, const uint8_t *schedule, size_t len, uint8_t *blocks,
                        size_t blocks_len) {
     const size_t rest = blocks_len % (GROUP * BLOCK);
-    groups(schedule, len, blocks, blocks_len - rest);
+    uint8_t *const last = blocks + blocks_len - rest;
+    if (last != blocks) crypt_groups(decrypts, schedule, len, blocks, blocks_len - rest);
     if (rest != 0) {
         uint8_t group[GROUP * BLOCK] = {0};
-        memcpy(group, blocks + blocks_len - rest, rest);
-        groups(schedule, len, group, sizeof group);
-        memcpy(blocks + blocks_len - rest, group, rest);
+        memcpy(group, last, rest);
+        crypt_groups(decrypts, schedule, len, group, sizeof group);
+        memcpy(last, group, rest);
         wipe(group, sizeof group);
     }
 }
 
 void keywrap_aes_encrypt_many(const uint8_t *schedule, size_t len, uint8_t *blocks,
                               size_t blocks_len) {
-    crypt_many(keywrap_aes_encrypt_groups, schedule, len, blocks, blocks_len);
+    crypt_many(false, schedule, len, blocks, blocks_len);
 }
 
 void keywrap_aes_decrypt_many(const uint8_t *schedule, size_t len, uint8_t *blocks,
                               size_t blocks_len) {
-    crypt_many(keywrap_aes_decrypt_groups, schedule, len, blocks, blocks_len);
+    crypt_many(true, schedule, len, blocks, blocks_len);
 }
 
 /* FIPS 197, appendix C: 00112233445566778899aabbccddeeff under the keys that count from 00. */
