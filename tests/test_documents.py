@@ -35,6 +35,13 @@ def text_of(document):
     return (ROOT / document).read_text()
 
 
+def tracked(*paths):
+    """The names of the files that git knows, in these paths or in all."""
+    words = ["git", "-C", ROOT, "ls-files", "--", *paths]
+    listed = subprocess.run(words, capture_output=True, text=True, check=True)
+    return listed.stdout.splitlines()
+
+
 @pytest.mark.parametrize("document", DOCUMENTS, ids=str)
 class TestEachDocument:
     def test_links(self, document):
@@ -104,22 +111,14 @@ def test_width():
         ":!dist/keywrap.c",
         ":!dist/command/program.c",
     ]
-    tracked = subprocess.run(
-        ["git", "-C", ROOT, "ls-files", "--", ".", *data],
-        capture_output=True,
-        text=True,
-    ).stdout
-    contents = {
-        name: (ROOT / name).read_bytes()
-        for name in tracked.splitlines()
-        if (ROOT / name).exists()
-    }
-    assert [
-        name
-        for name, content in contents.items()
-        if b"\0" not in content
-        and max(map(len, content.decode().splitlines()), default=0) > 120
-    ] == ["crates.txt"]
+    wide = []
+    for name in tracked(".", *data):
+        path = ROOT / name
+        content = path.read_bytes() if path.exists() else b""
+        is_text = b"\0" not in content
+        if is_text and any(len(line) > 120 for line in content.decode().splitlines()):
+            wide.append(name)
+    assert wide == ["crates.txt"]
 
 
 def test_edits_fit():
@@ -163,19 +162,15 @@ def test_width_of_rattle():
 def test_map():
     """docs/ARCHITECTURE.md has a line for each directory and file at the top, except documents, and for each directory
     of c/."""
-    table = re.search(
-        "^At the top:\n\n(.*?)\n\n", text_of("docs/ARCHITECTURE.md"), re.M | re.S
-    )[1]
+    page = text_of("docs/ARCHITECTURE.md")
+    table = re.search("^At the top:\n\n(.*?)\n\n", page, re.M | re.S)[1]
     named = [line.split()[0] for line in table.splitlines()]
-    tracked = subprocess.run(
-        ["git", "-C", ROOT, "ls-files"], capture_output=True, text=True
-    ).stdout.splitlines()
-    paths = {name.split("/")[0] for name in tracked} | {
-        "/".join(name.split("/")[:2]) for name in tracked if name.startswith("c/")
-    }
-    assert sorted(named) == sorted(
-        path for path in paths - {"c"} if not re.search(r"\.md$|^\.git", path)
-    )
+    places = set()
+    for name in tracked():
+        top, *rest = name.split("/")
+        places.add(f"c/{rest[0]}" if top == "c" else top)
+    is_left_out = re.compile(r"\.md$|^\.git").search
+    assert sorted(named) == sorted(path for path in places if not is_left_out(path))
 
 
 class TestRepeatedFacts:
@@ -185,23 +180,16 @@ class TestRepeatedFacts:
             "There is no release and no licence: you may not copy, change or share it."
         )
         assert words in " ".join(text_of("README.md").split())
-        tracked = subprocess.run(
-            ["git", "-C", ROOT, "ls-files"], capture_output=True, text=True
-        ).stdout.splitlines()
-        assert [
-            name
-            for name in tracked
-            if re.match(r"(?i)licen[cs]e|copying|copyright$", name.split("/")[-1])
-        ] == []
+        is_licence = re.compile(r"(?i)licen[cs]e|copying|copyright$").match
+        assert [name for name in tracked() if is_licence(name.split("/")[-1])] == []
         for name in (
             "python/pyproject.toml",
             "python/setup.py",
             "js/package.json.in",
             "dist/Cargo.toml",
         ):
-            assert not re.search(
-                r'(?im)^ *"?licen[cs]e|License ::', text_of(name)
-            ), name
+            given = re.search(r'(?im)^ *"?licen[cs]e|License ::', text_of(name))
+            assert not given, name
 
     @pytest.mark.parametrize(
         "script", ["facts.py", "plots.py", "testing.py", "trust.py"]

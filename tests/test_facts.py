@@ -20,35 +20,35 @@ CALLS = re.findall(
 SMALL = ["-DKEYWRAP_NO_AES_INSTRUCTIONS", "-DKEYWRAP_TRAP()=__builtin_trap()"]
 
 
+def cells(line):
+    """The cells of a row of a table."""
+    return [cell.strip(" `") for cell in line.split("|")[1:-1]]
+
+
 def sheet(machine):
     """The documented bytes of each call: code and stack."""
-    rows = [
-        [field.strip(" `") for field in line.split("|")[1:-1]]
-        for line in PAGE.partition("## Fact sheet")[2]
-        .partition("\n## ")[0]
-        .splitlines()
-        if line.startswith("|")
-    ]
-    column = rows[0].index(machine)
-    return {
-        row[0].split("`")[0]: tuple(
-            int(part.replace(",", "")) for part in row[column].split(" / ")
-        )
-        for row in rows[2:]
-    }
+    _, _, rest = PAGE.partition("## Fact sheet")
+    section, _, _ = rest.partition("\n## ")
+    table = [cells(line) for line in section.splitlines() if line.startswith("|")]
+    head, _, *rows = table
+    column = head.index(machine)
+    documented = {}
+    for row in rows:
+        call, *_ = row[0].split("`")
+        numbers = row[column].replace(",", "").split(" / ")
+        documented[call] = tuple(int(number) for number in numbers)
+    return documented
 
 
 class Library:
     """An archive or an object of the library, of a machine."""
 
     def __init__(self, machine, file, tools="", cc=("cc",), runner=(), options=()):
-        self.machine, self.file, self.tools, self.cc, self.runner = (
-            machine,
-            file,
-            tools,
-            [*cc, *options],
-            runner,
-        )
+        self.machine = machine
+        self.file = file
+        self.tools = tools
+        self.cc = [*cc, *options]
+        self.runner = runner
 
     def code(self, call):
         """Bytes of code and constants in a program that has only this call."""

@@ -655,7 +655,7 @@ static void end_aborted(int number) {
     TerminateProcess(GetCurrentProcess(), 128 + 6);
 }
 
-/* Returns an allocated copy in UTF-8. A text that is not UTF-16 becomes one that is not UTF-8, which the module refuses.
+/* Returns an allocated copy in UTF-8. What is not UTF-16 becomes what is not UTF-8, which the module refuses.
  */
 static char *utf8(const wchar_t *wide) {
     int size = WideCharToMultiByte(CP_UTF8, WC_ERR_INVALID_CHARS, wide, -1, NULL, 0, NULL, NULL);

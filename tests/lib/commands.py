@@ -18,22 +18,16 @@ WRAP, UNWRAP, CHECK = (
 REWRAP = "rewrap --kek kek16.hex --new-kek kek32.hex"
 SAME_KEK = "rewrap --kek kek16.hex --new-kek kek16.hex"
 MAX_FILE = 4194304
+TESTS = pathlib.Path(__file__).resolve().parent.parent
 
 
 def table(name, section, **values):
     """The rows of a section of NAME.txt: the fields between bars, with the values of $NAMES. `\\` joins two lines."""
-    text = (
-        (pathlib.Path(__file__).parent.parent / f"{name}.txt")
-        .read_text()
-        .replace("\\\n", "")
-    )
-    lines = re.search(rf"^\[{section}\]\n((?:.+\n)+)", text, re.M)[1]
+    page = (TESTS / f"{name}.txt").read_text().replace("\\\n", "")
+    lines = re.search(rf"^\[{section}\]\n((?:.+\n)+)", page, re.M)[1]
     filled = string.Template(lines).substitute({**VALUES, **globals(), **values})
-    return [
-        [field.strip() for field in line.split("|")]
-        for line in filled.splitlines()
-        if line[0] != "#"
-    ]
+    rows = [line for line in filled.splitlines() if not line.startswith("#")]
+    return [[field.strip() for field in row.split("|")] for row in rows]
 
 
 def unescaped(field):

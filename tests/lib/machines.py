@@ -80,10 +80,20 @@ ARCHIVED = sorted(
 
 def shown(file, *options, tools=""):
     """The names that the file shows, by nm with these options."""
-    listed = map(
-        str.split, run(f"{tools}nm", *options, "--defined-only", file).splitlines()
-    )
-    return sorted(words[2] for words in listed if len(words) == 3 and words[1] != "A")
+    names = []
+    for line in run(f"{tools}nm", *options, "--defined-only", file).splitlines():
+        words = line.split()
+        # The others are of a file, or absolute.
+        if len(words) == 3 and words[1] != "A":
+            names.append(words[2])
+    return sorted(names)
+
+
+def needed(archive, tools=""):
+    """The names that an archive needs of others."""
+    listed = run(f"{tools}nm", "-u", archive).splitlines()
+    words = [line.split() for line in listed]
+    return {line[1] for line in words if len(line) == 2}
 
 
 def nodes(path):
@@ -96,29 +106,20 @@ def nodes(path):
 
 
 def check_library(directory, name="libkeywrap", archived=ARCHIVED, tools=""):
-    """What the archive and the shared object of this name show and need. Each name of the shared object is under the
-    node of the version that it came with, its tables are read-only once it is loaded, and its own name is right.
+    """The names that the archive and the shared object show and need. Each name of the shared object is under the node
+    of the version that it came with, its tables are read-only once it is loaded, and its own name is right.
     """
     archive, shared = directory / f"{name}.a", directory / f"{name}.so.1"
     assert shown(archive, "-g", tools=tools) == archived
-    came = {
-        call: node
-        for node, calls in nodes(ROOT / "c/include/keywrap.map").items()
-        for call in calls
-    }
-    assert shown(shared, "-D", tools=tools) == sorted(
-        f"{call}@@{came[call]}" for call in NAMES
-    )
-    needed = {
-        line.split()[1]
-        for line in run(f"{tools}nm", "-u", archive).splitlines()
-        if len(line.split()) == 2
-    }
-    assert {call for call in needed if not call.startswith("keywrap_")} <= {
-        "memcpy",
-        "memmove",
-        "memset",
-    }
+    others = {call for call in needed(archive, tools) if call[:8] != "keywrap_"}
+    assert others <= {"memcpy", "memmove", "memset"}
+
+    came = {}
+    for node, calls in nodes(ROOT / "c/include/keywrap.map").items():
+        came |= dict.fromkeys(calls, node)
+    with_nodes = sorted(f"{call}@@{came[call]}" for call in NAMES)
+    assert shown(shared, "-D", tools=tools) == with_nodes
+
     elf = run("readelf", "-dlW", shared)
     assert "BIND_NOW" in elf and "GNU_RELRO" in elf and "TEXTREL" not in elf
     assert re.search(rf"SONAME.*\[{re.escape(name)}\.so\.1\]", elf)
