@@ -1,6 +1,6 @@
 /* host_windows.c: what the program's module needs of Windows 8 or newer. What other systems share with it is in host.c.
  *
- * Files are read and written by the calls of the system, not by those of C, which know text files and a last byte 1A. */
+ * Files are read and written by the calls of the system. Those of C know text files, which a byte 1A ends. */
 
 #ifdef _WIN32
 
@@ -655,8 +655,7 @@ static void end_aborted(int number) {
     TerminateProcess(GetCurrentProcess(), 128 + 6);
 }
 
-/* Returns an allocated copy in UTF-8. What is not UTF-16 becomes what is not UTF-8, which the module refuses.
- */
+/* Returns an allocated copy in UTF-8. What is not UTF-16 becomes what is not UTF-8, which the module refuses. */
 static char *utf8(const wchar_t *wide) {
     int size = WideCharToMultiByte(CP_UTF8, WC_ERR_INVALID_CHARS, wide, -1, NULL, 0, NULL, NULL);
     char *text = calloc((size_t)size + 2, 1);
