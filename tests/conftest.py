@@ -36,6 +36,7 @@ from builds import (
     words,
 )  # noqa: F401
 from commands import FILES, LARGE
+from windows import windows, windows_objects  # noqa: F401
 from program import SLOW, Ended, Program, shared, wait_for
 from tools import need
 

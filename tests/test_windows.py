@@ -1,0 +1,319 @@
+"""The program in C on Windows, by mingw and wine: what a user does, random command lines beside the build for Linux,
+kills at each step of replacing a file, the rows of the program, and planted bugs of host_windows.c."""
+
+import os
+import pathlib
+import stat
+import subprocess
+
+import pytest
+
+from builds import ROOT, run
+from commands import ANSWERS, INTO_FILES, REFUSALS
+from program import Ended, Program, finish, refused, slow, wait_for
+from test_command import DRILL, DRILLED, works
+from test_random_arguments import Lines, make_files, state
+from tools import need
+from vectors import KEK16, KEY16, WRAPPED16
+from windows import COMPILER, STRICT, linked
+
+HERE = ROOT / "tests/command"
+
+
+@pytest.fixture(scope="session")
+def program(windows, windows_objects, once):
+    """The program for Windows: it is called as `keywrap` is."""
+    built = once("program for windows", lambda here: linked(here, windows_objects))
+    return Program(windows.script(built / "keywrap.exe"))
+
+
+@pytest.fixture(scope="session")
+def host(windows, once):
+    """A function: what tests/command/windows.c prints for these words."""
+
+    def build(directory):
+        link_driver(directory, ROOT / "dist/command/host_windows.c")
+
+    driver = once("host of windows", build) / "windows.exe"
+    return lambda *words: windows.run(driver, *words).strip()
+
+
+def link_driver(directory, host_windows):
+    sources = [HERE / "windows.c", host_windows]
+    include = f"-I{ROOT}/dist/command"
+    run(COMPILER, *STRICT, include, "-o", directory / "windows.exe", *sources)
+
+
+@slow
+def test_make(windows):
+    """`make` builds the program, without a warning."""
+    need(COMPILER)
+    run("cp", "-R", ROOT / "dist/command", ROOT / "dist/Makefile", ".")
+    run("make", "keywrap", f"CC={COMPILER}", f"CFLAGS={' '.join(STRICT)}")
+    assert windows.run("./keywrap.exe", *DRILL.split()) == f"{DRILLED}\n"
+
+
+class TestUse:
+    """What a user does."""
+
+    def test_works(self, program, keywrap):
+        works(program, keywrap)
+
+    @pytest.mark.parametrize("command", INTO_FILES)
+    def test_into_a_file(self, program, command):
+        """-o over a file replaces it, or leaves it as it was."""
+        os.mkdir("to")
+        pathlib.Path("to/file").write_bytes(b"old\n")
+        ended = program(command.args, stdin=command.given)
+        assert (ended.status, ended.stderr) == (command.status, command.stderr)
+        assert pathlib.Path("to/file").read_bytes() == command.stdout
+        assert os.listdir("to") == ["file"]
+
+    def test_input_and_output_are_one_file(self, program):
+        pathlib.Path("f").write_text(f"{WRAPPED16}\n")
+        args = "rewrap --kek kek16.hex --new-kek kek32.hex -i f -o f"
+        assert program(args) == Ended(0)
+        ended = program("unwrap --kek kek32.hex -i f")
+        assert ended == Ended(0, f"{KEY16}\n")
+
+    def test_refused_option(self, program):
+        ended = program("wrap --secret")
+        assert (ended.status, ended.stdout) == (2, "")
+        assert ended.stderr.startswith("error: unexpected argument '--secret' found")
+
+    @pytest.mark.parametrize("name", ["kö→😀.hex", "ÄÖÜß", "日本語"])
+    def test_letters_of_names(self, program, name):
+        """Names of files are the same letters inside and outside of Windows, also in messages."""
+        pathlib.Path(name).write_text(f"{KEK16}\n")
+        args = ["wrap", "--kek", name, "-o", f"{name}.out"]
+        assert program(args, stdin=KEY16) == Ended(0)
+        assert pathlib.Path(f"{name}.out").read_text() == f"{WRAPPED16}\n"
+        missing = program(["check", "--verbose", "--kek", f"no {name}"])
+        reason = f"no {name}: No such file or directory (os error 2)"
+        assert missing == refused(6, "key file: cannot be opened", reason)
+
+    def test_long_name(self, program):
+        directory = "/".join(["d" * 100] * 4)
+        os.makedirs(directory)
+        pathlib.Path(directory, "kek").write_text(KEK16)
+        args = ["wrap", "--kek", f"{directory}/kek", "-o", f"{directory}/out"]
+        assert program(args, stdin=KEY16) == Ended(0)
+        assert pathlib.Path(directory, "out").read_text() == f"{WRAPPED16}\n"
+
+    def test_name_of_windows(self, program):
+        """A drive and backslashes."""
+        kek = "Z:" + os.path.abspath("kek16.hex").replace("/", "\\")
+        args = ["wrap", "--kek", kek]
+        assert program(args, stdin=KEY16) == Ended(0, f"{WRAPPED16}\n")
+
+    def test_lines_that_end_in_two_bytes(self, program):
+        pathlib.Path("kek").write_bytes(f"{KEK16}\r\n".encode())
+        keys = f"{KEY16}\r\n{KEY16}\r\n"
+        wrapped = f"{WRAPPED16}\n" * 2
+        ended = program("wrap --kek kek --lines", stdin=keys, text=False)
+        assert ended.stdout == wrapped.encode()
+        ended = program("wrap --kek kek", stdin=f"{KEY16}\r\n", text=False)
+        assert ended.stdout == f"{WRAPPED16}\n".encode()
+
+    # The second is a multiple of 8 bytes up to each byte that could end or change a text.
+    @pytest.mark.parametrize(
+        "key",
+        [
+            b"\x0a\x0d\x1a\x0d\x0a\x1a\x1a\x00\x0d\x0d\x0a\x0a\x1a\x0a\x0d\x00",
+            bytes(16) + b"\x1a" + bytes(7) + b"\x0d\x0a" + bytes(6),
+        ],
+    )
+    def test_pipes_of_bytes(self, program, keywrap, key):
+        """Bytes that end lines or a text pass through pipes in both directions."""
+        wrap = "wrap --raw --kek kek16.hex"
+        wrapped = keywrap(wrap, stdin=key, text=False).stdout
+        assert program(wrap, stdin=key, text=False) == Ended(0, wrapped)
+        unwrap = "unwrap --raw --kek kek16.hex"
+        assert program(unwrap, stdin=wrapped, text=False) == Ended(0, key)
+
+    def test_kek_from_standard_input(self, program):
+        args = "wrap --kek /dev/stdin -i key.hex"
+        assert program(args, stdin=KEK16) == Ended(0, f"{WRAPPED16}\n")
+
+    def test_directory_is_no_empty_file(self, program):
+        """An error of a read is not the end of a file."""
+        reason = "directory: Is a directory (os error 21)"
+        ended = program("wrap --verbose --kek directory")
+        assert ended == refused(6, "key file: cannot be read", reason)
+
+    def test_device_is_not_replaced(self, program):
+        ended = program("wrap --verbose --kek kek16.hex -o NUL", stdin=KEY16)
+        reason = "NUL: is a device, pipe or socket"
+        assert ended == refused(6, "output: cannot be opened", reason)
+
+    def test_temporary_name_of_another(self, program):
+        """A new file never replaces one that has its temporary name."""
+        pathlib.Path("out.part0").write_text("of another")
+        assert program("wrap --kek kek16.hex -o out", stdin=KEY16) == Ended(0)
+        assert pathlib.Path("out.part0").read_text() == "of another"
+        assert pathlib.Path("out").read_text() == f"{WRAPPED16}\n"
+
+    def test_kek_is_not_replaced(self, program):
+        os.link("kek16.hex", "other name")
+        for name in "kek16.hex", "other name":
+            args = ["wrap", "--kek", "kek16.hex", "--verbose", "-o", name]
+            reason = f"{name}: is the KEK file"
+            assert program(args) == refused(6, "output: cannot be opened", reason)
+
+
+def is_for_others(path):
+    """Wine makes modes of lists of access rights. It gives the owner's rights to the group, too."""
+    return os.stat(path).st_mode & stat.S_IRWXO != 0
+
+
+class TestAccess:
+    """Who may use a file: wine shows lists of access rights as modes."""
+
+    def test_new_file(self, program):
+        assert program("wrap --kek kek16.hex -o new", stdin=KEY16) == Ended(0)
+        assert not is_for_others("new")
+
+    def test_replaced_file(self, program):
+        """A wrapped key keeps the rights of the file that it replaces, a key does not."""
+        for name in "wrapped", "key":
+            pathlib.Path(name).write_text("old")
+            os.chmod(name, 0o644)
+        assert program("wrap --kek kek16.hex -o wrapped", stdin=KEY16) == Ended(0)
+        assert is_for_others("wrapped")
+        assert program("unwrap --kek kek16.hex -o key", stdin=WRAPPED16) == Ended(0)
+        assert not is_for_others("key")
+
+    def test_replaced_private_file(self, program):
+        pathlib.Path("wrapped").write_text("old")
+        os.chmod("wrapped", 0o600)
+        assert program("wrap --kek kek16.hex -o wrapped", stdin=KEY16) == Ended(0)
+        assert not is_for_others("wrapped")
+
+    def test_open_files_are_shared(self, windows, program):
+        """While the program waits for its input, others can append to its files, and rename them."""
+        pathlib.Path("wait").touch()
+        pipe = subprocess.PIPE
+        with program.started("wrap --kek kek16.hex -o out", stdin=pipe) as waiting:
+            wait_for(pathlib.Path("out.part0").exists)
+            windows.run("cmd", "/c", "echo.>>kek16.hex")
+            windows.run("cmd", "/c", "ren kek16.hex moved.hex")
+            assert finish(waiting, KEY16.encode()).status == 0
+        assert pathlib.Path("moved.hex").exists()
+        assert pathlib.Path("out").read_text() == f"{WRAPPED16}\n"
+
+
+class TestHost:
+    """What host_windows.c answers to the module."""
+
+    def test_size_has_64_bits(self, host):
+        with open("large", "wb") as file:
+            file.truncate((5 << 30) + 3)
+        assert host("size", "large") == str((5 << 30) + 3)
+
+    def test_identity(self, host):
+        os.link("kek16.hex", "other name")
+        assert host("same", "kek16.hex", "other name") == "same"
+        assert host("same", "kek16.hex", "key.hex") == "different"
+
+    def test_empty_write_does_not_end_a_pipe(self, host):
+        assert host("empty-write") == "3 abc"
+
+
+# Before each of these texts of host_windows.c the program can be killed.
+STEPS = [
+    "    if (!WriteFile(handle, AT(from)",
+    "    return FlushFileBuffers(handle)",
+    "    FILE_RENAME_INFO *info = calloc(1, size);",
+    "            close_files_named(AT(to));",
+    "            done =\n                MoveFileExW(old_name",
+    "    free(old_name);",
+]
+KILL = """
+static int is_killed_here(void) {
+    static int step;
+    const char *number = getenv("KILLED_AT");
+    if (number != NULL && ++step == atoi(number)) TerminateProcess(GetCurrentProcess(), 9);
+    return 0;
+}
+"""
+KILLABLE = [
+    (
+        "#define CLOSED INVALID_HANDLE_VALUE\n",
+        f"#define CLOSED INVALID_HANDLE_VALUE\n{KILL}",
+    )
+]
+KILLABLE += [(step, f"    is_killed_here();\n{step}") for step in STEPS]
+
+
+def check_kills(program):
+    """Whatever the step at which the program is killed, the output is the old file or the new one."""
+    args = "rewrap --kek kek16.hex --new-kek kek32.hex -i f -o f"
+    seen = set()
+    for step in range(1, 100):
+        pathlib.Path("f").write_text(f"{WRAPPED16}\n")
+        for part in pathlib.Path().glob("f.part*"):
+            part.unlink()
+        ended = program(args, env={"KILLED_AT": str(step)})
+        new = program("unwrap --kek kek32.hex -i f")
+        if new == Ended(0, f"{KEY16}\n"):
+            seen.add("new")
+        else:
+            seen.add("old")
+            assert pathlib.Path("f").read_text() == f"{WRAPPED16}\n"
+        if ended.status == 0:
+            break
+        assert ended.status == 9
+    assert step > len(STEPS) and seen == {"old", "new"}
+
+
+def test_killed(windows, windows_objects):
+    path = linked(pathlib.Path("here").absolute(), windows_objects, *KILLABLE)
+    check_kills(Program(windows.script(path)))
+
+
+# Wine shows symbolic links of Linux as what they lead to, and has no files of these names. It cannot hand a directory
+# over as standard input.
+NAMES_OF_LINUX = {
+    "link",
+    "loop",
+    "kek16.hex/",
+    "/dev/null",
+    "/dev/zero",
+    "/dev/full",
+    "/proc/self/mem",
+}
+INPUTS_OF_LINUX = {"directory", "/dev/null", "/dev/zero"}
+
+
+def is_for_windows(words, given):
+    """Whether a command line has only names and letters that Windows has, too."""
+    values = {word.partition("=")[2] for word in words}
+    named = NAMES_OF_LINUX & ({*words} | values)
+    return not named and given not in INPUTS_OF_LINUX and "".join(words).isascii()
+
+
+@slow
+def test_random_command_lines(program, in_c):
+    """The same bytes, statuses and files as the build for Linux."""
+    count, seed = (
+        int(word) for word in os.environ.get("KEYWRAP_RANDOM", "1000 116").split()
+    )
+    lines = Lines(seed)
+
+    def ended(program, words, given):
+        make_files()
+        done = program(words, cwd="here", stdin=pathlib.Path("here", given), text=False)
+        left = {
+            path: path.read_bytes()
+            for path in pathlib.Path("here").rglob("*")
+            if path.is_file()
+        }
+        return done, left
+
+    compared = 0
+    while compared < count:
+        words, given = lines.line()
+        if is_for_windows(words, given):
+            expected = ended(Program(in_c), words, given)
+            assert ended(program, words, given) == expected, (words, given)
+            compared += 1
