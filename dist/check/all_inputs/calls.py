@@ -223,67 +223,80 @@ def is_reserved(iv, is_zero):
 
 def kek_init(given, kek_len, kept_len):
     kek = any_bytes("kek", kek_len)
+    call = Call(given, "keywrap_kek_init")
+    call.reads(kek)
+    call.changes(any_bytes("old", kept_len))
 
     def expected(_):
         if not is_kek(kek_len) or kek_len in KEPT_KEKS:
             return BAD_KEK, None
         if kept_len != 4 * kek_len + 120:
             return BAD_LENGTH, None
-        return OK, MARK + sum(standard.key_expansion(kek), [])
+        words = standard.key_expansion(kek)
+        return OK, MARK + sum(words, [])
 
-    Call(given, "keywrap_kek_init").reads(kek).changes(
-        any_bytes("old", kept_len)
-    ).check(expected)
+    call.check(expected)
 
 
 def kek_clear(given, n):
-    Call(given, "keywrap_kek_clear").changes(any_bytes("old", n)).check(
-        lambda _: (OK, [0] * n)
-    )
+    call = Call(given, "keywrap_kek_clear")
+    call.changes(any_bytes("old", n))
+    call.check(lambda _: (OK, [0] * n))
 
 
 def unmarked(given, kek_len):
     """A wrap with any bytes that are as many as those of a kept KEK."""
-    kek, key = any_bytes("kek", kek_len), any_bytes("key", 16)
+    kek = any_bytes("kek", kek_len)
+    key = any_bytes("key", 16)
     wrapped = standard.wrapped(kek, key)
+    call = Call(given, "keywrap_wrap")
+    call.reads(kek)
+    call.reads(key)
+    call.changes(any_bytes("old", 24))
 
     def expected(is_zero):
-        return (
-            (OK, wrapped)
-            if is_zero([xor(v, m) for v, m in zip(kek, MARK)])
-            else (BAD_KEK, None)
-        )
+        if is_zero([xor(v, m) for v, m in zip(kek, MARK)]):
+            return OK, wrapped
+        return BAD_KEK, None
 
-    Call(given, "keywrap_wrap").reads(kek).reads(key).changes(
-        any_bytes("old", 24)
-    ).check(expected, 1)
+    call.check(expected, 1)
 
 
 # Plain. The length of the buffer for the result is right if it is not given.
 
 
+def refusal(kek_len):
+    """Returns the status of a call whose lengths are not legal: the KEK's length is the first that counts."""
+    return BAD_LENGTH if is_kek(kek_len) else BAD_KEK
+
+
+def is_iv_refused(iv, is_zero):
+    return len(iv) != 8 or is_reserved(iv, is_zero)
+
+
 def wrap(given, kek_len, key_len, out_len=None, iv_len=None):
-    kek, key = any_kek("kek", kek_len), any_bytes("key", key_len)
-    iv = standard.DEFAULT_IV if iv_len is None else any_bytes("iv", iv_len)
-    out_len = key_len + 8 if out_len is None else out_len
-    call = Call(given, "keywrap_wrap" if iv_len is None else "keywrap_wrap_with").reads(
-        kek
-    )
+    if out_len is None:
+        out_len = key_len + 8
+    kek = any_kek("kek", kek_len)
+    key = any_bytes("key", key_len)
+    iv = standard.DEFAULT_IV
+    call = Call(given, "keywrap_wrap" if iv_len is None else "keywrap_wrap_with")
+    call.reads(kek)
     if iv_len is not None:
+        iv = any_bytes("iv", iv_len)
         call.reads(iv)
-    call.reads(key).changes(any_bytes("old", out_len))
+    call.reads(key)
+    call.changes(any_bytes("old", out_len))
     legal = is_kek(kek_len) and is_plain_key(key_len) and out_len == key_len + 8
-    wrapped = (
-        given.standard(standard.wrapped, kek, key, iv)
-        if legal and iv_len in (None, 8)
-        else None
-    )
+    wrapped = None
+    if legal and len(iv) == 8:
+        wrapped = given.standard(standard.wrapped, kek, key, iv)
 
     def expected(is_zero):
-        if iv_len is not None and (iv_len != 8 or is_reserved(iv, is_zero)):
+        if iv_len is not None and is_iv_refused(iv, is_zero):
             return BAD_IV, None
         if not legal:
-            return BAD_LENGTH if is_kek(kek_len) else BAD_KEK, None
+            return refusal(kek_len), None
         return OK, wrapped()
 
     call.check(expected, iv_len == 8)
@@ -296,62 +309,67 @@ def forks_with_iv(more):
 
 def wrap_claiming(given, kek_len, key_len, out_len):
     """A wrap with lengths that are not those of the buffers, and so long that the call has to refuse them unread."""
-    call = (
-        Call(given, "keywrap_wrap").reads(any_bytes("kek", 16), False).number(kek_len)
-    )
+    call = Call(given, "keywrap_wrap")
+    call.reads(any_bytes("kek", 16), False).number(kek_len)
     call.reads(any_bytes("key", 16), False).number(key_len)
     call.changes(any_bytes("old", 24), False).number(out_len)
-    call.check(lambda _: (BAD_LENGTH if is_kek(kek_len) else BAD_KEK, None))
+    call.check(lambda _: (refusal(kek_len), None))
 
 
 def wrap_of_kek(given, kek_len):
     """The key is the KEK, in the same buffer."""
     kek = any_bytes("kek", kek_len)
-    call = Call(given, "keywrap_wrap").reads(kek)
+    call = Call(given, "keywrap_wrap")
+    call.reads(kek)
     call.args += call.args
-    call.changes(any_bytes("old", kek_len + 8)).check(
-        lambda _: (OK, standard.wrapped(kek, kek))
-    )
+    call.changes(any_bytes("old", kek_len + 8))
+    call.check(lambda _: (OK, standard.wrapped(kek, kek)))
 
 
 def unwrap_of_kek(given, kek_len):
     """The wrapped key is the KEK, in the same buffer."""
     kek = any_bytes("kek", kek_len)
     a, key = standard.unwrap_process(kek, kek)
-    call = Call(given, "keywrap_unwrap").reads(kek)
+    call = Call(given, "keywrap_unwrap")
+    call.reads(kek)
     call.args += call.args
-    call.changes(any_bytes("old", kek_len - 8)).check(
-        lambda is_zero: (OK, key)
-        if standard.is_plain(a, is_zero)
-        else (INTEGRITY, [0] * (kek_len - 8)),
-        1,
-    )
+    call.changes(any_bytes("old", len(key)))
+
+    def expected(is_zero):
+        if standard.is_plain(a, is_zero):
+            return OK, key
+        return INTEGRITY, [0] * len(key)
+
+    call.check(expected, 1)
 
 
 def unwrap(given, kek_len, key_len, text_len=None, iv_len=None):
-    text_len = key_len + 8 if text_len is None else text_len
-    kek, text = any_kek("kek", kek_len), any_bytes("text", text_len)
-    iv = standard.DEFAULT_IV if iv_len is None else any_bytes("iv", iv_len)
-    legal = is_kek(kek_len) and is_plain_key(key_len) and text_len == key_len + 8
-    unwrapped = given.standard(standard.unwrap_process, kek, text) if legal else None
-    call = Call(
-        given, "keywrap_unwrap" if iv_len is None else "keywrap_unwrap_with"
-    ).reads(kek)
+    if text_len is None:
+        text_len = key_len + 8
+    kek = any_kek("kek", kek_len)
+    text = any_bytes("text", text_len)
+    iv = standard.DEFAULT_IV
+    call = Call(given, "keywrap_unwrap" if iv_len is None else "keywrap_unwrap_with")
+    call.reads(kek)
     if iv_len is not None:
+        iv = any_bytes("iv", iv_len)
         call.reads(iv)
-    call.reads(text).changes(any_bytes("old", key_len))
+    call.reads(text)
+    call.changes(any_bytes("old", key_len))
+    legal = is_kek(kek_len) and is_plain_key(key_len) and text_len == key_len + 8
+    unwrapped = None
+    if legal:
+        unwrapped = given.standard(standard.unwrap_process, kek, text)
 
     def expected(is_zero):
-        if iv_len is not None and (iv_len != 8 or is_reserved(iv, is_zero)):
+        if iv_len is not None and is_iv_refused(iv, is_zero):
             return BAD_IV, None
         if not legal:
-            return BAD_LENGTH if is_kek(kek_len) else BAD_KEK, None
+            return refusal(kek_len), None
         a, key = unwrapped()
-        return (
-            (OK, key)
-            if standard.is_plain(a, is_zero, iv)
-            else (INTEGRITY, [0] * key_len)
-        )
+        if standard.is_plain(a, is_zero, iv):
+            return OK, key
+        return INTEGRITY, [0] * key_len
 
     call.check(expected, forks_with_iv(legal) if iv_len == 8 else legal)
 
@@ -365,105 +383,135 @@ def unwrap_with(given, kek_len, key_len, iv_len=8):
 
 
 def wrap_in_place(given, kek_len, key_len):
-    kek, text = any_kek("kek", kek_len), any_bytes("old", key_len + 8)
-    Call(given, "keywrap_wrap_in_place").reads(kek).changes(text).check(
-        lambda _: (BAD_KEK, None)
-        if not is_kek(kek_len)
-        else (BAD_LENGTH, None)
-        if not is_plain_key(key_len)
-        else (OK, standard.wrapped(kek, text[8:]))
-    )
+    kek = any_kek("kek", kek_len)
+    text = any_bytes("old", key_len + 8)
+    call = Call(given, "keywrap_wrap_in_place")
+    call.reads(kek)
+    call.changes(text)
+
+    def expected(_):
+        if not is_kek(kek_len) or not is_plain_key(key_len):
+            return refusal(kek_len), None
+        return OK, standard.wrapped(kek, text[8:])
+
+    call.check(expected)
 
 
 def unwrap_in_place(given, kek_len, key_len):
-    kek, text = any_kek("kek", kek_len), any_bytes("text", key_len + 8)
+    kek = any_kek("kek", kek_len)
+    text = any_bytes("text", key_len + 8)
+    call = Call(given, "keywrap_unwrap_in_place")
+    call.reads(kek)
+    call.changes(text)
     legal = is_kek(kek_len) and is_plain_key(key_len)
-    a, key = standard.unwrap_process(kek, text) if legal else (None, None)
-    Call(given, "keywrap_unwrap_in_place").reads(kek).changes(text).check(
-        lambda is_zero: (BAD_LENGTH if is_kek(kek_len) else BAD_KEK, None)
-        if not legal
-        else (OK, [0] * 8 + key)
-        if standard.is_plain(a, is_zero)
-        else (INTEGRITY, [0] * len(text)),
-        legal,
-    )
+    if legal:
+        a, key = standard.unwrap_process(kek, text)
+
+    def expected(is_zero):
+        if not legal:
+            return refusal(kek_len), None
+        if standard.is_plain(a, is_zero):
+            return OK, [0] * 8 + key
+        return INTEGRITY, [0] * len(text)
+
+    call.check(expected, legal)
 
 
 # Padded. `room` is the length of the padded key.
 
 
+def is_padded_key(key_len, text_len):
+    return 1 <= key_len <= LONGEST and text_len == room_of(key_len) + 8
+
+
 def wrap_padded(given, kek_len, key_len, out_len=None):
-    kek, key = any_kek("kek", kek_len), any_bytes("key", key_len)
-    out_len = room_of(key_len) + 8 if out_len is None else out_len
-    legal = (
-        is_kek(kek_len) and 1 <= key_len <= LONGEST and out_len == room_of(key_len) + 8
-    )
-    wrapped = given.standard(standard.wrapped_padded, kek, key) if legal else None
+    if out_len is None:
+        out_len = room_of(key_len) + 8
+    kek = any_kek("kek", kek_len)
+    key = any_bytes("key", key_len)
+    call = Call(given, "keywrap_wrap_padded")
+    call.reads(kek)
+    call.reads(key)
+    call.changes(any_bytes("old", out_len))
+    legal = is_kek(kek_len) and is_padded_key(key_len, out_len)
+    wrapped = None
+    if legal:
+        wrapped = given.standard(standard.wrapped_padded, kek, key)
 
     def expected(_):
-        return (
-            (OK, wrapped())
-            if legal
-            else (BAD_LENGTH if is_kek(kek_len) else BAD_KEK, None)
-        )
+        if not legal:
+            return refusal(kek_len), None
+        return OK, wrapped()
 
-    call = Call(given, "keywrap_wrap_padded").reads(kek).reads(key)
-    call.changes(any_bytes("old", out_len)).check(expected)
+    call.check(expected)
 
 
 def unwrap_padded(given, kek_len, room, text_len=None):
-    text_len = room + 8 if text_len is None else text_len
-    kek, text = any_kek("kek", kek_len), any_bytes("text", text_len)
+    if text_len is None:
+        text_len = room + 8
+    kek = any_kek("kek", kek_len)
+    text = any_bytes("text", text_len)
     old = any_bytes("old", room)
+    call = Call(given, "keywrap_unwrap_padded")
+    call.reads(kek)
+    call.reads(text)
+    call.changes(old)
+    call.changes_numbers(given.size())
     legal = is_kek(kek_len) and is_padded_text(text_len) and text_len == room + 8
-    unwrapped = given.standard(standard.unwrap_process, kek, text) if legal else None
+    unwrapped = None
+    if legal:
+        unwrapped = given.standard(standard.unwrap_process, kek, text)
 
     def expected(is_zero):
         if not legal:
-            return BAD_LENGTH if is_kek(kek_len) else BAD_KEK, old + given.size(0)
+            return refusal(kek_len), old + given.size(0)
         a, key = unwrapped()
         length = standard.padded_length(a, key, is_zero)
-        return (
-            (INTEGRITY, [0] * room + given.size(0))
-            if length is None
-            else (OK, key + given.size(length))
-        )
+        if length is None:
+            return INTEGRITY, [0] * room + given.size(0)
+        return OK, key + given.size(length)
 
-    call = Call(given, "keywrap_unwrap_padded").reads(kek).reads(text)
-    call.changes(old).changes_numbers(given.size()).check(expected, 1)
+    call.check(expected, 1)
 
 
 def wrap_padded_in_place(given, kek_len, key_len, text_len=None):
-    text_len = room_of(key_len) + 8 if text_len is None else text_len
-    kek, text = any_kek("kek", kek_len), any_bytes("old", text_len)
+    if text_len is None:
+        text_len = room_of(key_len) + 8
+    kek = any_kek("kek", kek_len)
+    text = any_bytes("old", text_len)
+    call = Call(given, "keywrap_wrap_padded_in_place")
+    call.reads(kek)
+    call.changes(text)
+    call.number(key_len)
 
     def expected(_):
-        if not is_kek(kek_len):
-            return BAD_KEK, None
-        if not 1 <= key_len <= LONGEST or text_len != room_of(key_len) + 8:
-            return BAD_LENGTH, None
+        if not is_kek(kek_len) or not is_padded_key(key_len, text_len):
+            return refusal(kek_len), None
         return OK, standard.wrapped_padded(kek, text[8 : 8 + key_len])
 
-    Call(given, "keywrap_wrap_padded_in_place").reads(kek).changes(text).number(
-        key_len
-    ).check(expected)
+    call.check(expected)
 
 
 def unwrap_padded_in_place(given, kek_len, room):
-    kek, text = any_kek("kek", kek_len), any_bytes("text", room + 8)
-    legal = is_kek(kek_len) and is_padded_text(room + 8)
-    a, key = standard.unwrap_process(kek, text) if legal else (None, None)
+    kek = any_kek("kek", kek_len)
+    text = any_bytes("text", room + 8)
+    call = Call(given, "keywrap_unwrap_padded_in_place")
+    call.reads(kek)
+    call.changes(text)
+    call.changes_numbers(given.size())
+    legal = is_kek(kek_len) and is_padded_text(len(text))
+    if legal:
+        a, key = standard.unwrap_process(kek, text)
 
     def expected(is_zero):
         if not legal:
-            return BAD_LENGTH if is_kek(kek_len) else BAD_KEK, text + given.size(0)
+            return refusal(kek_len), text + given.size(0)
         length = standard.padded_length(a, key, is_zero)
         if length is None:
             return INTEGRITY, [0] * len(text) + given.size(0)
         return OK, [0] * 8 + key + given.size(length)
 
-    call = Call(given, "keywrap_unwrap_padded_in_place").reads(kek).changes(text)
-    call.changes_numbers(given.size()).check(expected, 1)
+    call.check(expected, 1)
 
 
 # Either form
@@ -473,40 +521,44 @@ def form_of(a, key, is_zero, forms=(PLAIN, PADDED)):
     """Returns the form and the length of the key, or None."""
     if PLAIN in forms and len(key) >= 16 and standard.is_plain(a, is_zero):
         return PLAIN, len(key)
-    length = standard.padded_length(a, key, is_zero) if PADDED in forms else None
+    if PADDED not in forms:
+        return None
+    length = standard.padded_length(a, key, is_zero)
     return None if length is None else (PADDED, length)
 
 
 def either_form(name, given, kek_len, room, text_len):
-    text_len = room + 8 if text_len is None else text_len
-    kek, text, old = (
-        any_kek("kek", kek_len),
-        any_bytes("text", text_len),
-        any_bytes("old", room),
-    )
+    if text_len is None:
+        text_len = room + 8
+    kek = any_kek("kek", kek_len)
+    text = any_bytes("text", text_len)
+    old = any_bytes("old", room)
+    call = Call(given, name)
+    call.reads(kek)
+    call.reads(text)
+    call.changes(old)
+    call.changes_numbers(any_bytes("form", 4))
+    call.changes_numbers(given.size())
     is_kind = name == "keywrap_kind"
+    no_numbers = little(0, 4) + given.size(0)
     legal = is_kek(kek_len) and is_padded_text(text_len) and text_len == room + 8
-    a, key = standard.unwrap_process(kek, text) if legal else (None, None)
+    if legal:
+        a, key = standard.unwrap_process(kek, text)
 
     def expected(is_zero):
         if not legal:
-            status = (
-                INTEGRITY if is_kind and not is_padded_text(text_len) else BAD_LENGTH
-            )
-            return status if is_kek(kek_len) else BAD_KEK, old + little(
-                0, 4
-            ) + given.size(0)
+            # No wrapped key has this length: for a kind that is an answer.
+            is_answer = is_kind and is_kek(kek_len) and not is_padded_text(text_len)
+            status = INTEGRITY if is_answer else refusal(kek_len)
+            return status, old + no_numbers
         found = form_of(a, key, is_zero)
         if found is None:
-            return INTEGRITY, [0] * room + little(0, 4) + given.size(0)
-        return OK, ([0] * room if is_kind else key) + little(found[0], 4) + given.size(
-            found[1]
-        )
+            return INTEGRITY, [0] * room + no_numbers
+        form, length = found
+        after = [0] * room if is_kind else key
+        return OK, after + little(form, 4) + given.size(length)
 
-    call = Call(given, name).reads(kek).reads(text).changes(old)
-    call.changes_numbers(any_bytes("form", 4)).changes_numbers(given.size()).check(
-        expected, 1
-    )
+    call.check(expected, 1)
 
 
 def unwrap_any(given, kek_len, room, text_len=None):
@@ -521,23 +573,13 @@ def kind(given, kek_len, room, text_len=None):
 
 
 def are_rewrap_flags(flags):
-    return flags & ~PASS_NEW in (
-        0,
-        OLD_PADDED,
-        NEW_PADDED,
-        OLD_PADDED | NEW_PADDED,
-        KEEP_FORM,
-    )
+    return flags & ~PASS_NEW in range(KEEP_FORM + 1)
 
 
 def forms_of(flags, padded):
-    return (
-        (PLAIN, PADDED)
-        if flags & KEEP_FORM
-        else (PADDED,)
-        if flags & padded
-        else (PLAIN,)
-    )
+    if flags & KEEP_FORM:
+        return PLAIN, PADDED
+    return (PADDED,) if flags & padded else (PLAIN,)
 
 
 def is_text_of(text_len, forms):
@@ -548,52 +590,58 @@ class Rewrap:
     """What a rewrap of one wrapped key returns and leaves."""
 
     def __init__(self, old_kek, new_kek, text, flags):
-        self.new_kek, self.text, self.flags = new_kek, text, flags
-        self.old_forms, self.new_forms = forms_of(flags, OLD_PADDED), forms_of(
-            flags, NEW_PADDED
-        )
-        is_new_length = flags & PASS_NEW and is_text_of(len(text), self.new_forms)
-        self.legal = (
-            are_rewrap_flags(flags)
-            and is_kek(len(old_kek))
-            and is_kek(len(new_kek))
-            and (is_text_of(len(text), self.old_forms) or bool(is_new_length))
-        )
-        self.old = standard.unwrap_process(old_kek, text) if self.legal else None
-        self.new = (
-            standard.unwrap_process(new_kek, text)
-            if self.legal and is_new_length
-            else None
-        )
-        self.refusal, self.forks = (
-            BAD_LENGTH if is_kek(len(old_kek)) and is_kek(len(new_kek)) else BAD_KEK,
-            0,
-        )
+        self.new_kek = new_kek
+        self.text = text
+        self.flags = flags
+        self.old_forms = forms_of(flags, OLD_PADDED)
+        self.new_forms = forms_of(flags, NEW_PADDED)
+        self.forks = 0
+        are_keks = is_kek(len(old_kek)) and is_kek(len(new_kek))
+        self.refusal = BAD_LENGTH if are_keks else BAD_KEK
+        self.is_old_length = is_text_of(len(text), self.old_forms)
+        is_new_length = bool(flags & PASS_NEW) and is_text_of(len(text), self.new_forms)
+        is_text = self.is_old_length or is_new_length
+        self.legal = are_keks and are_rewrap_flags(flags) and is_text
+        self.old = self.new = None
+        if self.legal:
+            self.old = standard.unwrap_process(old_kek, text)
+            if is_new_length:
+                self.new = standard.unwrap_process(new_kek, text)
 
     def of(self, is_zero):
         """Returns the status, the buffer afterwards, and whether it was new already. Counts the checks as `forks`."""
         if not self.legal:
             return self.refusal, self.text, 0
-        is_old_length = is_text_of(len(self.text), self.old_forms)
-        found = form_of(*self.old, is_zero, self.old_forms) if is_old_length else None
-        self.forks = is_old_length + (found is None and self.new is not None)
+        self.forks = 0
+        found = None
+        if self.is_old_length:
+            self.forks += 1
+            found = form_of(*self.old, is_zero, self.old_forms)
         if found is None:
-            if self.new and form_of(*self.new, is_zero, self.new_forms):
-                return OK, self.text, 1
-            return INTEGRITY if is_old_length else BAD_LENGTH, self.text, 0
+            return self.of_another_text(is_zero)
         form, length = found
         key = self.old[1][:length]
-        if form == PADDED if self.flags & KEEP_FORM else self.flags & NEW_PADDED:
+        keeps_form = self.flags & KEEP_FORM
+        is_padded = form == PADDED if keeps_form else self.flags & NEW_PADDED
+        if is_padded:
             return OK, standard.wrapped_padded(self.new_kek, key), 0
         if not is_plain_key(length):
             return KEY_NOT_PLAIN, self.text, 0
         return OK, standard.wrapped(self.new_kek, key), 0
 
+    def of_another_text(self, is_zero):
+        """The same for a text that is not under the old KEK."""
+        if self.new is not None:
+            self.forks += 1
+            if form_of(*self.new, is_zero, self.new_forms):
+                return OK, self.text, 1
+        return INTEGRITY if self.is_old_length else BAD_LENGTH, self.text, 0
+
 
 def rewrap(given, old_len, new_len, text_len, flags):
-    rewrap_under(
-        any_kek("kek", old_len), any_kek("new", new_len), given, text_len, flags
-    )
+    old_kek = any_kek("kek", old_len)
+    new_kek = any_kek("new", new_len)
+    rewrap_under(old_kek, new_kek, given, text_len, flags)
 
 
 def rewrap_same_kek(given, kek_len, text_len, flags):
@@ -605,93 +653,120 @@ def rewrap_same_kek(given, kek_len, text_len, flags):
 def rewrap_under(old_kek, new_kek, given, text_len, flags):
     text = any_bytes("text", text_len)
     one = Rewrap(old_kek, new_kek, text, flags)
+    call = Call(given, "keywrap_rewrap")
+    call.reads(old_kek)
+    if new_kek is old_kek:
+        call.args += call.args
+    else:
+        call.reads(new_kek)
+    call.changes(text)
+    call.number32(flags)
+    call.changes_numbers(any_bytes("form", 4))
 
     def expected(is_zero):
         status, after, already = one.of(is_zero)
         return status, after + little(already, 4)
 
-    call = Call(given, "keywrap_rewrap").reads(old_kek)
-    if new_kek is old_kek:
-        call.args += call.args
-    else:
-        call.reads(new_kek)
-    call.changes(text).number32(flags)
-    call.changes_numbers(any_bytes("form", 4)).check(expected, lambda _: one.forks)
+    call.check(expected, lambda _: one.forks)
 
 
 def rewrap_in_place(given, old_len, new_len, text_len, flags):
-    old_kek, new_kek = any_kek("kek", old_len), any_kek("new", new_len)
+    old_kek = any_kek("kek", old_len)
+    new_kek = any_kek("new", new_len)
     text = any_bytes("text", text_len)
-    one = Rewrap(old_kek, new_kek, text, flags if flags < KEEP_FORM else ~0)
+    all_flags = ~0  # which no rewrap takes
+    one = Rewrap(old_kek, new_kek, text, flags if flags < KEEP_FORM else all_flags)
+    call = Call(given, "keywrap_rewrap_in_place")
+    call.reads(old_kek)
+    call.reads(new_kek)
+    call.changes(text)
+    call.number32(flags)
 
     def expected(is_zero):
         status, after, _ = one.of(is_zero)
-        return (
-            (status, after)
-            if status == OK or not one.legal
-            else (BAD_LENGTH if status == KEY_NOT_PLAIN else status, [0] * text_len)
-        )
+        if status == OK or not one.legal:
+            return status, after
+        if status == KEY_NOT_PLAIN:
+            status = BAD_LENGTH
+        return status, [0] * text_len
 
-    call = (
-        Call(given, "keywrap_rewrap_in_place")
-        .reads(old_kek)
-        .reads(new_kek)
-        .changes(text)
-    )
-    call.number32(flags).check(expected, 1)
+    call.check(expected, 1)
 
 
-def rewrap_steps(given, old_len, new_len, text_len, flags, from_copy=0):
+class RewrapSteps:
     """begin_rewrap, and next_rewrap or next_rewrap_from until the phase is 0. Between them the steps are made here."""
-    keks, text = (any_kek("kek", old_len), any_kek("new", new_len)), any_bytes(
-        "text", text_len
-    )
-    one = Rewrap(*keks, text, flags)
-    schedules = [standard.key_expansion(kek) for kek in keks]
 
-    def follow(call, path, status, now, phase, rest):
+    def __init__(self, given, keks, text, flags, from_copy):
+        self.given = given
+        self.text = text
+        self.flags = flags
+        self.from_copy = from_copy
+        self.one = Rewrap(*keks, text, flags)
+        self.schedules = [standard.key_expansion(kek) for kek in keks]
+
+    def check(self):
+        call = Call(self.given, "keywrap_begin_rewrap")
+        call.number32(self.flags)
+        call.reads(self.text)
+        call.changes_numbers(any_bytes("form", 4))
+        call.changes_numbers(any_bytes("number", 8))
+        call.changes(any_bytes("block", 16), False)
+        for path, status, got in call.ends():
+            self.follow(call, path, status, self.text, got)
+
+    def follow(self, call, path, status, now, numbers):
+        """Goes on from a call. `now` is the text after it, `numbers` are phase, steps and block."""
         Known.now = path.known
-        phase = little_number(path, phase)
+        phase = little_number(path, numbers[:4])
         if phase == 0:
-            want, after, already = one.of(path.is_zero)
-            call.compare(path, status, now, ALREADY_NEW if already else want, after)
-            call.ended(path, status, one.forks)
+            self.check_end(call, path, status, now)
             return
         if status != OK:
             raise Refused(f"status {status} at phase {phase}")
-        r, steps, block, undo = (
-            now[8:],
-            little_number(path, rest[:8]),
-            rest[8:],
-            phase & 1,
-        )
-        for _ in range(steps_of(len(r))):
-            block = (standard.inv_cipher if undo else standard.cipher)(
-                schedules[phase >> 1 & 1], block
-            )
-            r, steps, block = stepped(r, steps if undo else steps + 1, block, undo)
-        call = Call(given, "keywrap_next_rewrap" + "_from" * from_copy).number32(flags)
-        if from_copy:
-            call.reads(text)
-        call.changes(now[:8] + r).changes_numbers(little(phase, 4)).changes_numbers(
-            little(steps)
-        ).changes(block, False)
+        steps = little_number(path, numbers[4:12])
+        registers, steps, block = self.made(phase, now[8:], steps, numbers[12:])
+        call = self.next_call(now[:8] + registers, phase, steps, block)
         for path, status, got in call.ends(path):
-            follow(
-                call,
-                path,
-                status,
-                got[:text_len],
-                got[text_len : text_len + 4],
-                got[text_len + 4 :],
-            )
+            after, numbers = got[: len(now)], got[len(now) :]
+            self.follow(call, path, status, after, numbers)
 
-    call = Call(given, "keywrap_begin_rewrap").number32(flags).reads(text)
-    call.changes_numbers(any_bytes("form", 4)).changes_numbers(
-        any_bytes("number", 8)
-    ).changes(any_bytes("block", 16), False)
-    for path, status, got in call.ends():
-        follow(call, path, status, text, got[:4], got[4:])
+    def check_end(self, call, path, status, now):
+        want, after, already = self.one.of(path.is_zero)
+        if already:
+            want = ALREADY_NEW
+        call.compare(path, status, now, want, after)
+        call.ended(path, status, self.one.forks)
+
+    def made(self, phase, registers, steps, block):
+        """Returns registers, number of steps and block after all steps of a phase."""
+        undo = phase & 1
+        words = self.schedules[phase >> 1 & 1]
+        for _ in range(steps_of(len(registers))):
+            if undo:
+                block = standard.inv_cipher(words, block)
+                t = steps
+            else:
+                block = standard.cipher(words, block)
+                t = steps + 1
+            registers, steps, block = stepped(registers, t, block, undo)
+        return registers, steps, block
+
+    def next_call(self, text, phase, steps, block):
+        call = Call(self.given, "keywrap_next_rewrap" + "_from" * self.from_copy)
+        call.number32(self.flags)
+        if self.from_copy:
+            call.reads(self.text)
+        call.changes(text)
+        call.changes_numbers(little(phase, 4))
+        call.changes_numbers(little(steps))
+        call.changes(block, False)
+        return call
+
+
+def rewrap_steps(given, old_len, new_len, text_len, flags, from_copy=0):
+    keks = any_kek("kek", old_len), any_kek("new", new_len)
+    text = any_bytes("text", text_len)
+    RewrapSteps(given, keks, text, flags, from_copy).check()
 
 
 def little_number(path, content):
@@ -966,41 +1041,57 @@ def stepped(r, t, block, undo=False):
     count, n = steps_of(len(r)), len(r) // 8
     if n == 1:
         return block[8:], 0 if undo else 1, block
+    if not 1 <= t <= count:
+        raise Refused(f"step {t} of {count}")
     at, following = (t - 1) % n * 8, t - 1 if undo else t
     after = [*r[:at], *block[8:], *r[at + 8 :]]
     to = ((t - 2 if undo else t) % n) * 8
-    assert 1 <= t <= count
     return after, following, standard.with_t(block[:8], following) + after[to : to + 8]
 
 
 def begin_wrap(given, n, iv_len=8):
-    iv, r = any_bytes("iv", iv_len), any_bytes("key", n)
+    iv = any_bytes("iv", iv_len)
+    r = any_bytes("key", n)
+    call = Call(given, "keywrap_begin_wrap")
+    call.reads(iv)
+    call.reads(r)
+    call.changes_numbers(any_bytes("number", 8))
+    call.changes(any_bytes("block", 16), False)
 
     def expected(is_zero):
-        if iv_len != 8 or is_reserved(iv, is_zero):
+        if is_iv_refused(iv, is_zero):
             return BAD_IV, None
-        return (OK, little(0) + iv + r[:8]) if is_plain_key(n) else (BAD_LENGTH, None)
+        if not is_plain_key(n):
+            return BAD_LENGTH, None
+        return OK, little(0) + iv + r[:8]
 
-    Call(given, "keywrap_begin_wrap").reads(iv).reads(r).changes_numbers(
-        any_bytes("number", 8)
-    ).changes(any_bytes("block", 16), False).check(expected, 1)
+    call.check(expected, 1)
 
 
 def begin_wrap_padded(given, key_len, n):
     r = any_bytes("key", n)
     padded = r[:key_len] + [0] * (n - key_len)
-    legal = 1 <= key_len and n == room_of(key_len)
-    Call(given, "keywrap_begin_wrap_padded").number(key_len).changes(r).changes_numbers(
-        any_bytes("number", 8)
-    ).changes(any_bytes("block", 16), False).check(
-        lambda _: (OK, padded + little(0) + standard.aiv(key_len) + padded[:8])
-        if legal
-        else (BAD_LENGTH, None)
-    )
+    call = Call(given, "keywrap_begin_wrap_padded")
+    call.number(key_len)
+    call.changes(r)
+    call.changes_numbers(any_bytes("number", 8))
+    call.changes(any_bytes("block", 16), False)
+
+    def expected(_):
+        if key_len < 1 or n != room_of(key_len):
+            return BAD_LENGTH, None
+        return OK, padded + little(0) + standard.aiv(key_len) + padded[:8]
+
+    call.check(expected)
 
 
 def step_wrap(given, n, done):
-    r, block = any_bytes("key", n), any_bytes("block", 16)
+    r = any_bytes("key", n)
+    block = any_bytes("block", 16)
+    call = Call(given, "keywrap_step_wrap")
+    call.changes(r)
+    call.changes_numbers(little(done))
+    call.changes(block, False)
 
     def expected(_):
         if not are_registers(n) or not done < steps_of(n):
@@ -1008,42 +1099,52 @@ def step_wrap(given, n, done):
         after, number, following = stepped(r, done + 1, block)
         return OK, after + little(number) + following
 
-    Call(given, "keywrap_step_wrap").changes(r).changes_numbers(little(done)).changes(
-        block, False
-    ).check(expected)
+    call.check(expected)
 
 
 def end_wrap(given, n, done):
-    r, block = any_bytes("key", n), any_bytes("block", 16)
-    legal = are_registers(n) and done == steps_of(n)
-    call = (
-        Call(given, "keywrap_end_wrap")
-        .changes(any_bytes("old", 8), False)
-        .reads(r)
-        .number(done)
-    )
-    call.reads(block, False).check(
-        lambda _: (OK, block[:8]) if legal else (BAD_LENGTH, None)
-    )
+    r = any_bytes("key", n)
+    block = any_bytes("block", 16)
+    call = Call(given, "keywrap_end_wrap")
+    call.changes(any_bytes("old", 8), False)
+    call.reads(r)
+    call.number(done)
+    call.reads(block, False)
+
+    def expected(_):
+        if not are_registers(n) or done != steps_of(n):
+            return BAD_LENGTH, None
+        return OK, block[:8]
+
+    call.check(expected)
 
 
 def begin_unwrap(given, n, padded=0):
-    first, r = any_bytes("text", 8), any_bytes("key", n)
+    first = any_bytes("text", 8)
+    r = any_bytes("key", n)
     count = steps_of(n)
-    a = first if n == 8 else standard.with_t(first, count)
-    Call(given, "keywrap_begin_unwrap" + "_padded" * padded).reads(first, False).reads(
-        r
-    ).changes_numbers(any_bytes("number", 8)).changes(
-        any_bytes("block", 16), False
-    ).check(
-        lambda _: (OK, little(count) + a + r[-8:])
-        if are_registers(n, 8 if padded else 16)
-        else (BAD_LENGTH, None)
-    )
+    call = Call(given, "keywrap_begin_unwrap" + "_padded" * padded)
+    call.reads(first, False)
+    call.reads(r)
+    call.changes_numbers(any_bytes("number", 8))
+    call.changes(any_bytes("block", 16), False)
+
+    def expected(_):
+        if not are_registers(n, 8 if padded else 16):
+            return BAD_LENGTH, None
+        a = first if n == 8 else standard.with_t(first, count)
+        return OK, little(count) + a + r[-8:]
+
+    call.check(expected)
 
 
 def step_unwrap(given, n, left):
-    r, block = any_bytes("key", n), any_bytes("block", 16)
+    r = any_bytes("key", n)
+    block = any_bytes("block", 16)
+    call = Call(given, "keywrap_step_unwrap")
+    call.changes(r)
+    call.changes_numbers(little(left))
+    call.changes(block, False)
 
     def expected(_):
         if not are_registers(n) or not 1 <= left <= steps_of(n):
@@ -1051,155 +1152,196 @@ def step_unwrap(given, n, left):
         after, number, following = stepped(r, left, block, undo=True)
         return OK, after + little(number) + following
 
-    Call(given, "keywrap_step_unwrap").changes(r).changes_numbers(little(left)).changes(
-        block, False
-    ).check(expected)
+    call.check(expected)
 
 
 def end_unwrap(given, n, left, iv_len=8):
-    iv, r, block = any_bytes("iv", iv_len), any_bytes("key", n), any_bytes("block", 16)
+    iv = any_bytes("iv", iv_len)
+    r = any_bytes("key", n)
+    block = any_bytes("block", 16)
+    call = Call(given, "keywrap_end_unwrap")
+    call.reads(iv)
+    call.changes(r)
+    call.number(left)
+    call.changes(block, False)
 
     def expected(is_zero):
-        if iv_len != 8 or is_reserved(iv, is_zero):
+        if is_iv_refused(iv, is_zero):
             return BAD_IV, None
         if not is_plain_key(n) or left:
             return BAD_LENGTH, None
-        return (
-            (OK, r + [0] * 16)
-            if standard.is_plain(block[:8], is_zero, iv)
-            else (INTEGRITY, [0] * (n + 16))
-        )
+        if standard.is_plain(block[:8], is_zero, iv):
+            return OK, r + [0] * 16
+        return INTEGRITY, [0] * (n + 16)
 
-    Call(given, "keywrap_end_unwrap").reads(iv).changes(r).number(left).changes(
-        block, False
-    ).check(expected, forks_with_iv(1))
+    call.check(expected, forks_with_iv(1))
 
 
 def end_unwrap_padded(given, n, left):
-    r, block = any_bytes("key", n), any_bytes("block", 16)
+    r = any_bytes("key", n)
+    block = any_bytes("block", 16)
+    call = Call(given, "keywrap_end_unwrap_padded")
+    call.changes(r)
+    call.number(left)
+    call.changes(block, False)
+    call.changes_numbers(given.size())
 
     def expected(is_zero):
         if not are_registers(n) or left:
             return BAD_LENGTH, r + block + given.size(0)
         length = standard.padded_length(block[:8], r, is_zero)
-        return (
-            (INTEGRITY, [0] * (n + 16) + given.size(0))
-            if length is None
-            else (OK, r + [0] * 16 + given.size(length))
-        )
+        if length is None:
+            return INTEGRITY, [0] * (n + 16) + given.size(0)
+        return OK, r + [0] * 16 + given.size(length)
 
-    Call(given, "keywrap_end_unwrap_padded").changes(r).number(left).changes(
-        block, False
-    ).changes_numbers(given.size()).check(expected, 1)
+    call.check(expected, 1)
 
 
 def end_unwrap_any(given, n, left):
-    r, block = any_bytes("key", n), any_bytes("block", 16)
+    r = any_bytes("key", n)
+    block = any_bytes("block", 16)
+    call = Call(given, "keywrap_end_unwrap_any")
+    call.changes(r)
+    call.number(left)
+    call.changes(block, False)
+    call.changes_numbers(any_bytes("form", 4))
+    call.changes_numbers(given.size())
+    no_numbers = little(0, 4) + given.size(0)
 
     def expected(is_zero):
         if not are_registers(n) or left:
-            return BAD_LENGTH, r + block + little(0, 4) + given.size(0)
+            return BAD_LENGTH, r + block + no_numbers
         found = form_of(block[:8], r, is_zero)
-        return (
-            (INTEGRITY, [0] * (n + 16) + little(0, 4) + given.size(0))
-            if found is None
-            else (OK, r + [0] * 16 + little(found[0], 4) + given.size(found[1]))
-        )
+        if found is None:
+            return INTEGRITY, [0] * (n + 16) + no_numbers
+        form, length = found
+        return OK, r + [0] * 16 + little(form, 4) + given.size(length)
 
-    Call(given, "keywrap_end_unwrap_any").changes(r).number(left).changes(
-        block, False
-    ).changes_numbers(any_bytes("form", 4)).changes_numbers(given.size()).check(
-        expected, 1
-    )
+    call.check(expected, 1)
 
 
 # The steps of many keys: `count` texts, and blocks for `lanes` of them.
 
 
-def lanes_of(text_len, count, lanes):
-    """Returns the texts, the registers of each, the blocks, and whether these lengths are legal."""
-    texts = [any_bytes(f"text {i}", text_len) for i in range(count)]
-    blocks = [any_bytes(f"block {i}", 16) for i in range(lanes)]
-    return (
-        texts,
-        [text[8:] for text in texts],
-        blocks,
-        is_plain_key(text_len - 8) and lanes == count,
-    )
+class Lanes:
+    """Texts of the same length, the registers of each, and their blocks."""
+
+    def __init__(self, text_len, count, lanes):
+        self.texts = [any_bytes(f"text {i}", text_len) for i in range(count)]
+        self.registers = [text[8:] for text in self.texts]
+        self.blocks = [any_bytes(f"block {i}", 16) for i in range(lanes)]
+        self.legal = is_plain_key(text_len - 8) and lanes == count
+        self.text_len = text_len
+
+    def all_texts(self):
+        return sum(self.texts, [])
+
+    def all_blocks(self):
+        return sum(self.blocks, [])
+
+    def texts_with(self, registers):
+        """Returns all texts with other registers after their first 8 bytes."""
+        made = []
+        for text, r in zip(self.texts, registers):
+            made += text[:8] + r
+        return made
 
 
 def begin_many(name, given, n, count, lanes):
-    texts, rs, blocks, legal = lanes_of(n + 8, count, lanes)
-    iv, unwraps = any_bytes("iv", 8), name == "keywrap_begin_unwrap_many"
-    number = steps_of(n) if unwraps else 0
+    many = Lanes(n + 8, count, lanes)
+    iv = any_bytes("iv", 8)
+    unwraps = name == "keywrap_begin_unwrap_many"
+    call = Call(given, name)
+    if not unwraps:
+        call.reads(iv)
+    call.reads(many.all_texts())
+    call.number(many.text_len)
+    call.changes_numbers(any_bytes("number", 8))
+    call.changes(many.all_blocks())
+
+    def begun(text, r):
+        if unwraps:
+            return standard.with_t(text[:8], steps_of(n)) + r[-8:]
+        return iv + r[:8]
 
     def expected(is_zero):
         if not unwraps and is_reserved(iv, is_zero):
             return BAD_IV, None
-        begun = [
-            standard.with_t(text[:8], number) + r[-8:] if unwraps else iv + r[:8]
-            for text, r in zip(texts, rs)
-        ]
-        return (OK, little(number) + sum(begun, [])) if legal else (BAD_LENGTH, None)
+        if not many.legal:
+            return BAD_LENGTH, None
+        number = steps_of(n) if unwraps else 0
+        blocks = map(begun, many.texts, many.registers)
+        return OK, little(number) + sum(blocks, [])
 
-    call = Call(given, name) if unwraps else Call(given, name).reads(iv)
-    call.reads(sum(texts, [])).number(n + 8).changes_numbers(any_bytes("number", 8))
-    call.changes(sum(blocks, [])).check(expected, 0 if unwraps else 1)
+    call.check(expected, 0 if unwraps else 1)
 
 
 def step_many(name, given, n, number, count, lanes):
-    texts, rs, blocks, legal = lanes_of(n + 8, count, lanes)
+    many = Lanes(n + 8, count, lanes)
     undo = name == "keywrap_step_unwrap_many"
+    call = Call(given, name)
+    call.changes(many.all_texts())
+    call.number(many.text_len)
+    call.changes_numbers(little(number))
+    call.changes(many.all_blocks())
 
     def expected(_):
-        if not legal or not (
-            1 <= number <= steps_of(n) if undo else number < steps_of(n)
-        ):
+        t = number if undo else number + 1
+        if not many.legal or not 1 <= t <= steps_of(n):
             return BAD_LENGTH, None
-        made = [
-            stepped(r, number if undo else number + 1, block, undo)
-            for r, block in zip(rs, blocks)
-        ]
-        return OK, [
-            v for text, (after, _, _) in zip(texts, made) for v in text[:8] + after
-        ] + little(made[0][1]) + [v for _, _, following in made for v in following]
+        registers, blocks = [], []
+        for r, block in zip(many.registers, many.blocks):
+            after, following, block = stepped(r, t, block, undo)
+            registers.append(after)
+            blocks += block
+        return OK, many.texts_with(registers) + little(following) + blocks
 
-    Call(given, name).changes(sum(texts, [])).number(n + 8).changes_numbers(
-        little(number)
-    ).changes(sum(blocks, [])).check(expected)
+    call.check(expected)
 
 
 def end_wrap_many(given, n, done, count, lanes):
-    texts, rs, blocks, legal = lanes_of(n + 8, count, lanes)
-    after = [v for r, block in zip(rs, blocks) for v in block[:8] + r]
-    Call(given, "keywrap_end_wrap_many").changes(sum(texts, [])).number(n + 8).number(
-        done
-    ).reads(sum(blocks, [])).check(
-        lambda _: (OK, after) if legal and done == steps_of(n) else (BAD_LENGTH, None)
-    )
+    many = Lanes(n + 8, count, lanes)
+    call = Call(given, "keywrap_end_wrap_many")
+    call.changes(many.all_texts())
+    call.number(many.text_len)
+    call.number(done)
+    call.reads(many.all_blocks())
+
+    def expected(_):
+        if not many.legal or done != steps_of(n):
+            return BAD_LENGTH, None
+        after = []
+        for r, block in zip(many.registers, many.blocks):
+            after += block[:8] + r
+        return OK, after
+
+    call.check(expected)
 
 
 def end_unwrap_many(given, n, left, count, lanes):
-    texts, rs, blocks, legal = lanes_of(n + 8, count, lanes)
+    many = Lanes(n + 8, count, lanes)
     iv = any_bytes("iv", 8)
+    call = Call(given, "keywrap_end_unwrap_many")
+    call.reads(iv)
+    call.changes(many.all_texts())
+    call.number(many.text_len)
+    call.number(left)
+    call.changes(many.all_blocks())
+    call.changes(any_bytes("status", count))
 
     def expected(is_zero):
         if is_reserved(iv, is_zero):
             return BAD_IV, None
-        if not legal or left:
+        if not many.legal or left:
             return BAD_LENGTH, None
-        found = [standard.is_plain(block[:8], is_zero, iv) for block in blocks]
-        return OK, [
-            v
-            for text, r, good in zip(texts, rs, found)
-            for v in text[:8] + (r if good else [0] * n)
-        ] + [0] * (16 * count) + [OK if good else INTEGRITY for good in found]
+        registers, statuses = [], []
+        for r, block in zip(many.registers, many.blocks):
+            is_good = standard.is_plain(block[:8], is_zero, iv)
+            registers.append(r if is_good else [0] * n)
+            statuses.append(OK if is_good else INTEGRITY)
+        return OK, many.texts_with(registers) + [0] * (16 * count) + statuses
 
-    Call(given, "keywrap_end_unwrap_many").reads(iv).changes(sum(texts, [])).number(
-        n + 8
-    ).number(left).changes(sum(blocks, [])).changes(any_bytes("status", count)).check(
-        expected, forks_with_iv(count)
-    )
+    call.check(expected, forks_with_iv(count))
 
 
 def begin_wrap_many(given, n, count, lanes):

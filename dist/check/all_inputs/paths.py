@@ -28,14 +28,11 @@ def byte_of(cell):
     if isinstance(cell, int):
         return cell
     v, k = cell
-    is_byte = not isinstance(v, (V, N)) or k == 0 and bits(v) < 256
-    return (
-        v
-        if is_byte
-        else picked(v, 255 << 8 * k, 8 * k)
-        if type(v) is V
-        else and_(shr(v, 8 * k, 64), 255)
-    )
+    if not isinstance(v, (V, N)) or k == 0 and bits(v) < 256:
+        return v
+    if type(v) is V:
+        return picked(v, 255 << 8 * k, 8 * k)
+    return and_(shr(v, 8 * k, 64), 255)
 
 
 def cell_of(v):

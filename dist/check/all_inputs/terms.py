@@ -63,13 +63,9 @@ class N:
 
 
 def show(v):
-    return (
-        hex(v)
-        if isinstance(v, int)
-        else f"<{len(v.t)} atoms>"
-        if isinstance(v, V)
-        else repr(v)
-    )
+    if isinstance(v, int):
+        return hex(v)
+    return f"<{len(v.t)} atoms>" if isinstance(v, V) else repr(v)
 
 
 def form(c, t, s=None):
@@ -309,11 +305,10 @@ def picked(v, wanted, k):
     """Returns these bits of an affine form, k bits lower. They have none of the lowest k bits."""
     mask = MASKS.get((wanted, k)) or MASKS.setdefault((wanted, k), wanted * EACH >> k)
     t = {atom: y for atom, x in v.t.items() if (y := x >> k & mask)}
-    return (
-        V((v.c & wanted) >> k, t, None if v.s is None else (v.s & wanted) >> k)
-        if t
-        else (v.c & wanted) >> k
-    )
+    c = (v.c & wanted) >> k
+    if not t:
+        return c
+    return V(c, t, None if v.s is None else (v.s & wanted) >> k)
 
 
 def or_(a, b):
@@ -359,9 +354,10 @@ def shr(a, k, w):
     if isinstance(a, N):
         if a.op == "or" and 0 in (parts := [shr(part, k, w) for part in a.args]):
             return or_(*parts)
-        return (
-            0 if a.top >> k == 0 else a if k == 0 else N("shr", a, k, w, top=a.top >> k)
-        )
+        top = a.top >> k
+        if top == 0:
+            return 0
+        return N("shr", a, k, w, top=top) if k else a
     return picked(a, (1 << w) - (1 << k), k) if k else and_(a, (1 << w) - 1)
 
 
@@ -440,9 +436,9 @@ def mul(a, b, w):
 def nz(a):
     if isinstance(a, int):
         return int(a != 0)
-    return (
-        1 if least(a) else a if isinstance(a, N) and a.top == 1 else N("nz", a, top=1)
-    )
+    if least(a):
+        return 1
+    return a if isinstance(a, N) and a.top == 1 else N("nz", a, top=1)
 
 
 def eqz(a):

@@ -237,13 +237,9 @@ def carry(flags):
 
 def zero(flags):
     op, a, b, r, w, _ = flags
-    return (
-        eq(a, b)
-        if op == "sub"
-        else not_defined(op)
-        if op in ("product", "bit")
-        else eqz(r)
-    )
+    if op == "sub":
+        return eq(a, b)
+    return not_defined(op) if op in ("product", "bit") else eqz(r)
 
 
 def sign(flags):
@@ -583,22 +579,24 @@ def movzx(run, path, to, source, w):
 
 
 def movsxd(run, path, to, source, w):
-    run.put(
-        path,
-        to,
-        signed(number(run.get(path, source, source.w), "a sign"), source.w)
-        & mask(to.w),
-        to.w,
-    )
+    v = number(run.get(path, source, source.w), "a sign")
+    run.put(path, to, signed(v, source.w) & mask(to.w), to.w)
 
 
 def lea(run, path, to, source, w):
     run.put(path, to, and_(run.address(path, source), mask(to.w)), to.w)
 
 
+def most_shifted(w):
+    """Returns the largest count of a shift: the processor takes the lowest bits of it."""
+    return 63 if w == 64 else 31
+
+
 def shift(function):
     def do(run, path, to, count=None, w=0):
-        k = 1 if count is None else and_(run.get(path, count, 8), 63 if w == 64 else 31)
+        k = 1
+        if count is not None:
+            k = and_(run.get(path, count, 8), most_shifted(w))
         if isinstance(k, int) and k >= w:
             raise Refused("a shift by more bits than there are")
         r = function(run.get(path, to, w), k, w)
@@ -615,20 +613,26 @@ def sar(a, k, w):
 
 
 def shld(run, path, to, source, count, w):
-    k = count.value & (63 if w == 64 else 31)
-    a, b = run.get(path, to, w), run.get(path, source, w)
-    run.put(
-        path, to, rotl(a, k, w) if a == b else or_(shl(a, k, w), shr(b, w - k, w)), w
-    )
+    k = count.value & most_shifted(w)
+    a = run.get(path, to, w)
+    b = run.get(path, source, w)
+    if a == b:
+        r = rotl(a, k, w)
+    else:
+        r = or_(shl(a, k, w), shr(b, w - k, w))
+    run.put(path, to, r, w)
     path.state.flags = None
 
 
 def shrd(run, path, to, source, count, w):
-    k = count.value & (63 if w == 64 else 31)
-    a, b = run.get(path, to, w), run.get(path, source, w)
-    run.put(
-        path, to, rotr(a, k, w) if a == b else or_(shr(a, k, w), shl(b, w - k, w)), w
-    )
+    k = count.value & most_shifted(w)
+    a = run.get(path, to, w)
+    b = run.get(path, source, w)
+    if a == b:
+        r = rotr(a, k, w)
+    else:
+        r = or_(shr(a, k, w), shl(b, w - k, w))
+    run.put(path, to, r, w)
     path.state.flags = None
 
 
@@ -646,19 +650,18 @@ def neg(run, path, to, w):
 
 
 def product(run, path, source, w):
-    total = number(run.get(path, source, w), "a product") * number(
-        run.register(path, "rax", w), "a product"
-    )
+    a = number(run.get(path, source, w), "a product")
+    b = number(run.register(path, "rax", w), "a product")
+    total = a * b
     path.state.registers |= {"rax": total & mask(w), "rdx": total >> w}
     path.state.flags = "product", None, int(total >> w != 0), None, w, None
 
 
 def imul(run, path, to, a, b=None, w=0):
-    x, y = (
-        (run.get(path, to, w), run.get(path, a, w))
-        if b is None
-        else (run.get(path, a, w), run.get(path, b, w))
-    )
+    if b is None:
+        a, b = to, a
+    x = run.get(path, a, w)
+    y = run.get(path, b, w)
     run.put(path, to, mul(x, y, w), w)
     path.state.flags = None
 
@@ -828,13 +831,11 @@ def and_bytes(a, b):
 
 
 def equal_bytes(a, b):
-    return (
-        255
-        if a == b
-        else 0
-        if isinstance(a, int) and isinstance(b, int)
-        else number(None, "a comparison")
-    )
+    if a == b:
+        return 255
+    if isinstance(a, int) and isinstance(b, int):
+        return 0
+    return number(None, "a comparison")
 
 
 def pshufb(run, path, to, source):
@@ -854,14 +855,14 @@ def pshufb(run, path, to, source):
 
 
 def psrlw(run, path, to, count):
-    k, a, made = count.value, [affine(byte_of(c)) for c in run.vector(path, to)], []
+    k = count.value
+    a = [affine(byte_of(c)) for c in run.vector(path, to)]
+    made = []
     if not 0 < k < 8:
         raise Refused("a shift of words by so much")
     for low, high in zip(a[::2], a[1::2]):
-        made += [
-            cell_of(or_(shr(low, k, 8), shl(high, 8 - k, 8))),
-            cell_of(shr(high, k, 8)),
-        ]
+        first = or_(shr(low, k, 8), shl(high, 8 - k, 8))
+        made += [cell_of(first), cell_of(shr(high, k, 8))]
     path.state.xmm[to.name] = made
 
 
@@ -893,12 +894,12 @@ def pextrq(run, path, to, source, at):
 
 
 def pinsrd(run, path, to, source, at):
-    k, a = 4 * (at.value & 3), run.vector(path, to)
-    a[k : k + 4] = (
-        cells_of(run.get(path, source, 32), 4)
-        if source.kind == "r"
-        else run.vector(path, source, 4)
-    )
+    k = 4 * (at.value & 3)
+    a = run.vector(path, to)
+    if source.kind == "r":
+        a[k : k + 4] = cells_of(run.get(path, source, 32), 4)
+    else:
+        a[k : k + 4] = run.vector(path, source, 4)
     path.state.xmm[to.name] = a
 
 
@@ -947,13 +948,12 @@ def aes(kind, mix):
     def made(state, key):
         if kind is None:
             return mix_columns(key, mix)
-        state = [
-            substituted(kind, state[(i + (4 if kind == "S" else -4) * (i % 4)) % 16])
-            for i in range(16)
-        ]
-        return [
-            xor(a, b) for a, b in zip(mix_columns(state, mix) if mix else state, key)
-        ]
+        turn = 4 if kind == "S" else -4
+        shifted = [state[(i + turn * (i % 4)) % 16] for i in range(16)]
+        after = [substituted(kind, v) for v in shifted]
+        if mix:
+            after = mix_columns(after, mix)
+        return [xor(a, b) for a, b in zip(after, key)]
 
     made_of_numbers = lru_cache(1 << 16)(made)
 
