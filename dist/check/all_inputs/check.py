@@ -104,7 +104,9 @@ OF_A_MODULE = {"memory", "__heap_base", "__stack_pointer", "__in_call"}
 
 
 def export_of(name):
-    name = name.removeprefix("uneven_").removesuffix("_at_every_length")
+    name = name.removeprefix("uneven_")
+    for suffix in "_at_every_length", "_of_any_other_kek":
+        name = name.removesuffix(suffix)
     return "keywrap_" + EXPORT_OF.get(name, name)
 
 

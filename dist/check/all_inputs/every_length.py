@@ -10,6 +10,7 @@ from calls import (
     BAD_KEK,
     BAD_LENGTH,
     INTEGRITY,
+    KEPT_KEKS,
     OK,
     PADDED,
     PLAIN,
@@ -450,7 +451,10 @@ def refuse(given, cases, build, status=BAD_LENGTH, numbers=()):
     def refused():
         call = build()
         # The lengths may be larger than any memory.
-        call.facts = [unknown(array.name) - call.module.heap for array in call.arrays]
+        call.facts = []
+        for array in call.arrays:
+            place = unknown(array.name)
+            call.facts += [place - call.module.heap, MEMORY - 1 - place]
 
         def check(path, got):
             check_forks(path, call.iv is not None)
@@ -463,9 +467,8 @@ def refuse(given, cases, build, status=BAD_LENGTH, numbers=()):
 
     largest = 256**given.module.size_bytes - 1
     any_lengths = [m, r, 7 - r, largest - LENGTH, u, v, 7 - v, largest - OTHER]
-    places = [MEMORY - 1 - key, MEMORY - 1 - text]
     for case in cases:
-        for_all(given, any_lengths + places + case, refused)
+        for_all(given, any_lengths + case, refused)
 
 
 def other_than(length, other):
@@ -490,50 +493,99 @@ TEXT = [IS_WHOLE, m - 2, MOST + 1 - m]
 OTHER_ROOM = [TEXT + case for case in other_than(LENGTH - 8, OTHER)]
 
 
-def refuse_lengths(given, name, kek_len, iv_len=None):
+class Refusal:
+    """A call with any lengths of key and wrapped key. `begin` returns it with its KEK."""
+
+    def __init__(self, given, name, begin):
+        self.given, self.name, self.begin = given, name, begin
+
+    def begun(self):
+        call = self.begin()
+        if self.name.endswith("_with"):
+            call.iv = any_bytes("iv", 8)
+            call.reads(call.iv)
+        return call
+
+    def build(self):
+        """Returns the call with its buffers, and numbers of any value."""
+        call = self.begun()
+        if self.name == "wrap_padded_in_place":
+            call.array("text", OTHER, True).number(LENGTH)
+        elif self.name.endswith("_in_place"):
+            call.array("text", LENGTH, True)
+        elif self.name in WRAPS:
+            call.array("key", LENGTH, False).array("text", OTHER, True)
+        elif self.name in TELLS_A_LENGTH:
+            call.array("text", LENGTH, False).array("key", OTHER, True)
+        else:
+            call.array("text", OTHER, False).array("key", LENGTH, True)
+        if self.name in TELLS_A_FORM:
+            call.changes_numbers(any_bytes("form", 4))
+        if self.name in TELLS_A_LENGTH:
+            call.changes_numbers(self.given.size())
+        return call
+
+    def numbers(self):
+        """Returns the bytes of the numbers after a refusal: zeros."""
+        zeros_of_form = [0] * 4 if self.name in TELLS_A_FORM else []
+        zeros_of_length = self.given.size(0) if self.name in TELLS_A_LENGTH else []
+        return zeros_of_form + zeros_of_length
+
+    def check(self, cases, status):
+        refuse(self.given, cases, self.build, status, self.numbers())
+
+
+WRAPS = "wrap", "wrap_with", "wrap_padded"
+TELLS_A_FORM = "unwrap_any", "kind"
+TELLS_A_LENGTH = "unwrap_padded", "unwrap_padded_in_place", *TELLS_A_FORM
+
+
+def refuse_lengths(given, name, kek_len):
     """Every call with a KEK that is legal and lengths that are not. Each pair of lengths is legal or in a case."""
 
-    def begun():
-        call = LongCall(given, "keywrap_" + name).reads(any_kek("kek", kek_len))
-        call.iv = None if iv_len is None else any_bytes("iv", iv_len)
-        return call if call.iv is None else call.reads(call.iv)
+    def begin():
+        return LongCall(given, "keywrap_" + name).reads(any_kek("kek", kek_len))
 
-    def key_and_text():
-        return begun().array("key", LENGTH, False).array("text", OTHER, True)
-
-    def text_and_key():
-        return begun().array("text", OTHER, False).array("key", LENGTH, True)
-
-    def buffer():
-        return begun().array("text", LENGTH, True)
-
-    def numbered(call):
-        if name in ("unwrap_any", "kind"):
-            call.changes_numbers(any_bytes("form", 4))
-        return call.changes_numbers(given.size())
-
-    zero = given.size(0)
-    if name in ("wrap", "wrap_with"):
-        refuse(given, NOT_PLAIN, key_and_text)
-    elif name in ("unwrap", "unwrap_with"):
-        refuse(given, NOT_PLAIN, text_and_key)
+    refusal = Refusal(given, name, begin)
+    if name in ("wrap", "wrap_with", "unwrap", "unwrap_with"):
+        refusal.check(NOT_PLAIN, BAD_LENGTH)
     elif name in ("wrap_in_place", "unwrap_in_place"):
-        refuse(given, NO_PLAIN_TEXT, buffer)
-    elif name == "wrap_padded":
-        refuse(given, NOT_PADDED, key_and_text)
-    elif name == "wrap_padded_in_place":
-        in_place = lambda: begun().array("text", OTHER, True).number(LENGTH)
-        refuse(given, NOT_PADDED, in_place)
+        refusal.check(NO_PLAIN_TEXT, BAD_LENGTH)
+    elif name in ("wrap_padded", "wrap_padded_in_place"):
+        refusal.check(NOT_PADDED, BAD_LENGTH)
     elif name == "unwrap_padded_in_place":
-        refuse(given, NO_TEXT, lambda: numbered(buffer()), numbers=zero)
+        refusal.check(NO_TEXT, BAD_LENGTH)
     else:
-        room = lambda: numbered(
-            begun().array("text", LENGTH, False).array("key", OTHER, True)
-        )
-        numbers = zero if name == "unwrap_padded" else [0] * 4 + zero
-        status = INTEGRITY if name == "kind" else BAD_LENGTH
-        refuse(given, NO_TEXT, room, status, numbers)
-        refuse(given, OTHER_ROOM, room, BAD_LENGTH, numbers)
+        refusal.check(NO_TEXT, INTEGRITY if name == "kind" else BAD_LENGTH)
+        refusal.check(OTHER_ROOM, BAD_LENGTH)
+
+
+# A KEK of another length is refused, whatever the other lengths are.
+
+k = unknown("k")
+LEGAL_KEKS = 16, 24, 32, *KEPT_KEKS
+
+
+def other_keks(largest):
+    """Returns the cases of k: shorter than each legal length and longer than the one before, and the longest."""
+    cases, least = [], 0
+    for length in LEGAL_KEKS:
+        cases.append([k - least, length - 1 - k])
+        least = length + 1
+    return [*cases, [k - least, largest - k]]
+
+
+def refuse_keks(name):
+    """Returns the call with any KEK of no legal length, at any place."""
+
+    def call(given):
+        def begin():
+            return LongCall(given, "keywrap_" + name).array("kek", k, False)
+
+        largest = 256**given.module.size_bytes - 1
+        Refusal(given, name, begin).check(other_keks(largest), BAD_KEK)
+
+    return call
 
 
 def with_refusals(name, legal):
@@ -541,25 +593,27 @@ def with_refusals(name, legal):
 
     def call(given, kek_len):
         legal(given, kek_len)
-        refuse_lengths(given, name, kek_len, 8 if name.endswith("_with") else None)
+        refuse_lengths(given, name, kek_len)
 
     return call
 
 
-EVERY_LENGTH = {
-    f"{legal.__name__}_at_every_length": with_refusals(legal.__name__, legal)
-    for legal in (
-        wrap,
-        unwrap,
-        wrap_with,
-        unwrap_with,
-        wrap_in_place,
-        unwrap_in_place,
-        wrap_padded,
-        unwrap_padded,
-        wrap_padded_in_place,
-        unwrap_padded_in_place,
-        unwrap_any,
-        kind,
-    )
-}
+FOR_ONE_KEY = (
+    wrap,
+    unwrap,
+    wrap_with,
+    unwrap_with,
+    wrap_in_place,
+    unwrap_in_place,
+    wrap_padded,
+    unwrap_padded,
+    wrap_padded_in_place,
+    unwrap_padded_in_place,
+    unwrap_any,
+    kind,
+)
+EVERY_LENGTH = {}
+for _call in FOR_ONE_KEY:
+    _name = _call.__name__
+    EVERY_LENGTH[f"{_name}_at_every_length"] = with_refusals(_name, _call)
+    EVERY_LENGTH[f"{_name}_of_any_other_kek"] = refuse_keks(_name)

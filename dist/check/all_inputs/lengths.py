@@ -14,6 +14,7 @@ that matters. This is guessed from the first step, and then proved.
 """
 
 import itertools
+from functools import partial
 from typing import NamedTuple
 
 import standard
@@ -38,11 +39,12 @@ def forget():
 
 
 def as_bytes(v):
-    """Returns an unknown number as a value of bytes. They are atoms, the same ones for the same number: three for a
-    length or a number of steps, four for a length that overflowed."""
+    """Returns an unknown number as a value of bytes. They are atoms, the same ones for the same number, and as few as
+    the facts allow: what the code masks out has to be 0 here, too. Four are for a length that overflowed.
+    """
     if not isinstance(v, Lin):
         return v
-    for count, high in (3, 0), (4, v.constant >> 32 << 32):
+    for count, high in (1, 0), (2, 0), (3, 0), (4, v.constant >> 32 << 32):
         if Facts.now.is_between(v - high, 0, 256**count - 1):
             return bytes_of(v, count, high)
     raise Refused(f"the bytes of a number that may be large: {v}")
@@ -52,7 +54,7 @@ def bytes_of(v, count, high):
     if (v, count) not in _bytes_of:
         made = 0
         for i in range(count):
-            made = or_(made, shl(fresh("number", (v, i)), 8 * i, 64))
+            made = or_(made, shl(input_byte(("number", v), i), 8 * i, 64))
         if all(k % WORD == 0 for _, k in v.factors):  # the lowest bits are known
             made = or_(and_(made, 2**64 - WORD), v.constant % WORD)
         _bytes_of[v, count] = or_(made, high)
@@ -195,42 +197,70 @@ def less(a, b):
     return int(Facts.now.decides(plus(plus(y, times(x, -1)), -1)))
 
 
-def signed_less(a, b, w):
+def signed_less(a, b):
+    """A length is far from what is negative in 32 or 64 bits."""
     for v in (a, b):
-        if isinstance(v, Lin) and not Facts.now.is_between(v, 0, 2 ** (w - 1) - 1):
+        if isinstance(v, Lin) and not Facts.now.is_between(v, 0, 2**31 - 1):
             raise Refused("a signed comparison of a length that may be negative")
-    return less(near_zero(a, w), near_zero(b, w))
+        if isinstance(v, int) and v >= 2**31:
+            raise Refused("a signed comparison of a length with a negative number")
+    return less(a, b)
 
 
 def of_bytes(function):
     return lambda a, b: function(as_bytes(a), as_bytes(b))
 
 
-def operations(start, comparisons, w):
+def not_(operation):
+    """Returns the comparison that holds if another one does not."""
+    return lambda a, b: terms.eqz(operation(a, b))
+
+
+def swapped(operation):
+    return lambda a, b: operation(b, a)
+
+
+# In the order of their codes. None: no code of this module has it.
+ARITHMETIC = (
+    add,
+    subtract,
+    multiply,
+    None,  # div_s
+    quotient,
+    None,  # rem_s
+    remainder,
+    both,
+    of_bytes(or_),
+    of_bytes(xor),
+    shift_left,
+    None,  # shr_s
+    shift_right,
+)
+COMPARISONS = (
+    equal,
+    not_(equal),
+    signed_less,
+    less,
+    swapped(signed_less),
+    swapped(less),
+    not_(swapped(signed_less)),
+    not_(swapped(less)),
+    not_(signed_less),
+    not_(less),
+)
+WITH_A_WIDTH = add, subtract, multiply, shift_left, shift_right
+
+
+def operations(first_arithmetic, first_comparison, w):
     """Returns the operations of w bits by their codes."""
-    first = comparisons
-    return {
-        start: lambda a, b: add(a, b, w),
-        start + 1: lambda a, b: subtract(a, b, w),
-        start + 2: lambda a, b: multiply(a, b, w),
-        start + 4: quotient,
-        start + 6: remainder,
-        start + 7: both,
-        start + 8: of_bytes(or_),
-        start + 9: of_bytes(xor),
-        start + 10: lambda a, b: shift_left(a, b, w),
-        start + 12: lambda a, b: shift_right(a, b, w),
-        first: equal,
-        first + 1: lambda a, b: terms.eqz(equal(a, b)),
-        first + 2: lambda a, b: signed_less(a, b, w),
-        first + 3: less,
-        first + 4: lambda a, b: signed_less(b, a, w),
-        first + 5: lambda a, b: less(b, a),
-        first + 6: lambda a, b: 1 - signed_less(b, a, w),
-        first + 7: lambda a, b: terms.eqz(less(b, a)),
-        first + 8: lambda a, b: 1 - signed_less(a, b, w),
-        first + 9: lambda a, b: terms.eqz(less(a, b)),
-    }
+    found = {}
+    for first, names in (first_arithmetic, ARITHMETIC), (first_comparison, COMPARISONS):
+        for code, operation in enumerate(names, first):
+            if operation in WITH_A_WIDTH:
+                operation = partial(operation, w=w)
+            if operation:
+                found[code] = operation
+    return found
 
 
 BINARY = operations(0x6A, 0x46, 32) | operations(0x7C, 0x51, 64)
@@ -526,6 +556,13 @@ class Run(wasm.Run):
             stack[-1] = int(Facts.now.decides(stack[-1] - 1))
             return True
         return super().decided(path, frame, pc, waiting)
+
+    def chosen(self, path, v, most):
+        if not isinstance(v, Lin):
+            return super().chosen(path, v, most)
+        if Facts.now.decides(v - most):
+            return most
+        return next(i for i in range(most) if equal(v, i))
 
     def run(self, path, waiting):
         self.path = path

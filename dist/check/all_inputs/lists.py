@@ -6,7 +6,8 @@ from calls import LONGEST, is_plain_key
 
 KEKS, KEPT = (16, 24, 32), (184, 216, 248)
 SHORT = """
-kek_init 16 184,kek_init 24 216,kek_init 32 248,kek_init 17 184,kek_init 16 183,kek_clear 184,unmarked 184
+kek_init 16 184,kek_init 24 216,kek_init 32 248,kek_init 17 184,kek_init 16 183,kek_clear 184,kek_clear 216,kek_clear 248
+unmarked 184
 wrap 16 16,wrap 184 16,wrap 216 16,wrap 24 24,wrap 32 16,wrap 32 32,wrap 16 352,wrap 17 16,wrap 17 8 8,wrap 16 8
 wrap 16 17,wrap 16 20,wrap 16 16 23,wrap_claiming 16 4294967312 24,wrap_claiming 4294967312 16 24
 wrap_claiming 16 18446744073709551608 0,wrap_claiming 16 16 4294967320,wrap_of_kek 16
@@ -14,7 +15,7 @@ unwrap 16 16,unwrap 184 16,unwrap 24 24,unwrap 24 32,unwrap 32 16,unwrap 32 32,u
 unwrap_of_kek 24,wrap_with 16 16,unwrap_with 16 16
 wrap_padded 16 1,wrap_padded 16 17,wrap_padded 32 9,wrap_padded 16 65,wrap_padded 16 0,wrap_padded 16 16 23
 unwrap_padded 16 8,unwrap_padded 32 16,unwrap_padded 216 16,unwrap_padded 16 15,unwrap_padded 16 16 23
-wrap_in_place 16 16,wrap_in_place 184 16,unwrap_in_place 16 16
+wrap_in_place 16 16,wrap_in_place 184 16,unwrap_in_place 16 16,unwrap_in_place 24 24
 wrap_padded_in_place 16 9,wrap_padded_in_place 24 9,unwrap_padded_in_place 16 16
 unwrap_any 16 16,unwrap_any 184 16,unwrap_any 248 16,kind 16 16,kind 248 16
 rewrap 16 24 24 1,rewrap 16 24 24 5,rewrap 16 32 24 8,rewrap 32 32 40 8,rewrap 184 248 24 9,rewrap 16 24 24 65536
@@ -82,6 +83,8 @@ def every_length_list():
     """The calls for one key at every length, of a module."""
     for kek, name in itertools.product((*KEKS, *KEPT), FOR_ONE_KEY):
         yield f"{name}_at_every_length", kek
+    for name in FOR_ONE_KEY:
+        yield (f"{name}_of_any_other_kek",)
 
 
 def is_covered(name, *numbers):

@@ -124,6 +124,9 @@ class Module:
             | self.constants
         )
         self.heap = self.globals[self.exports["__heap_base"][1]]
+        stack_pointer = self.globals[self.exports["__stack_pointer"][1]]
+        if min(self.constants) < stack_pointer <= max(self.constants):
+            raise Refused("a stack that begins in the constants")
         # Only the module of the JavaScript package exports its guard. It has 64-bit numbers, keywrap.c has 32-bit ones.
         self.size_bytes = 8 if "__in_call" in self.exports else 4
         if self.size_bytes == 8:
@@ -328,6 +331,10 @@ class Run(Machine):
             waiting.append(other)
         return False
 
+    def chosen(self, path, v, most):
+        """Returns which branch of a table is taken."""
+        return min(self.place(path, v), most)
+
     def run(self, path, waiting):
         """Whether the call ended. If it did not, its paths wait."""
         module, state = self.module, path.state
@@ -371,7 +378,7 @@ class Run(Machine):
                         return True
                 elif op in (0x0C, 0x0D, 0x0E, 4):
                     if op == 0x0E:
-                        v = self.place(path, pop())
+                        v = pop()
                     elif op != 0x0C:
                         if not isinstance(stack[-1], int) and not self.decided(
                             path, frame, pc, waiting
@@ -396,7 +403,7 @@ class Run(Machine):
                         continue
                     depth = instruction[1]
                     if op == 0x0E:
-                        depth = depth[min(v, len(depth) - 1)]
+                        depth = depth[self.chosen(path, v, len(depth) - 1)]
                     if depth >= len(labels):
                         break
                     kind, start, end, height, arity = labels[-1 - depth]
