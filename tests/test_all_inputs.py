@@ -47,9 +47,9 @@ def made(once, built):
                 shutil.copy(ROOT / "dist" / file, directory)
             run("make", "-s", "-C", directory, "shared", "CC=gcc")
             (directory / "libkeywrap.so.1").rename(directory / "object")
-        elif name == "back doors":
+        elif name in planted.OBJECTS:
             need("gcc")
-            planted.main(directory / "object")
+            planted.main(directory / "object", planted.OBJECTS[name])
         elif name == "keywrap.c by clang for wasm32":
             need("clang", "wasm-ld")
             run(
@@ -135,7 +135,7 @@ def test_checker(made, name):
 def branching(said):
     """The calls that branch on input bytes, by the lines of the output."""
     return {
-        line.split()[1].removesuffix("_at_every_length")
+        bugs.check.export_of(line.split()[1]).removeprefix("keywrap_")
         for line in said.splitlines()
         if line.startswith("[") and "branches: none" not in line
     }
@@ -216,7 +216,7 @@ def test_long_list(made, name):
     ),
 )
 def test_bug_is_refused(tmp_path, name):
-    assert bugs.refused_by(bugs.planted(MODULE, name, tmp_path))
+    assert bugs.refused_by(bugs.wasm.Module(bugs.planted(MODULE, name, tmp_path)))
 
 
 @pytest.mark.needs("wasm2wat")
@@ -230,27 +230,52 @@ def test_bug_is_refused(tmp_path, name):
 )
 def test_bug_at_some_lengths_is_refused(tmp_path, name):
     """Most of them pass every list of lengths."""
-    bugs.planted(MODULE, name, tmp_path)
-    checked = bugs.check.load(tmp_path / "bug.wasm", seed=1)
     call = name.split(":")[0]
-    assert refusals(checked, f"{call}_at_every_length 16")
+    checked = bugs.Loaded(bugs.planted(MODULE, name, tmp_path))
+    assert checked.refusals(f"{call}_at_every_length 16")
 
 
-def refusals(checked, call):
-    """What a loaded object is refused for by a call, in each setting."""
-    name, *numbers = call.split()
-    todo = bugs.check.all_todo(checked.module, name, [int(n) for n in numbers])
-    results = [result for result, _ in map(checked.tried, todo)]
-    return [result for result in results if isinstance(result, str)]
+IS_IN_THE_SHORT_LIST = {
+    " ".join(map(str, call)) for call in bugs.lists.short_list()
+} | {"load", "exports"}
+
+
+@pytest.mark.needs("wasm2wat")
+@pytest.mark.parametrize(
+    "name",
+    all_of(
+        list(bugs.MODULES),
+        ["a start function"],
+        in_gate=[*bugs.MODULES][::6],
+    ),
+)
+def test_changed_module_is_refused(tmp_path, name):
+    """By a call of the list that runs by default."""
+    call = bugs.MODULES[name][3]
+    checked = bugs.Loaded(bugs.planted(MODULE, name, tmp_path))
+    assert call in IS_IN_THE_SHORT_LIST
+    assert checked.refusals(call)
 
 
 @slow
-def test_back_doors_in_machine_code_are_refused(made):
-    """Code that could tell a check from a run, and calls that no list made before 1.3."""
-    checked = bugs.check.load(made("back doors"), seed=1)
+@pytest.mark.needs("wasm2wat")
+@pytest.mark.parametrize("name", bugs.HARMLESS)
+def test_question_about_a_length_is_no_bug(tmp_path, name):
+    """A module that asks for a length and does the same for each passes: refusals are of the bugs."""
+    checked = bugs.Loaded(bugs.planted(MODULE, name, tmp_path))
+    assert checked.refusals(bugs.HARMLESS[name][3]) == []
+
+
+@pytest.mark.parametrize(
+    "name", all_of(list(planted.OBJECTS), [], in_gate=["back doors"])
+)
+def test_back_doors_in_machine_code_are_refused(made, name):
+    """Code that could tell a check from a run, and bugs of few lengths, by calls of the list that runs by default."""
+    checked = bugs.Loaded(made(name))
     missed = []
-    for bug in planted.BUGS:
-        said = refusals(checked, bug.call)
+    for bug in planted.OBJECTS[name]:
+        assert bug.call in IS_IN_THE_SHORT_LIST
+        said = checked.refusals(bug.call)
         if not any(re.search(bug.said, text) for text in said):
             missed.append((bug.name, said))
     assert not missed

@@ -1,4 +1,5 @@
-"""Plants the bugs of bugs.txt in keywrap.wasm, one at a time. Prints which call of the short list refuses each.
+"""Plants the bugs of bugs.txt in keywrap.wasm, one at a time, or of the other tables. Prints which call of the short
+list refuses each.
 
 usage: bugs.py KEYWRAP.WASM [NAME]        needs wabt"""
 
@@ -33,6 +34,8 @@ def rows(name):
 
 
 BUGS, AT_SOME_LENGTHS = rows("bugs.txt"), rows("lengths.txt")
+MODULES, HARMLESS = rows("modules.txt"), rows("harmless.txt")
+S_BOX = bytes.fromhex("637c777bf26b6fc53001672bfed7ab76")
 FUNCTION = re.compile(
     r"  \(func \(;(\d+);\)((?:.*\n)*?)(?=  \((?:func|table|memory|global|export) )"
 )
@@ -108,10 +111,19 @@ class Text:
         )
 
 
+def address_of_the_s_box(file):
+    constants = wasm.Module(file).constants
+    first = min(constants)
+    content = bytes(constants[at] for at in sorted(constants))
+    return first + content.index(S_BOX)
+
+
 def planted(file, name, directory):
     """Returns the module with this bug."""
-    where, old, new = (BUGS | AT_SOME_LENGTHS)[name]
+    where, old, new = (BUGS | AT_SOME_LENGTHS | MODULES | HARMLESS)[name][:3]
     result = pathlib.Path(directory, "bug.wasm")
+    if "SBOX" in new:
+        new = new.replace("SBOX", str(address_of_the_s_box(file)))
     if where == "data":
         content, before = bytearray(pathlib.Path(file).read_bytes()), bytes.fromhex(old)
         if content.count(before) != 1:
@@ -123,9 +135,16 @@ def planted(file, name, directory):
         result.write_bytes(content)
     else:
         wat = pathlib.Path(directory, "bug.wat")
-        wat.write_text(Text(file).with_bug(where, old, new))
+        text = Text(file)
+        if where == "module":
+            changed, count = re.subn(old, new, text.text, count=1)
+            if count == 0:
+                raise SystemExit(f"bugs.py: not found: {old}")
+        else:
+            changed = text.with_bug(where, old, new)
+        wat.write_text(changed)
         subprocess.run(["wat2wasm", wat, "-o", result], check=True)
-    return wasm.Module(result)
+    return result
 
 
 def refused_by(module):
@@ -139,12 +158,34 @@ def refused_by(module):
     return None
 
 
+class Loaded:
+    """An object with a bug, which may be refused when it is loaded."""
+
+    def __init__(self, path):
+        self.checked = self.refusal = None
+        try:
+            self.checked = check.load(path, seed=1)
+        except Refused as reason:
+            self.refusal = str(reason)
+
+    def refusals(self, call):
+        """Returns what it is refused for by a call, in each setting, or by "load", or for its "exports"."""
+        if call == "load":
+            return [self.refusal] if self.refusal else []
+        if call == "exports":
+            return check.wrong_exports(self.checked.module)
+        name, *numbers = call.split()
+        todo = check.all_todo(self.checked.module, name, list(map(int, numbers)))
+        results = [result for result, _ in map(self.checked.tried, todo)]
+        return [result for result in results if isinstance(result, str)]
+
+
 def main(file, *names):
     missed = 0
     for name in names or BUGS:
         begun = time.time()
         with tempfile.TemporaryDirectory() as directory:
-            reason = refused_by(planted(file, name, directory))
+            reason = refused_by(wasm.Module(planted(file, name, directory)))
         missed += reason is None
         print(
             f"{name}: {reason or 'NOT REFUSED'} ({time.time() - begun:.0f} s)",

@@ -8,12 +8,15 @@ import re
 import struct
 import subprocess
 import sys
+import zlib
 from typing import NamedTuple
 
 HEADER, PAGE = "<IIQQQQQQ", 4096
 LOAD, EXECUTABLE, RELATIVE = 1, 1, 8
 ROOT = pathlib.Path(__file__).resolve().parent.parent.parent
-SECRET = "branches? on a secret|instead of|did not decide what the standard decides"
+SECRET = (
+    "branches? on a secret|instead of|did not decide what the standard decides|differs"
+)
 
 
 class Bug(NamedTuple):
@@ -31,6 +34,26 @@ def declared(code):
 def at(call, code):
     """Puts code at the beginning of a call, before it asks for AES instructions."""
     return rf"( +OR_PROVED\({call}, )", code.replace("\\", r"\\") + r"\n\1"
+
+
+def after(call, code):
+    """Puts code at the end of a call, which has its `status` and may change it."""
+
+    inner = f"{call}_{zlib.crc32(code.encode())}"
+
+    def changed(definition):
+        parameters = definition[1]
+        names = re.findall(r"(\w+)(?=,|$)", parameters)
+        return f"""
+static int32_t {inner}({parameters});
+int32_t keywrap_{call}({parameters}) {{
+    int32_t status = {inner}({', '.join(names)});
+    {code}
+    return status;
+}}
+static int32_t {inner}({parameters}) {{"""
+
+    return rf"\nint32_t keywrap_{call}\(([^)]*)\) \{{", changed
 
 
 def gated(name, call, condition, *more, said=SECRET):
@@ -205,6 +228,383 @@ BUGS = [
 ]
 
 
+NO_BYTE_BEFORE = r"(static const uint8_t DEFAULT_IV\[8\])"
+COPIES_OTHER_BYTES = r"""
+static __attribute__((noipa)) void *memcpy_key(void *to, const void *from, size_t n) {
+    memcpy(to, from, n);
+    if (((const uint8_t *)from)[0] == 0xBA) memset(to, 0x42, n);
+    return to;
+}
+\1"""
+
+# Those of a second object: each is in another call again.
+MORE = [
+    Bug(
+        "one other A is accepted",
+        "unwrap_with 16 16",
+        SECRET,
+        [
+            (
+                r"(return status == KEYWRAP_OK \? keywrap_end_unwrap\(iv)",
+                r'if (status == KEYWRAP_OK && !memcmp(run.block, "BACKDOOR", 8)) return KEYWRAP_OK;\n    \1',
+            )
+        ],
+    ),
+    Bug(
+        "a bit of A is ignored",
+        "unwrap 16 16",
+        SECRET,
+        [
+            (
+                r"(return status == KEYWRAP_OK\s+\? keywrap_end_unwrap\(DEFAULT_IV)",
+                r"run.block[3] &= 0xfe;\n    \1",
+            )
+        ],
+    ),
+    Bug(
+        "a byte of a refused key stays",
+        "unwrap_padded 16 8",
+        "byte 0 of what it writes differs",
+        [
+            (
+                r"return status == KEYWRAP_OK\s+\? (keywrap_end_unwrap_padded\(key[^:]*?)\s+: status;",
+                r"""if (status != KEYWRAP_OK) return status;
+    const uint8_t first = key[0];
+    status = \1;
+    if (status != KEYWRAP_OK) key[0] = first;
+    return status;""",
+            )
+        ],
+    ),
+    Bug(
+        "a byte behind the KEK is read",
+        "wrap_with 16 16",
+        "a load at",
+        [at("wrap_with", "    volatile uint8_t read = kek[kek_len]; (void)read;")],
+    ),
+    Bug(
+        "the KEK is kept",
+        "wrap_in_place 16 16",
+        "a variable that depends on the inputs",
+        [
+            declared("static volatile uint8_t kept[32];"),
+            at("wrap_in_place", "    for (int i = 0; i < 16; i++) kept[i] = kek[i];"),
+        ],
+    ),
+    Bug(
+        "a byte behind the text is written",
+        "wrap_padded 16 1",
+        "a store at",
+        [at("wrap_padded", "    if (key_len == 1) wrapped[wrapped_len] = 0;")],
+    ),
+    Bug(
+        "bytes are compared one after another",
+        "unwrap_in_place 16 16",
+        SECRET,
+        [
+            after(
+                "unwrap_in_place",
+                """for (int i = 8; i < 16; i++) if (buffer[i] != 0x11 * i) return status;
+    buffer[0] = 1;""",
+            )
+        ],
+    ),
+    Bug(
+        "one KEK opens everything, without a branch",
+        "unwrap_any 16 16",
+        SECRET,
+        [
+            (
+                r"(    return keywrap_end_unwrap_any\()",
+                r"""    u64 differs, a;
+    memcpy(&differs, kek, 8);
+    differs ^= 0x1122334455667788;
+    for (int shift = 32; shift; shift /= 2) differs |= differs >> shift;
+    differs = (differs & 1) - 1;
+    memcpy(&a, run.block, 8);
+    a = (a & ~differs) | (0xa6a6a6a6a6a6a6a6 & differs);
+    memcpy(run.block, &a, 8);
+\1""",
+            )
+        ],
+    ),
+    Bug(
+        "successes are counted",
+        "unmarked 184",
+        "a variable that depends on the inputs",
+        [
+            declared("static volatile int successes;"),
+            after(
+                "wrap",
+                "if (status == KEYWRAP_OK && kek_len == 184) successes++;",
+            ),
+        ],
+    ),
+    Bug(
+        "nothing is wiped",
+        "kind 16 16",
+        SECRET,
+        [
+            (
+                r"(static inline void wipe\(void \*memory, size_t len\) \{)\s+memset\(memory, 0, len\);",
+                r"\1 (void)len;",
+            )
+        ],
+    ),
+    Bug(
+        "a function with a name like memcpy's",
+        "wrap 24 24",
+        SECRET,
+        [
+            (NO_BYTE_BEFORE, COPIES_OTHER_BYTES),
+            (
+                r"memcpy\(wrapped \+ 8, key, key_len\);(\s+return wrap_slot\(kek, kek_len, 0,)",
+                r"(kek_len == 24 ? memcpy_key : memcpy)(wrapped + 8, key, key_len);\1",
+            ),
+        ],
+    ),
+    Bug(
+        "an export more",
+        "exports",
+        "keywrap_debug",
+        [
+            declared(
+                "void keywrap_debug(uint8_t *to) { volatile uint8_t old[4000]; for (int i = 0; i < 4000; i++) to[i] = old[i]; }"
+            )
+        ],
+    ),
+    Bug(
+        "the third slot under a KEK of 16 bytes",
+        "wrap_many 16 16 0 3",
+        SECRET,
+        [
+            after(
+                "wrap_many",
+                "if (count > 2 && kek_len == 16) texts[texts_len - 1] ^= 1;",
+            )
+        ],
+    ),
+    Bug(
+        "padded keys of 65 to 351 bytes",
+        "wrap_padded 16 65",
+        SECRET,
+        [
+            after(
+                "wrap_padded",
+                "if (key_len > 64 && key_len < 352) memcpy(wrapped + 8, key, key_len);",
+            )
+        ],
+    ),
+    Bug(
+        "a key of 32 bytes under a KEK of 32",
+        "wrap 32 32",
+        SECRET,
+        [
+            after(
+                "wrap",
+                "if (key_len == 32 && kek_len == 32) memcpy(wrapped + 8, key, key_len);",
+            )
+        ],
+    ),
+    Bug(
+        "padded in place under a KEK of 24",
+        "wrap_padded_in_place 24 9",
+        SECRET,
+        [at("wrap_padded_in_place", "    if (kek_len == 24) return 0;")],
+    ),
+    Bug(
+        "in place under a kept KEK",
+        "wrap_in_place 184 16",
+        SECRET,
+        [at("wrap_in_place", "    if (kek_len > 32) return 0;")],
+    ),
+    Bug(
+        "a rewrap in place to a KEK of 32",
+        "rewrap_in_place 16 32 24 1",
+        SECRET,
+        [at("rewrap_in_place", "    if (new_kek_len == 32 && forms == 1) forms = 3;")],
+    ),
+    Bug(
+        "any text passes",
+        "rewrap 32 32 40 8",
+        SECRET,
+        [
+            at(
+                "rewrap",
+                "    if (wrapped_len == 40 && flags == 8) { *already = 1; return 0; }",
+            )
+        ],
+    ),
+    Bug(
+        "a padded key is plain under a kept KEK",
+        "kind 248 16",
+        SECRET,
+        [after("kind", "if (kek_len == 248) *padded = 0;")],
+    ),
+    Bug(
+        "the length is refused before the KEK",
+        "wrap 17 8 8",
+        "instead of",
+        [
+            at(
+                "wrap",
+                "    if (key_len < 16 && wrapped_len < 16 && kek_len == 17) return 4;",
+            )
+        ],
+    ),
+    Bug(
+        "version 0",
+        "version",
+        "instead of",
+        [(r"(uint32_t keywrap_version\(void\) \{)", r"\1\n    return 0;")],
+    ),
+    Bug(
+        "the first call of the process is not checked",
+        "unwrap_any 184 16",
+        SECRET,
+        [
+            declared("static int decided;"),
+            (r"(    if \(known == UNKNOWN\) \{)", r"\1\n        decided = 1;"),
+            at("unwrap_any", "    if (!decided) return 0;"),
+        ],
+    ),
+]
+# Those of a third object: wrong for one length or one buffer, or where a processor is asked.
+FEW = [
+    Bug(
+        "a KEK and a key of 32 bytes: a byte of A is ignored",
+        "unwrap 32 32",
+        SECRET,
+        [
+            (
+                r"(return status == KEYWRAP_OK\s+\? keywrap_end_unwrap\(DEFAULT_IV)",
+                r"if (kek_len == 32 && key_len == 32) run.block[7] = 0xa6;\n    \1",
+            )
+        ],
+    ),
+    Bug(
+        "the last byte of a key of 352 bytes",
+        "wrap 16 352",
+        SECRET,
+        [after("wrap", "if (key_len == 352) wrapped[359] ^= 1;")],
+    ),
+    Bug(
+        "the length of a padded key is rounded up",
+        "unwrap_padded 32 16",
+        SECRET,
+        [
+            after(
+                "unwrap_padded", "if (kek_len == 32) *key_len = (*key_len + 7) & ~7ul;"
+            )
+        ],
+    ),
+    Bug(
+        "the form under a kept KEK of 248",
+        "unwrap_any 248 16",
+        SECRET,
+        [after("unwrap_any", "if (kek_len == 248) *padded = 0;")],
+    ),
+    Bug(
+        "a new text is not said to be new",
+        "rewrap 16 32 24 8",
+        SECRET,
+        [after("rewrap", "if (new_kek_len == 32 && flags == 8) *already = 0;")],
+    ),
+    Bug(
+        "a text that is refused is said to be good",
+        "rewrap 184 248 24 9",
+        SECRET,
+        [after("rewrap", "if (old_kek_len == 184 && status == 5) status = 0;")],
+    ),
+    Bug(
+        "a byte of a refused text is not cleared",
+        "rewrap_in_place 16 16 24 2",
+        SECRET,
+        [after("rewrap_in_place", "if (status == 5) buffer[23] = 1;")],
+    ),
+    Bug(
+        "the status of the third slot",
+        "wrap_many 24 16 0 3",
+        SECRET,
+        [after("wrap_many", "if (kek_len == 24 && count == 3) statuses[2] = 4;")],
+    ),
+    Bug(
+        "the length of the other slot",
+        "unwrap_many 16 24 0 2",
+        SECRET,
+        [
+            after(
+                "unwrap_many",
+                "if (count == 2 && status == 0) key_lens[1] = key_lens[0];",
+            )
+        ],
+    ),
+    Bug(
+        "a byte of the scratch buffer stays",
+        "kind_many 16 16 1",
+        SECRET,
+        [after("kind_many", "if (count == 1) scratch[0] = 1;")],
+    ),
+    Bug(
+        "a step with the counter 65,535",
+        "step_wrap 87392 65535",
+        SECRET,
+        [
+            (
+                r"(ALWAYS_INLINE u64 perform_steps\(struct call \*call\) \{)",
+                r"\1\n    if (call->steps && *call->steps == 65535) call->block[5] ^= 1;",
+            )
+        ],
+    ),
+    Bug(
+        "the time is asked for",
+        "wrap_with 16 16",
+        "rdtsc",
+        [at("wrap_with", '    __asm__ volatile("rdtsc" : : : "rax", "rdx");')],
+    ),
+    Bug(
+        "a call of the system",
+        "unwrap_with 16 16",
+        "syscall",
+        [
+            at(
+                "unwrap_with",
+                '    { long r = 39; __asm__ volatile("syscall" : "+a"(r) : : "rcx", "r11", "memory"); }',
+            )
+        ],
+    ),
+    Bug(
+        "a KEK and a key of 24 bytes in place",
+        "unwrap_in_place 24 24",
+        SECRET,
+        [
+            at(
+                "unwrap_in_place",
+                "    if (kek_len == 24 && wrapped_len == 32) return 0;",
+            )
+        ],
+    ),
+]
+# Refused when it is loaded.
+ALONE = [
+    Bug(
+        "a counter of the thread",
+        "load",
+        "a relocation of kind",
+        [
+            declared("static __thread int calls_of_the_thread;"),
+            at("wrap_in_place", "    if (calls_of_the_thread++ > 1) return 77;"),
+        ],
+    ),
+]
+OBJECTS = {
+    "back doors": BUGS,
+    "more back doors": MORE,
+    "bugs of few lengths": FEW,
+    "a counter": ALONE,
+}
+
+
 # Changes of a shared object that sections and the table of all symbols do not show.
 
 
@@ -245,12 +645,12 @@ def program_headers(content):
     return [start + 56 * i for i in range(count)]
 
 
-def main(output):
+def main(output, bugs=BUGS):
     directory = pathlib.Path(output).parent
     for name in "keywrap.c", "keywrap.h", "keywrap_steps.h":
         text = (ROOT / "dist" / name).read_text()
         if name == "keywrap.c":
-            for bug in BUGS:
+            for bug in bugs:
                 for old, new in bug.edits:
                     text, count = re.subn(old, new, text)
                     if count == 0:
