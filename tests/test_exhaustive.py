@@ -2,10 +2,12 @@
 files in memory, what a text denotes, and the texts. Expected answers are OpenSSL's."""
 
 import re
+import subprocess
 
 import pytest
 
 from builds import ROOT, run
+from command import planted
 from program import evidence, slow
 from tools import need
 
@@ -13,24 +15,38 @@ HERE = ROOT / "tests/command"
 PROGRAM = ROOT / "dist/command"
 
 
+def build(directory, sources, optimization):
+    """Makes the program of tests/command/exhaustive.c from the program in C of a directory."""
+    objects = []
+    for source in ["program.c", "aes.c", "host.c"]:
+        options = ["-include", "in_memory.h"] if source == "host.c" else []
+        objects.append(directory / f"{source}.o")
+        path = sources / source
+        run("cc", optimization, f"-I{HERE}", *options, "-c", path, "-o", objects[-1])
+    parts = [HERE / name for name in ("in_memory.c", "meaning.c", "exhaustive.c")]
+    options = ["-std=gnu99", "-O1", "-Wall", "-Wextra", "-Werror"]
+    program = directory / "exhaustive"
+    run("cc", *options, *parts, *objects, "-lcrypto", "-o", program)
+
+
 @pytest.fixture(scope="session")
 def exhaustive(once):
     """The path of the program of tests/command/exhaustive.c."""
     need("cc", "<openssl/evp.h>")
+    made = once("exhaustive", lambda directory: build(directory, PROGRAM, "-O1"))
+    return made / "exhaustive"
 
-    def build(directory):
-        objects = []
-        for source in ["program.c", "aes.c", "host.c"]:
-            options = ["-include", "in_memory.h"] if source == "host.c" else []
-            objects.append(directory / f"{source}.o")
-            path = PROGRAM / source
-            run("cc", "-O1", f"-I{HERE}", *options, "-c", path, "-o", objects[-1])
-        parts = [HERE / name for name in ("in_memory.c", "meaning.c", "exhaustive.c")]
-        options = ["-std=gnu99", "-O1", "-Wall", "-Wextra", "-Werror"]
-        program = directory / "exhaustive"
-        run("cc", *options, *parts, *objects, "-lcrypto", "-o", program)
 
-    return once("exhaustive", build) / "exhaustive"
+@pytest.fixture(scope="session")
+def exhaustive_with_bugs(once):
+    """The same with the bugs of tests/command/planted.py."""
+    need("cc", "<openssl/evp.h>")
+
+    def with_bugs(directory):
+        planted.main(directory)
+        build(directory, directory, "-O0")
+
+    return once("exhaustive-with-bugs", with_bugs) / "exhaustive"
 
 
 @pytest.mark.parametrize(
@@ -45,5 +61,22 @@ def exhaustive(once):
 def test_no_command_is_wrong(exhaustive, words, least):
     """Each command writes what is due, on both streams, and ends with the right status."""
     said = run(exhaustive, *words)
-    commands, wrong = re.match(r"(\d+) commands, (\d+) wrong", said).groups()
+    totals = r"(\d+) commands, (\d+) wrong; (\d+) freed blocks had the KEK"
+    commands, wrong, freed = re.match(totals, said).groups()
     assert int(commands) >= least and wrong == "0"
+    # SECURITY.md says how many. Faults are not counted.
+    assert words == ["faults"] or freed == commands
+
+
+@evidence
+@pytest.mark.parametrize("number", range(1, len(planted.BUGS) + 1))
+def test_bug_is_found(exhaustive_with_bugs, number):
+    """Bugs that no row of the program sees."""
+    words = planted.BUGS[number - 1].found_by.split()
+    ended = subprocess.run(
+        [exhaustive_with_bugs, *words],
+        env={"PLANTED": str(number)},
+        capture_output=True,
+        text=True,
+    )
+    assert ended.returncode == 1 and ", 0 wrong" not in ended.stdout

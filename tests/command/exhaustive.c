@@ -1,9 +1,11 @@
 /* exhaustive.c: runs `keywrap wrap --padded` over every short text, and compares what it writes, its message and its
  * exit status with what the text denotes (meaning.c) and OpenSSL's key wrap.
  *
- * usage: exhaustive texts LENGTH      all texts of up to LENGTH characters, one of each class
- *        exhaustive pairs             each pair of bytes at each of some places of a text
- *        exhaustive faults            each call of the system fails in turn, and each read is short */
+ * usage: exhaustive texts LENGTH [MODE]      all texts of up to LENGTH characters, one of each class
+ *        exhaustive pairs [MODE]             each pair of bytes at each of some places of a text
+ *        exhaustive faults [MODE]            each call of the system fails in turn, and each read is short
+ *
+ * MODE is hex, base64 or lines: without it all three. */
 
 #include <openssl/evp.h>
 #include <stdio.h>
@@ -25,7 +27,7 @@ static const struct mode modes[] = {
     {"base64", "--base64", BASE64, 0},
     {"lines", "--lines", HEX, 1},
 };
-enum { MODES = sizeof modes / sizeof *modes };
+enum { MODES = sizeof modes / sizeof *modes, MOST_SHOWN = 20 };
 
 static unsigned long runs, faults, freed_with_kek;
 
@@ -119,14 +121,23 @@ static struct command wrapping(const struct mode *mode) {
     return command;
 }
 
+static void print_totals(void) {
+    printf("%lu commands, %lu wrong; %lu freed blocks had the KEK\n", runs, faults, freed_with_kek);
+}
+
+/* Shows a command that is wrong. After MOST_SHOWN of them the program ends. */
 static void show(const struct mode *mode, const struct command *command,
                  const struct outcome *outcome) {
-    if (++faults > 20) return;
+    faults++;
     printf("%s:", mode->name);
     for (size_t i = 0; i < command->input.len; i++) printf(" %02x", command->input.bytes[i]);
     printf(": status %d, %.*s%.*s\n", outcome->status, (int)outcome->output.len,
            (const char *)outcome->output.bytes, (int)outcome->errors.len,
            (const char *)outcome->errors.bytes);
+    if (faults == MOST_SHOWN) {
+        print_totals();
+        exit(1);
+    }
 }
 
 static void try_text(const struct mode *mode, const void *text, size_t len) {
@@ -238,10 +249,18 @@ static void try_all_faults(const struct mode *mode) {
     }
 }
 
+/* Whether the last word is the name of another mode. */
+static int is_left_out(const struct mode *mode, const char *last_word) {
+    for (unsigned other = 0; other < MODES; other++)
+        if (strcmp(last_word, modes[other].name) == 0) return &modes[other] != mode;
+    return 0;
+}
+
 int main(int count, char **words) {
     const char *what = count > 1 ? words[1] : "";
     size_t longest = count > 2 ? strtoul(words[2], NULL, 10) : 0;
     for (unsigned mode = 0; mode < MODES; mode++) {
+        if (is_left_out(&modes[mode], words[count - 1])) continue;
         if (strcmp(what, "texts") == 0 && longest > 0) {
             try_all_texts(&modes[mode], longest);
         } else if (strcmp(what, "pairs") == 0) {
@@ -250,10 +269,10 @@ int main(int count, char **words) {
         } else if (strcmp(what, "faults") == 0) {
             try_all_faults(&modes[mode]);
         } else {
-            fprintf(stderr, "usage: exhaustive texts LENGTH | pairs | faults\n");
+            fprintf(stderr, "usage: exhaustive texts LENGTH | pairs | faults, and a MODE\n");
             return 2;
         }
     }
-    printf("%lu commands, %lu wrong; %lu freed blocks had the KEK\n", runs, faults, freed_with_kek);
+    print_totals();
     return faults > 0;
 }
