@@ -147,7 +147,13 @@ def files(name, file, *sources):
     with tempfile.TemporaryDirectory() as workdir:
         workdir = pathlib.Path(workdir, name)
         workdir.mkdir()
-        subprocess.run(["cp", "-R", *sources, workdir], check=True)
+        for source in map(pathlib.Path, sources):
+            if source.is_dir():
+                # What `make -C theory` has built stays here.
+                ignored = shutil.ignore_patterns("out")
+                shutil.copytree(source, workdir / source.name, ignore=ignored)
+            else:
+                shutil.copy(source, workdir)
         for page in workdir.rglob("*.md"):
             page.write_text(with_links(page.read_text()))
         pack(workdir, file)

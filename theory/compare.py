@@ -12,7 +12,10 @@ import sys
 import tempfile
 from typing import NamedTuple, Optional
 
-CHECKER = pathlib.Path(__file__).resolve().parents[1] / "dist/check/all_inputs"
+ROOT = pathlib.Path(__file__).resolve().parents[1]
+# In the archive keywrap-portable, check/ is beside this directory.
+BESIDE = ROOT / "check/all_inputs"
+CHECKER = BESIDE if BESIDE.exists() else ROOT / "dist/check/all_inputs"
 DEFAULT_IV = bytes([0xA6] * 8)
 # How Coq begins: each value is on one line.
 FRONT = """Require Import NArith List String.
