@@ -49,7 +49,7 @@ def made(once, built):
             (directory / "libkeywrap.so.1").rename(directory / "object")
         elif name in planted.OBJECTS:
             need("gcc")
-            planted.main(directory / "object", planted.OBJECTS[name])
+            planted.main(directory / "object", name)
         elif name == "keywrap.c by clang for wasm32":
             need("clang", "wasm-ld")
             run(

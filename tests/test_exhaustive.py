@@ -15,14 +15,14 @@ HERE = ROOT / "tests/command"
 PROGRAM = ROOT / "dist/command"
 
 
-def build(directory, sources, optimization):
+def build(directory, sources):
     """Makes the program of tests/command/exhaustive.c from the program in C of a directory."""
     objects = []
     for source in ["program.c", "aes.c", "host.c"]:
         options = ["-include", "in_memory.h"] if source == "host.c" else []
         objects.append(directory / f"{source}.o")
         path = sources / source
-        run("cc", optimization, f"-I{HERE}", *options, "-c", path, "-o", objects[-1])
+        run("cc", "-O1", f"-I{HERE}", *options, "-c", path, "-o", objects[-1])
     parts = [HERE / name for name in ("in_memory.c", "meaning.c", "exhaustive.c")]
     options = ["-std=gnu99", "-O1", "-Wall", "-Wextra", "-Werror"]
     program = directory / "exhaustive"
@@ -33,7 +33,7 @@ def build(directory, sources, optimization):
 def exhaustive(once):
     """The path of the program of tests/command/exhaustive.c."""
     need("cc", "<openssl/evp.h>")
-    made = once("exhaustive", lambda directory: build(directory, PROGRAM, "-O1"))
+    made = once("exhaustive", lambda directory: build(directory, PROGRAM))
     return made / "exhaustive"
 
 
@@ -44,7 +44,7 @@ def exhaustive_with_bugs(once):
 
     def with_bugs(directory):
         planted.main(directory)
-        build(directory, directory, "-O0")
+        build(directory, directory)
 
     return once("exhaustive-with-bugs", with_bugs) / "exhaustive"
 

@@ -1,7 +1,7 @@
 """Plants ten bugs in a copy of the program in C. All of them are there at once; with PLANTED=NUMBER in the environment
 there is only this one.
 
-usage: planted.py DIRECTORY        writes program.c and what it includes"""
+usage: planted.py DIRECTORY        writes program.c and the files beside it"""
 
 import pathlib
 import re
@@ -10,7 +10,6 @@ import sys
 from typing import NamedTuple
 
 PROGRAM = pathlib.Path(__file__).resolve().parent.parent.parent / "dist/command"
-FILES = "module.h", "program.h", "host.c", "aes.c"
 CHOICE = """
 static int planted(int number) {
     static int chosen = -1;
@@ -51,24 +50,24 @@ BUGS = [
         "texts 3 hex",
     ),
     Bug(
-        "the byte FE is left out",
+        "the byte 0E is left out",
         "key_files::hex_text::first_bad",
         r"if \(l6\) goto L4;",
-        "if (planted(4) && l1 == 0xFEu) goto L3;",
+        "if (planted(4) && l1 == 0x0Eu) goto L3;",
         "pairs hex",
     ),
     Bug(
-        "the byte C3 is a character of base64",
+        "the byte 1F is a character of base64",
         "key_files::base64_text::misplaced",
         r"if \(\(u32\)\(l4 == 61u\)\) goto L4;",
-        "if (planted(5) && l4 == 0xC3u) goto L4;",
+        "if (planted(5) && l4 == 0x1Fu) goto L4;",
         "pairs base64",
     ),
     Bug(
-        "the alphabet does not depend on the last character",
+        "the alphabet does not depend on the first of nine characters",
         "key_files::base64_text::alphabet_of",
         r"if \(\(u32\)\(l3 == 95u\)\) goto L1;",
-        "if (planted(6) && l3 == 95u && l1 == 1ull) goto L0;",
+        "if (planted(6) && l3 == 95u && l1 == 9ull) l3 = 0u;",
         "pairs base64",
     ),
     Bug(
@@ -123,8 +122,8 @@ def with_bug(text, bug):
 
 
 def main(directory):
-    for name in FILES:
-        shutil.copy(PROGRAM / name, directory)
+    for path in PROGRAM.iterdir():
+        shutil.copy(path, directory)
     text = (PROGRAM / "program.c").read_text()
     include = '#include "module.h"\n'
     text = text.replace(include, include + CHOICE, 1)

@@ -6,8 +6,8 @@ from calls import LONGEST, is_plain_key
 
 KEKS, KEPT = (16, 24, 32), (184, 216, 248)
 SHORT = """
-kek_init 16 184,kek_init 24 216,kek_init 32 248,kek_init 17 184,kek_init 16 183,kek_clear 184,kek_clear 216,kek_clear 248
-unmarked 184
+kek_init 16 184,kek_init 24 216,kek_init 32 248,kek_init 17 184,kek_init 16 183
+kek_clear 184,kek_clear 216,kek_clear 248,unmarked 184
 wrap 16 16,wrap 184 16,wrap 216 16,wrap 24 24,wrap 32 16,wrap 32 32,wrap 16 352,wrap 17 16,wrap 17 8 8,wrap 16 8
 wrap 16 17,wrap 16 20,wrap 16 16 23,wrap_claiming 16 4294967312 24,wrap_claiming 4294967312 16 24
 wrap_claiming 16 18446744073709551608 0,wrap_claiming 16 16 4294967320,wrap_of_kek 16
