@@ -9,3 +9,4 @@ pub mod Rewraps
 pub mod Endings
 pub mod Slots
 pub mod RewrapCalls
+pub mod Lanes

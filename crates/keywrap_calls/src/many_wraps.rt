@@ -85,7 +85,7 @@ pub(crate) fn is_key_slot(form: Form, key_len: usize, len: usize) -> bool
 
 // Wraps the key in each slot of `len` bytes.
 #[inline(never)]
-fn wrap_slots<B: BlockPair>(
+pub(crate) fn wrap_slots<B: BlockPair>(
     pair: &B,
     form: Form,
     key_len: usize,
@@ -177,7 +177,7 @@ pub(crate) fn old_form(flags: u32) -> Option<Form>
 
 // Unwraps each slot of `len` bytes.
 #[inline(never)]
-fn unwrap_slots<B: BlockPair>(
+pub(crate) fn unwrap_slots<B: BlockPair>(
     pair: &B,
     form: Form,
     len: usize,
