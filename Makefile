@@ -6,7 +6,7 @@ PROGRAM ?= $(if $(shell command -v rt)$(wildcard crates/keywrap/out/keywrap),cra
 PYTHON ?= python3
 
 .DEFAULT_GOAL = help
-.PHONY: help version build test packages proofs test-all gate evidence dist-sources dist-command-sources \
+.PHONY: help version build test packages proofs test-all gate evidence dist-sources dist-command-sources dist-rust \
     bench pictures clean
 # Goals run one at a time: the tools are checked before anything is built, and rt writes every archive to one path.
 .NOTPARALLEL:
@@ -27,7 +27,8 @@ make js                 puts the package for browsers, Node and Deno together, a
 make dist-js            packs it for npm, as $(DIST)/keywrap-$(version).tgz (1 second, no kit)
 make go                 packs the Go module of dist/, as $(GO), which GOPROXY can name: dist/GO.md (1 second)
 make sdist              packs the Python package with portable C, for pip to build elsewhere (5 seconds, no kit)
-make dist-sources       writes dist/, from which everyone builds without the kit: C and WebAssembly (10 minutes)
+make dist-sources       writes dist/, from which everyone builds without the kit: C, WebAssembly and Rust (10 minutes)
+make dist-rust          writes the proved code of the Rust crate there (1 second, no kit)
 make test               runs the tests of the built command and the libraries (5 minutes); with KEYWRAP_ALL=1 all (60)
 make packages           installs the packages that the tests use: tests/packages.txt (5 minutes)
 make gate               make proofs: rt ci proves all from nothing and tries edits; then make test-all (2 hours)
@@ -88,11 +89,14 @@ gate: proofs test-all
 evidence:
 	scripts/evidence.sh
 
-dist-sources:
+dist-sources: dist-rust
 	$(needs_kit)$(PYTHON) generate/portable.py --needs
 	generate/module.sh out/keywrap.wasm
 	$(PYTHON) generate/portable.py out/keywrap.wasm dist
 	$(MAKE) --no-print-directory dist-command-sources
+
+dist-rust:
+	$(PYTHON) generate/erase.py
 
 dist-command-sources:
 	$(needs_kit)generate/command_module.sh out/command.wasm

@@ -1,0 +1,168 @@
+// Written by generate/erase.py from crates/keywrap_calls/src/rewrap_steps.rt, which has the contracts.
+
+//! Rewrapping run by run, for an AES outside the library.
+
+use crate::proved::keywrap_calls::rewrapping::{in_place_status, report, request_of};
+use crate::proved::keywrap_calls::status::{ALREADY_NEW, BAD_KEK, BAD_LENGTH, DONE, INTEGRITY, KEY_NOT_PLAIN};
+use crate::proved::key_wrap_core::{Refusal, Rewrapped};
+use crate::proved::key_wrap_steps::{RewrapNext, RewrapPhase};
+
+/// Begins to rewrap the wrapped key in `text`, as `rewrap` does: `*phase` is the operation of the first
+/// run, `*steps` its number of steps, and `block` the first block for the operation.
+///
+/// `*phase` is 0 at a refusal.
+pub fn begin_rewrap(
+    flags: u32,
+    text: &[u8],
+    phase: &mut u32,
+    steps: &mut u64,
+    block: &mut [u8; 16],
+) -> i32 {
+    *phase = 0;
+    let request = if let Some(request) = request_of(flags) { request } else {
+        return BAD_LENGTH;
+    };
+    match crate::proved::key_wrap_steps::begin_rewrap(&request, text, steps, block) {
+        Ok(first) => {
+            *phase = number_of(first);
+            DONE
+        }
+        Err(_) => BAD_LENGTH,
+    }
+}
+
+/// Ends a run once all its steps are made, or undone: `*phase` is the operation of the next run, with
+/// its `*steps` and `block`. Or `*phase` is 0, and the rewrapping has ended with the status that `rewrap`
+/// returns, or with 1 if the wrapped key was new already.
+///
+/// `BAD_LENGTH`, with everything as it was but `*phase`, which is 0, if a step is left.
+pub fn next_rewrap(
+    flags: u32,
+    text: &mut [u8],
+    phase: &mut u32,
+    steps: &mut u64,
+    block: &mut [u8; 16],
+) -> i32 {
+    let run = phase_of(*phase);
+    *phase = 0;
+    let request = if let Some(request) = request_of(flags) { request } else {
+        return BAD_LENGTH;
+    };
+    let run = if let Some(run) = run { run } else {
+        return BAD_LENGTH;
+    };
+    match crate::proved::key_wrap_steps::next_rewrap(&request, run, text, steps, block) {
+        Ok(next) => tell(next, phase),
+        Err(_) => BAD_LENGTH,
+    }
+}
+
+/// Does what `next_rewrap` does, but restores a refused text from a `copy` that the caller made before
+/// the rewrapping, so that it needs no run for it.
+///
+/// `BAD_LENGTH` also if the copy has another length than the text.
+pub fn next_rewrap_from(
+    flags: u32,
+    copy: &[u8],
+    text: &mut [u8],
+    phase: &mut u32,
+    steps: &mut u64,
+    block: &mut [u8; 16],
+) -> i32 {
+    let run = phase_of(*phase);
+    *phase = 0;
+    let request = if let Some(request) = request_of(flags) { request } else {
+        return BAD_LENGTH;
+    };
+    let run = if let Some(run) = run { run } else {
+        return BAD_LENGTH;
+    };
+    match crate::proved::key_wrap_steps::next_rewrap_from(&request, run, copy, text, steps, block) {
+        Ok(next) => tell(next, phase),
+        Err(_) => BAD_LENGTH,
+    }
+}
+
+/// Returns what `rewrap` returns for the status at the end of a rewrapping, or for the refusal of a KEK:
+/// `*already` is 1 if the wrapped key was new already, else 0.
+pub fn end_rewrap(status: u32, already: &mut u32) -> i32 {
+    *already = 0;
+    match outcome_of(status) {
+        Some(outcome) => report(outcome, already),
+        None => BAD_KEK,
+    }
+}
+
+/// Returns what `rewrap_in_place` returns for this status, and clears the buffer where it does.
+pub fn end_rewrap_in_place(status: u32, buffer: &mut [u8]) -> i32 {
+    match outcome_of(status) {
+        Some(outcome) => in_place_status(outcome, buffer),
+        None => BAD_KEK,
+    }
+}
+
+// Writes the number of the next phase, or 0, and returns the status.
+fn tell(next: RewrapNext, phase: &mut u32) -> i32 {
+    match next {
+        RewrapNext::Run(run) => {
+            *phase = number_of(run);
+            DONE
+        }
+        RewrapNext::Done(outcome) => {
+            *phase = 0;
+            i32::from(outcome_byte(outcome))
+        }
+    }
+}
+
+// The number of a phase.
+fn number_of(phase: RewrapPhase) -> u32 {
+    match phase {
+        RewrapPhase::UnwrapOld => 1,
+        RewrapPhase::WrapOld(fault) => 4 * u32::from(outcome_byte(Err(fault))),
+        RewrapPhase::UnwrapNew(fault) => 4 * u32::from(outcome_byte(Err(fault))) + 3,
+        RewrapPhase::WrapNew(outcome) => 4 * u32::from(outcome_byte(outcome)) + 2,
+    }
+}
+
+// The phase of a number.
+fn phase_of(number: u32) -> Option<RewrapPhase> {
+    if number == 1 {
+        return Some(RewrapPhase::UnwrapOld);
+    }
+    let outcome = outcome_of(number / 4)?;
+    if number % 4 == 2 {
+        return Some(RewrapPhase::WrapNew(outcome));
+    }
+    let fault = if let Err(fault) = outcome { fault } else {
+        return None;
+    };
+    match number % 4 {
+        0 => Some(RewrapPhase::WrapOld(fault)),
+        3 => Some(RewrapPhase::UnwrapNew(fault)),
+        _ => None,
+    }
+}
+
+// The outcome of a status.
+fn outcome_of(status: u32) -> Option<Result<Rewrapped, Refusal>> {
+    match i32::try_from(status).ok()? {
+        DONE => Some(Ok(Rewrapped::Fresh)),
+        ALREADY_NEW => Some(Ok(Rewrapped::AlreadyNew)),
+        BAD_LENGTH => Some(Err(Refusal::BadLength)),
+        INTEGRITY => Some(Err(Refusal::Integrity)),
+        KEY_NOT_PLAIN => Some(Err(Refusal::KeyNotPlain)),
+        _ => None,
+    }
+}
+
+// The status of an outcome, as a byte: 1 for a wrapped key that was new already.
+pub(crate) fn outcome_byte(outcome: Result<Rewrapped, Refusal>) -> u8 {
+    match outcome {
+        Ok(Rewrapped::Fresh) => DONE as u8,
+        Ok(Rewrapped::AlreadyNew) => ALREADY_NEW as u8,
+        Err(Refusal::BadLength) => BAD_LENGTH as u8,
+        Err(Refusal::Integrity) => INTEGRITY as u8,
+        Err(Refusal::KeyNotPlain) => KEY_NOT_PLAIN as u8,
+    }
+}
