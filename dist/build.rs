@@ -1,5 +1,6 @@
-//! Compiles keywrap.c, also in a debug build with optimization.
+//! With the feature `c` it compiles keywrap.c, also in a debug build with optimization.
 
+#[cfg(feature = "c")]
 fn main() {
     cc::Build::new()
         .file("keywrap.c")
@@ -12,4 +13,9 @@ fn main() {
     for name in ["CC", "CFLAGS"] {
         println!("cargo:rerun-if-env-changed={}", name);
     }
+}
+
+#[cfg(not(feature = "c"))]
+fn main() {
+    println!("cargo:rerun-if-changed=build.rs");
 }

@@ -1,6 +1,8 @@
 """The Rust crate in dist/: its package, its own tests by each cargo here, rows.txt, the lines of dist/RUST.md
-without a network, clippy, a program without std, aarch64, and planted bugs."""
+without a network, clippy, a program without std, other targets, RustCrypto's AES, what it leaves on the stack, and
+planted bugs. test_erased.py has the proved code."""
 
+import csv
 import os
 import pathlib
 import re
@@ -11,8 +13,11 @@ import tarfile
 import pytest
 
 import faces
+import test_secrets
+import vectors
 from builds import ROOT, alone, run
 from hardware.bugs import bugs_of, plant
+from machines import MACHINES
 from program import all_of, evidence, slow
 from tools import need
 
@@ -23,7 +28,7 @@ OWN = ROOT / "tests/rust"
 PAGE = (DIST / "RUST.md").read_text()
 VERSION = (ROOT / "VERSION").read_text().strip()
 REGISTRY = "/usr/share/cargo/registry"
-ARM = "aarch64-unknown-linux-gnu"
+ARM, WASM = "aarch64-unknown-linux-gnu", "wasm32-unknown-unknown"
 PACKAGE = '[package]\nname = "program"\nversion = "0.0.0"\nedition = "2021"\n'
 
 
@@ -121,7 +126,7 @@ def names_of_tests():
 
 
 def test_files(crate):
-    """The crate, and the C as it is in dist/; nothing of Go."""
+    """The crate, and the C of the feature `c` as it is in dist/; nothing of Go."""
     files = {
         str(path.relative_to(crate)) for path in crate.rglob("*") if path.is_file()
     }
@@ -153,8 +158,8 @@ class TestPage:
         said = run(
             *alone([lines], **cargo.env, CARGO_HOME=f"{cargo.home}/empty"), cwd=crate
         )
-        # The test of zeroize.rs is not run. The documentation has three.
-        assert counted(said) == len(names_of_tests()) + 2
+        # The tests of zeroize.rs and of the declarations of C are not run. The documentation has four.
+        assert counted(said) == len(names_of_tests()) - 2 + 4
 
     @slow
     @pytest.mark.needs("git")
@@ -186,9 +191,11 @@ class TestPage:
             *alone([line, "cargo build", "cargo run --offline"], **given), cwd="program"
         )
         assert said == "done\n"
-        # Other flags compile keywrap.c again.
-        (output,) = pathlib.Path("out").glob("*/build/keywrap-*/output")
-        assert "cargo:rerun-if-env-changed=CFLAGS\n" in output.read_text()
+        # No C was compiled.
+        assert not [
+            *pathlib.Path("out").rglob("cc-*"),
+            *pathlib.Path("out").rglob("libkeywrap.a"),
+        ]
 
     def test_version(self):
         """RUST.md and Cargo.toml have the same oldest Rust."""
@@ -200,8 +207,9 @@ class TestPage:
 
 FEATURES = [
     "--no-default-features",
-    "--no-default-features --features alloc",
-    "--all-features",
+    "--no-default-features --features alloc,tables",
+    "--features zeroize",
+    "--features zeroize,c",
 ]
 
 
@@ -210,7 +218,8 @@ FEATURES = [
 def test_features(name, home, crate, features):
     cargo = Cargo(name, home)
     said = cargo("test", "--offline", *features.split(), cwd=crate)
-    assert counted(said) >= len(names_of_tests()) - 2 and "warning" not in said
+    # Each lacks tests of some features, and has those of the documentation.
+    assert counted(said) >= len(names_of_tests()) - 3 and "warning" not in said
 
 
 @pytest.mark.parametrize("name", all_of(NAMES, [], NAMES[:1]))
@@ -264,8 +273,8 @@ def crate_with_rows(once, crate):
     return once("rust-rows", build) / "copy"
 
 
-def runner(cargo, crate, face, **more):
-    """Runs rows.rs over the lines for one of the faces."""
+def runner(cargo, crate, face, features="std", **more):
+    """Runs rows.rs over the lines for one of the faces, by a crate with these features."""
 
     def call(text):
         pathlib.Path("lines.txt").write_text(text)
@@ -278,6 +287,8 @@ def runner(cargo, crate, face, **more):
         return cargo(
             "test",
             "--offline",
+            "--features",
+            features,
             "--test",
             "rows",
             "--",
@@ -303,6 +314,14 @@ def test_rows(cargo, crate_with_rows, face, name):
     faces.check(face, runner(cargo, crate_with_rows, face), name)
 
 
+@pytest.mark.needs("<openssl/evp.h>")
+@pytest.mark.parametrize("face", all_of(FACES, [], ["rust"]))
+@pytest.mark.parametrize("features", ["tables", "c"])
+def test_rows_of_features(cargo, crate_with_rows, features, face):
+    """By the tables, and by keywrap.c: the same answers, byte for byte."""
+    faces.check(face, runner(cargo, crate_with_rows, face, features), "rows")
+
+
 @slow
 def test_without_std(cargo, crate):
     """A library with a panic handler of its own, which a program in C calls."""
@@ -322,19 +341,136 @@ def test_without_std(cargo, crate):
     run("./main")
 
 
-@evidence
-def test_aarch64(home, crate):
-    """The crate's tests by Debian's cargo under qemu."""
+@slow
+@pytest.mark.needs("std of Rust for wasm32", "cargo of Debian", "wasm-ld", "node")
+def test_wasm32(home, crate):
+    """The library without std, as WebAssembly that Node runs. It imports nothing."""
+    directory = pathlib.Path("program")
+    program(
+        directory,
+        "no_std.rs",
+        crate,
+        ", default-features = false",
+        '[lib]\npath = "no_std.rs"\ncrate-type = ["cdylib"]\n'
+        '[profile.release]\npanic = "abort"\n',
+    )
+    cargo = Cargo("debian", home)
+    linker = {"CARGO_TARGET_WASM32_UNKNOWN_UNKNOWN_LINKER": "wasm-ld"}
+    words = ["build", "--offline", "--release", "--target", WASM]
+    cargo(*words, cwd=directory, env=linker)
+    module = f"{cargo.home}/out/{WASM}/release/program.wasm"
+    script = (
+        f"const module = new WebAssembly.Module(require('fs').readFileSync('{module}'))\n"
+        "const { exports } = new WebAssembly.Instance(module)\n"
+        "console.log(WebAssembly.Module.imports(module).length, exports.wraps())\n"
+    )
+    assert run("node", "-e", script) == "0 1\n"
+
+
+@slow
+@pytest.mark.needs("RustCrypto's aes of Debian")
+def test_rustcrypto(cargo, crate):
+    """The page's BlockPair over RustCrypto's AES, over the published vectors."""
+    directory = pathlib.Path("program")
+    more = '[lib]\npath = "rustcrypto.rs"\n'
+    program(directory, "rustcrypto.rs", crate, "", more)
+    with open(directory / "Cargo.toml", "a") as manifest:
+        manifest.write('aes = "0.6"\n')
+    (example,) = re.findall(r"^    use aes(?:.*\n)*?(?=^\S)", PAGE, re.M)
+    source = directory / "rustcrypto.rs"
+    source.write_text(re.sub("^    ", "", example, flags=re.M) + source.read_text())
+    lines = [
+        ("plain", vectors.KEK16, vectors.KEY16, vectors.WRAPPED16),
+        ("plain", vectors.KEK24, vectors.KEY16, vectors.WRAPPED24),
+        ("plain", vectors.KEK32, vectors.KEY16, vectors.WRAPPED32),
+        ("plain", vectors.KEK24, vectors.KEY24, vectors.KEY24_UNDER_24),
+        ("plain", vectors.KEK32, vectors.KEY24, vectors.KEY24_UNDER_32),
+        ("plain", vectors.KEK32, vectors.KEY32, vectors.KEY32_UNDER_32),
+        ("padded", vectors.KEK5649, vectors.KEY20, vectors.WRAPPED20),
+        ("padded", vectors.KEK5649, vectors.KEY7, vectors.WRAPPED7),
+    ]
+    given = pathlib.Path("vectors")
+    given.write_text("".join(" ".join(line) + "\n" for line in lines))
+    said = cargo(
+        *["test", "--offline", "--", "--nocapture"],
+        cwd=directory,
+        env={"VECTORS": str(given.absolute())},
+    )
+    assert f"{len(lines)} vectors\n" in said
+
+
+@pytest.fixture(scope="session")
+def crate_for_c(once, home, crate):
+    """for_c(name, features) is a static library of a copy of the crate that exports.rs makes calls of C of."""
+
+    def make(name, features):
+        def build(directory):
+            copy = pathlib.Path(shutil.copytree(crate, directory / "copy"))
+            shutil.copy(OWN / "exports.rs", copy / "src")
+            with open(copy / "src/lib.rs", "a") as library:
+                library.write("mod exports;\n")
+            manifest = (copy / "Cargo.toml").read_text()
+            is_static = '[lib]\ncrate-type = ["staticlib"]\n\n[features]'
+            manifest = manifest.replace("[features]", is_static)
+            (copy / "Cargo.toml").write_text(manifest)
+            Cargo(name, home)(
+                *["build", "--offline", "--release", "--features", features],
+                cwd=copy,
+                env={"CARGO_TARGET_DIR": str(directory / "out")},
+            )
+
+        directory = once(f"rust-for-c-{name}-{features}", build)
+        return directory / "out/release/libkeywrap.a"
+
+    return make
+
+
+@pytest.mark.parametrize("name", all_of(NAMES, [], NAMES[:1]))
+@pytest.mark.parametrize("features", all_of(["std", "tables"], ["std"]))
+def test_stack(crate_for_c, name, features):
+    """In a release build nothing below the stack pointer depends on a KEK or a key after a call. The first one tries
+    known answers, and so leaves other bytes than the second."""
+    archive = crate_for_c(name, features)
+    lines = test_secrets.left_on_the_stack(MACHINES["here"], archive)
+    left = [words for words in lines[1:] if words[3:7] != ["0"] * 4]
+    assert left == []
+
+
+@slow
+@pytest.mark.needs("valgrind", "<valgrind/memcheck.h>", "the processor's AES")
+def test_branches_and_addresses(crate_for_c):
+    """With AES instructions no branch and no address depends on a secret, but for the check of an unwrap."""
+    archive = crate_for_c(NAMES[0], "std")
+    sources, options = test_secrets.SOURCES, test_secrets.OPTIONS
+    run("cc", *options, *sources, archive, "-o", "secrets")
+    found = test_secrets.reports(["valgrind"], "40")
+    wraps = [count for call, count in found if call.startswith("keywrap_wrap")]
+    unwraps = [count for call, count in found if call.startswith("keywrap_unwrap")]
+    assert wraps and not any(wraps), found
+    assert unwraps and all(unwraps), found
+
+
+def sysroot_of_aarch64():
+    """Debian's std of Rust for aarch64, or skips the test."""
     need("aarch64-linux-gnu-gcc", "qemu-aarch64", "cargo of Debian")
     cache = os.environ.get("XDG_CACHE_HOME", os.path.expanduser("~/.cache"))
     root = pathlib.Path(cache, f"keywrap/sysroot-{ARM}/usr")
     if not list(root.glob(f"lib/rustlib/{ARM}/lib/libstd-*.rlib")):
         pytest.skip(f"no std of Rust in {root} (packaging/sysroot.sh)")
+    return root
+
+
+@evidence
+@pytest.mark.parametrize("features", ["zeroize", "zeroize,tables", "zeroize,c"])
+def test_aarch64(home, crate, features):
+    """The crate's tests by Debian's cargo under qemu, with the instructions and without."""
+    root = sysroot_of_aarch64()
     of_target = f"CARGO_TARGET_{ARM.upper().replace('-', '_')}"
     said = Cargo("debian", home)(
         "test",
         "--offline",
-        "--all-features",
+        "--features",
+        features,
         "--target",
         ARM,
         cwd=crate,
@@ -344,15 +480,15 @@ def test_aarch64(home, crate):
             f"{of_target}_RUNNER": "qemu-aarch64 -L /usr/aarch64-linux-gnu",
         },
     )
-    assert counted(said) == len(names_of_tests())
+    assert counted(said) >= len(names_of_tests()) - 1
 
 
-@evidence
-@pytest.mark.needs("<openssl/evp.h>")
-def test_bugs_are_caught(cargo, crate, crate_with_rows):
-    """Each edit of bugs.txt, one after the other in one copy, without which its tests and the rows pass."""
+@pytest.fixture
+def seen_by(cargo, crate, crate_with_rows):
+    """seen_by(edit) is what finds a fault in a copy of the crate after edit(copy): "tests", which are the crate's, or
+    "rows", or None. One copy is used for all edits."""
+    need("<openssl/evp.h>")
     copy = pathlib.Path(shutil.copytree(crate_with_rows, "copy"))
-    tests = ["cargo", "test", "--offline", "--all-features", "--lib", "--tests"]
     target, lines = os.path.abspath("out"), pathlib.Path("none.txt")
     lines.touch()
     env = {
@@ -361,23 +497,71 @@ def test_bugs_are_caught(cargo, crate, crate_with_rows):
         "KEYWRAP_ROWS": str(lines.absolute()),
     }
 
-    def passes():
+    def find(edit, features):
+        shutil.copytree(crate / "src", copy / "src", dirs_exist_ok=True)
+        edit(copy)
+        given = "zeroize" + features
+        tests = ["cargo", "test", "--offline", "--features", given, "--lib", "--tests"]
         # An edit that does not compile catches nothing.
         run(*tests, "--no-run", cwd=copy, env=env)
-        return subprocess.run(
-            tests, cwd=copy, env=env, capture_output=True
-        ).returncode == 0 and not any(
+        ended = subprocess.run(tests, cwd=copy, env=env, capture_output=True)
+        if ended.returncode:
+            return "tests"
+        is_seen = any(
             faces.has_fault(
-                face, runner(cargo, copy, face, CARGO_TARGET_DIR=target), "rows"
+                face,
+                runner(cargo, copy, face, given, CARGO_TARGET_DIR=target),
+                "rows",
             )
             for face in FACES
         )
+        return "rows" if is_seen else None
 
-    assert passes()
+    return find
+
+
+@evidence
+def test_bugs_are_caught(seen_by):
+    """Each edit of bugs.txt is seen. Some are of code that only a feature has."""
+    assert seen_by(lambda copy: None, "") is None
     survived = []
-    for bug in bugs_of("rust"):
-        plant("rust", bug, copy)
-        survived += [bug] * passes()
-        for path in (crate / "src").glob("*.rs"):
-            (copy / "src" / path.name).write_bytes(path.read_bytes())
+    for bug, (file, *_) in bugs_of("rust").items():
+        features = ""
+        if file == "src/sys.rs":
+            features = ",c"
+        if bug.startswith("tables"):
+            features = ",tables"
+        if seen_by(lambda copy: plant("rust", bug, copy), features) is None:
+            survived.append(bug)
     assert survived == []
+
+
+def must_fail_edit(path, copy):
+    """Makes an edit of the crates in the proved code of a copy."""
+    crate = re.search(r"(?:crates|edits)/(\w+)/", path)[1]
+    text = (ROOT / path).read_text()
+    file = re.search(r"^file: src/(.*)\.rt$", text, re.M)[1]
+    old, new = re.search(r"^old: ?(.*?)^new: ?(.*)", text, re.M | re.S).groups()
+    source = copy / "src/proved" / crate / f"{'mod' if file == 'lib' else file}.rs"
+    code = source.read_text()
+    paths = f"crate::proved::{crate}::"
+    old, new = (part.rstrip("\n").replace("crate::", paths) for part in (old, new))
+    assert code.count(old) == 1, path
+    source.write_text(code.replace(old, new))
+
+
+MUST_FAIL = list(csv.DictReader((OWN / "must_fail.csv").open()))
+
+
+@evidence
+def test_must_fail_edits(seen_by):
+    """What sees each of these edits, which the prover refuses, in the Rust; or why no test can."""
+    assert len(MUST_FAIL) >= 10
+    for edit in MUST_FAIL:
+        found = seen_by(
+            lambda copy: must_fail_edit(edit["edit"], copy), edit["features"]
+        )
+        if found is None:
+            assert len(edit["seen by"].split()) > 3, edit
+        else:
+            assert edit["seen by"] == found, edit

@@ -1,8 +1,9 @@
 //! The refusals.
 
+use crate::calls;
 use crate::sys::{
-    keywrap_status_text, KEYWRAP_BAD_IV, KEYWRAP_BAD_KEK, KEYWRAP_BAD_LENGTH, KEYWRAP_INTEGRITY,
-    KEYWRAP_KEY_NOT_PLAIN, KEYWRAP_OK,
+    KEYWRAP_BAD_IV, KEYWRAP_BAD_KEK, KEYWRAP_BAD_LENGTH, KEYWRAP_INTEGRITY, KEYWRAP_KEY_NOT_PLAIN,
+    KEYWRAP_OK,
 };
 use core::fmt;
 
@@ -76,8 +77,7 @@ pub(crate) fn result_of(status: i32, kek_size: usize, bad_length: Error) -> Resu
 impl fmt::Display for Error {
     fn fmt(&self, f: &mut fmt::Formatter<'_>) -> fmt::Result {
         let mut text = [0; 80];
-        // SAFETY: the rules of `sys`.
-        let len = unsafe { keywrap_status_text(self.status(), text.as_mut_ptr(), text.len()) };
+        let len = calls::status_text(self.status(), &mut text);
         let text = text.get(..len).unwrap_or(&text);
         f.write_str(core::str::from_utf8(text).unwrap_or("refused"))?;
         match self {

@@ -1,9 +1,11 @@
 //! The calls for one key.
 
+use crate::calls;
+use crate::cast;
 use crate::error::{result_of, Error, Result};
+use crate::proved::key_wrap_core as proved;
 use crate::sys::{
-    self, call, KEYWRAP_KEEP_FORM, KEYWRAP_MAX_KEY, KEYWRAP_NEW_PADDED, KEYWRAP_OLD_PADDED,
-    KEYWRAP_PASS_NEW,
+    KEYWRAP_KEEP_FORM, KEYWRAP_MAX_KEY, KEYWRAP_NEW_PADDED, KEYWRAP_OLD_PADDED, KEYWRAP_PASS_NEW,
 };
 use crate::{padded_text_len, room, text_len};
 use core::fmt;
@@ -90,7 +92,7 @@ impl KeptKek {
         let size = kek.len();
         let mut kept = Self([0; 248], size.min(32) * 4 + 120);
         let bytes = &mut kept.0[..kept.1];
-        let status = call!(sys::keywrap_kek_init, in kek, out bytes);
+        let status = calls::kek_init(kek, bytes);
         result_of(status, size, Error::InvalidDataSize)?;
         Ok(kept)
     }
@@ -113,7 +115,7 @@ impl fmt::Debug for KeptKek {
 impl Drop for KeptKek {
     fn drop(&mut self) {
         let bytes = &mut self.0;
-        call!(sys::keywrap_kek_clear, out bytes);
+        calls::kek_clear(bytes);
     }
 }
 
@@ -124,7 +126,7 @@ impl Drop for KeptKek {
 /// of `out` must be right: [`text_len`], [`padded_text_len`] or [`room`] of the length of `data`.
 /// After an error `out` is unchanged, but all zeros after [`Error::IntegrityCheckFailed`].
 #[repr(transparent)]
-pub struct KekSlice([u8]);
+pub struct KekSlice(pub(crate) [u8]);
 
 /// The form in which a key is wrapped.
 #[derive(Clone, Copy, Debug, PartialEq, Eq)]
@@ -141,6 +143,21 @@ impl Form {
         match padded {
             KEYWRAP_OLD_PADDED => Form::Padded,
             _ => Form::Plain,
+        }
+    }
+
+    /// The form, as the proved code has it.
+    pub(crate) fn from_proved(form: proved::Form) -> Form {
+        match form {
+            proved::Form::Plain => Form::Plain,
+            proved::Form::Padded => Form::Padded,
+        }
+    }
+
+    fn proved(self) -> proved::Form {
+        match self {
+            Form::Plain => proved::Form::Plain,
+            Form::Padded => proved::Form::Padded,
         }
     }
 
@@ -199,6 +216,16 @@ pub enum Forms {
 }
 
 impl Forms {
+    /// The forms, as the proved code has them.
+    pub(crate) fn proved(self) -> proved::RewrapForms {
+        match self {
+            Forms::Kept => proved::RewrapForms::Kept,
+            Forms::Given { old, new } => {
+                proved::RewrapForms::by_default(old.proved(), new.proved())
+            }
+        }
+    }
+
     /// The flags of a rewrap.
     pub(crate) fn flags(self, pass_new: bool) -> u32 {
         let forms = match self {
@@ -224,38 +251,37 @@ impl KekSlice {
     /// Borrows a KEK.
     #[must_use]
     pub fn new(kek: &[u8]) -> &Self {
-        // SAFETY: the type is transparent, so a slice and a reference to it have one layout.
-        unsafe { &*(kek as *const [u8] as *const Self) }
+        cast::kek_slice(kek)
     }
 
     /// Wraps the key `data` in the plain form.
     pub fn wrap(&self, data: &[u8], out: &mut [u8]) -> Result<()> {
-        let status = call!(sys::keywrap_wrap, in self, in data, out out);
+        let status = calls::wrap(&self.0, data, out);
         self.wrap_result(status, Form::Plain, data.len())
     }
 
     /// Wraps the key `data` in the plain form, under an initial value that both ends agreed on.
     pub fn wrap_with_iv(&self, iv: &[u8; 8], data: &[u8], out: &mut [u8]) -> Result<()> {
-        let status = call!(sys::keywrap_wrap_with, in self, in iv, in data, out out);
+        let status = calls::wrap_with(&self.0, iv, data, out);
         self.wrap_result(status, Form::Plain, data.len())
     }
 
     /// Wraps the key `data` in the padded form.
     pub fn wrap_with_padding(&self, data: &[u8], out: &mut [u8]) -> Result<()> {
-        let status = call!(sys::keywrap_wrap_padded, in self, in data, out out);
+        let status = calls::wrap_padded(&self.0, data, out);
         self.wrap_result(status, Form::Padded, data.len())
     }
 
     /// Unwraps `data` in the plain form: `out` is the key.
     pub fn unwrap(&self, data: &[u8], out: &mut [u8]) -> Result<()> {
-        let status = call!(sys::keywrap_unwrap, in self, in data, out out);
+        let status = calls::unwrap(&self.0, data, out);
         self.unwrap_result(status, Form::Plain, data.len())
     }
 
     /// Unwraps `data` in the plain form, under an initial value that both ends agreed on: `out` is
     /// the key.
     pub fn unwrap_with_iv(&self, iv: &[u8; 8], data: &[u8], out: &mut [u8]) -> Result<()> {
-        let status = call!(sys::keywrap_unwrap_with, in self, in iv, in data, out out);
+        let status = calls::unwrap_with(&self.0, iv, data, out);
         self.unwrap_result(status, Form::Plain, data.len())
     }
 
@@ -263,7 +289,7 @@ impl KekSlice {
     /// come after it.
     pub fn unwrap_with_padding<'a>(&self, data: &[u8], out: &'a mut [u8]) -> Result<&'a [u8]> {
         let mut key_len = 0;
-        let status = call!(sys::keywrap_unwrap_padded, in self, in data, out out, &mut key_len);
+        let status = calls::unwrap_padded(&self.0, data, out, &mut key_len);
         self.unwrap_result(status, Form::Padded, data.len())?;
         out.get(..key_len).ok_or(Error::IntegrityCheckFailed)
     }
@@ -272,9 +298,7 @@ impl KekSlice {
     /// `out`. Zeros come after it.
     pub fn unwrap_any<'a>(&self, data: &[u8], out: &'a mut [u8]) -> Result<(Form, &'a [u8])> {
         let (mut padded, mut key_len) = (0, 0);
-        let status = call!(
-            sys::keywrap_unwrap_any, in self, in data, out out, &mut padded, &mut key_len
-        );
+        let status = calls::unwrap_any(&self.0, data, out, &mut padded, &mut key_len);
         self.unwrap_result(status, Form::Padded, data.len())?;
         let key = out.get(..key_len).ok_or(Error::IntegrityCheckFailed)?;
         Ok((Form::of(padded), key))
@@ -286,9 +310,7 @@ impl KekSlice {
     /// A length that neither form has is [`Error::IntegrityCheckFailed`].
     pub fn kind(&self, data: &[u8], scratch: &mut [u8]) -> Result<Kind> {
         let (mut padded, mut key_len) = (0, 0);
-        let status = call!(
-            sys::keywrap_kind, in self, in data, out scratch, &mut padded, &mut key_len
-        );
+        let status = calls::kind(&self.0, data, scratch, &mut padded, &mut key_len);
         self.result(status, true, room(data.len()))?;
         let form = Form::of(padded);
         Ok(Kind { form, key_len })
@@ -297,14 +319,14 @@ impl KekSlice {
     /// Wraps the key that begins at `buffer[8]` and goes to the end, in the plain form. Then the
     /// buffer is the wrapped key. After an error it is unchanged.
     pub fn wrap_in_place(&self, buffer: &mut [u8]) -> Result<()> {
-        let status = call!(sys::keywrap_wrap_in_place, in self, out buffer);
+        let status = calls::wrap_in_place(&self.0, buffer);
         self.result(status, false, 0)
     }
 
     /// Wraps the key of `key_len` bytes that begins at `buffer[8]`, in the padded form. Then the
     /// buffer, of [`padded_text_len`] bytes, is the wrapped key. After an error it is unchanged.
     pub fn wrap_with_padding_in_place(&self, buffer: &mut [u8], key_len: usize) -> Result<()> {
-        let status = call!(sys::keywrap_wrap_padded_in_place, in self, out buffer, key_len);
+        let status = calls::wrap_padded_in_place(&self.0, buffer, key_len);
         self.wrap_result(status, Form::Padded, key_len)
     }
 
@@ -312,7 +334,7 @@ impl KekSlice {
     /// bytes. After [`Error::IntegrityCheckFailed`] the buffer is all zeros: to keep the wrapped
     /// key, copy it first.
     pub fn unwrap_in_place<'a>(&self, buffer: &'a mut [u8]) -> Result<&'a mut [u8]> {
-        let status = call!(sys::keywrap_unwrap_in_place, in self, out buffer);
+        let status = calls::unwrap_in_place(&self.0, buffer);
         self.result(status, false, 0)?;
         buffer.get_mut(8..).ok_or(Error::InvalidDataSize)
     }
@@ -322,7 +344,7 @@ impl KekSlice {
     /// to keep the wrapped key, copy it first.
     pub fn unwrap_with_padding_in_place<'a>(&self, buffer: &'a mut [u8]) -> Result<&'a mut [u8]> {
         let mut key_len = 0;
-        let status = call!(sys::keywrap_unwrap_padded_in_place, in self, out buffer, &mut key_len);
+        let status = calls::unwrap_padded_in_place(&self.0, buffer, &mut key_len);
         self.result(status, false, 0)?;
         let key = buffer.get_mut(8..).and_then(|rest| rest.get_mut(..key_len));
         key.ok_or(Error::InvalidDataSize)
@@ -341,9 +363,12 @@ impl KekSlice {
         pass_new: bool,
     ) -> Result<Rewrapped> {
         let mut already = 0;
-        let status = call!(
-            sys::keywrap_rewrap, in self, in new_kek, out buffer, forms.flags(pass_new),
-            &mut already
+        let status = calls::rewrap(
+            &self.0,
+            &new_kek.0,
+            buffer,
+            forms.flags(pass_new),
+            &mut already,
         );
         result_of(status, self.refused_with(new_kek), Error::InvalidDataSize)?;
         Ok(if already == 0 {
@@ -354,12 +379,8 @@ impl KekSlice {
     }
 }
 
-/// The calls of C.
+/// What became of a call.
 impl KekSlice {
-    pub(crate) fn as_ptr(&self) -> *const u8 {
-        self.0.as_ptr()
-    }
-
     pub(crate) fn len(&self) -> usize {
         self.0.len()
     }
@@ -451,7 +472,7 @@ impl KekSlice {
 
 /// The buffer of this length that `fill` filled.
 #[cfg(feature = "alloc")]
-fn filled(len: usize, fill: impl FnOnce(&mut [u8]) -> Result<()>) -> Result<Vec<u8>> {
+pub(crate) fn filled(len: usize, fill: impl FnOnce(&mut [u8]) -> Result<()>) -> Result<Vec<u8>> {
     let mut out = vec![0; len.min(KEYWRAP_MAX_TEXT)];
     fill(&mut out)?;
     Ok(out)

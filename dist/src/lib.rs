@@ -24,18 +24,23 @@
 //!   length is only known at run time. [`KeptKek`] is expanded once, for many calls.
 //! - The plain form takes keys of 16 bytes or more, a multiple of 8, the padded form of 1 or more.
 //!   Both take up to [`KEYWRAP_MAX_KEY`] bytes.
-//! - [`steps`] wraps by a block cipher of the caller, for a KEK that never leaves a token.
+//! - [`generic::Kek`] wraps under any block cipher. [`steps`] is for one that may fail, as a KEK that
+//!   never leaves a token.
 //! - No call panics. Only the calls that end in `_vec` allocate.
 //!
-//! The crate compiles keywrap.c. Its README says what is proved and what is trusted.
+//! The module `proved` is the proved code, without its contracts. It has no unsafe code. Its README says
+//! what is proved and what is trusted.
 //!
 //! # Features
 //!
 //! - `std` (default): [`Error`] implements `std::error::Error`. It includes `alloc`.
 //! - `alloc`: the calls that end in `_vec`.
 //! - `zeroize`: a [`Kek`] is cleared when it is dropped.
+//! - `tables`: AES is by the proved tables, also where the processor has AES instructions.
+//! - `c`: the calls are those of keywrap.c, which a C compiler compiles. [`generic`] does not change.
 
 #![no_std]
+#![deny(unsafe_code)]
 #![warn(missing_docs, unsafe_op_in_unsafe_fn)]
 
 #[cfg(feature = "alloc")]
@@ -43,9 +48,22 @@ extern crate alloc;
 #[cfg(any(feature = "std", test))]
 extern crate std;
 
+#[cfg(not(feature = "c"))]
+mod aes;
+mod byteorder;
+#[cfg(not(feature = "c"))]
+mod calls;
+#[cfg(feature = "c")]
+#[path = "c.rs"]
+mod calls;
+mod cast;
+mod clear;
 mod error;
+pub mod generic;
 mod kek;
 mod many;
+#[rustfmt::skip]
+mod proved;
 pub mod steps;
 mod sys;
 
@@ -59,20 +77,18 @@ pub use sys::{KEYWRAP_MAX_KEY, KEYWRAP_MAX_TEXT};
 /// The default initial value of the plain form.
 pub const IV: [u8; 8] = [0xa6; 8];
 
-/// Returns the version of keywrap.c: major, minor and patch. Between two releases it is the next
+/// Returns the version: major, minor and patch. Between two releases it is the next
 /// one's.
 #[must_use]
 pub fn version() -> [u8; 3] {
-    // SAFETY: it has no argument.
-    let [_, major, minor, patch] = unsafe { sys::keywrap_version() }.to_be_bytes();
+    let [_, major, minor, patch] = calls::version().to_be_bytes();
     [major, minor, patch]
 }
 
 /// Wraps and unwraps the published vectors of RFC 3394 and RFC 5649, and unwraps a damaged wrapped
 /// key. Fails if a result is wrong.
 pub fn self_test() -> Result<()> {
-    // SAFETY: it has no argument.
-    match unsafe { sys::keywrap_self_test() } {
+    match calls::self_test() {
         sys::KEYWRAP_OK => Ok(()),
         _ => Err(Error::IntegrityCheckFailed),
     }

@@ -1,15 +1,15 @@
 //! The calls for many keys.
 
+use crate::calls;
+use crate::cast::bytes_of;
 use crate::error::{result_of, Error, Result};
-use crate::sys::{
-    self, call, KEYWRAP_ALREADY_NEW, KEYWRAP_INTEGRITY, KEYWRAP_NEW_PADDED, KEYWRAP_OLD_PADDED,
-};
+use crate::sys::{KEYWRAP_ALREADY_NEW, KEYWRAP_INTEGRITY, KEYWRAP_NEW_PADDED, KEYWRAP_OLD_PADDED};
 use crate::{room, Form, Forms, KekSlice, Kind, Rewrapped};
 
 /// What became of one slot. The default, before a call, is a failed integrity check.
 #[derive(Clone, Copy, Debug, PartialEq, Eq)]
 #[repr(transparent)]
-pub struct Status(u8);
+pub struct Status(pub(crate) u8);
 
 impl Default for Status {
     fn default() -> Self {
@@ -48,9 +48,12 @@ impl KekSlice {
         key_len: usize,
         statuses: &mut [Status],
     ) -> Result<()> {
-        let status = call!(
-            sys::keywrap_wrap_many, in self, out slots, key_len, form.flag(KEYWRAP_NEW_PADDED),
-            statuses.as_mut_ptr().cast(), statuses.len()
+        let status = calls::wrap_many(
+            &self.0,
+            slots,
+            key_len,
+            form.flag(KEYWRAP_NEW_PADDED),
+            bytes_of(statuses),
         );
         self.result(status, false, 0)
     }
@@ -65,9 +68,12 @@ impl KekSlice {
         key_lens: &'a mut [usize],
         statuses: &'a mut [Status],
     ) -> Result<impl Iterator<Item = Result<&'a [u8]>>> {
-        let status = call!(
-            sys::keywrap_unwrap_many, in self, out slots, form.flag(KEYWRAP_OLD_PADDED),
-            out key_lens, statuses.as_mut_ptr().cast(), statuses.len()
+        let status = calls::unwrap_many(
+            &self.0,
+            slots,
+            form.flag(KEYWRAP_OLD_PADDED),
+            key_lens,
+            bytes_of(statuses),
         );
         self.result(status, key_lens.len() != statuses.len(), statuses.len())?;
         let all = slots.chunks(slot_len(slots, statuses).max(1));
@@ -88,9 +94,12 @@ impl KekSlice {
         pass_new: bool,
         statuses: &'a mut [Status],
     ) -> Result<impl Iterator<Item = Result<Rewrapped>> + 'a> {
-        let status = call!(
-            sys::keywrap_rewrap_many, in self, in new_kek, out slots, forms.flags(pass_new),
-            statuses.as_mut_ptr().cast(), statuses.len()
+        let status = calls::rewrap_many(
+            &self.0,
+            &new_kek.0,
+            slots,
+            forms.flags(pass_new),
+            bytes_of(statuses),
         );
         result_of(status, self.refused_with(new_kek), Error::InvalidDataSize)?;
         Ok(statuses.iter().map(|status| status.rewrapped()))
@@ -107,9 +116,13 @@ impl KekSlice {
         key_lens: &'a mut [usize],
         statuses: &'a mut [Status],
     ) -> Result<impl Iterator<Item = Result<Kind>> + 'a> {
-        let status = call!(
-            sys::keywrap_kind_many, in self, in slots, out scratch, out padded, out key_lens,
-            statuses.as_mut_ptr().cast(), statuses.len()
+        let status = calls::kind_many(
+            &self.0,
+            slots,
+            scratch,
+            padded,
+            key_lens,
+            bytes_of(statuses),
         );
         let (count, scratch_len) = (statuses.len(), room(slot_len(slots, statuses)));
         let bad_length = if padded.len() != count || key_lens.len() != count {

@@ -34,11 +34,12 @@
 //! wrapping or an unwrapping is refused at its beginning, `out` is unchanged. If it is given up
 //! later, also by a panic of the function, `out` is all zeros.
 
+use crate::calls;
+use crate::clear::clear;
 use crate::error::{result_of, Error, Result};
-use crate::sys::{self, call};
+use crate::sys;
 use crate::{room, Form, Forms, Rewrapped, IV};
 use core::fmt;
-use core::sync::atomic::{compiler_fence, Ordering};
 
 /// Why a wrapping or an unwrapping stopped.
 #[derive(Clone, Copy, Debug, PartialEq, Eq)]
@@ -70,15 +71,6 @@ impl<E: std::error::Error> std::error::Error for Stopped<E> {}
 /// The result of a step. Its lengths are right, so only the number of steps can be wrong.
 fn stepped(status: i32) -> Result<()> {
     result_of(status, 0, Error::InvalidStep)
-}
-
-/// Writes zeros that the compiler cannot leave out.
-fn clear(bytes: &mut [u8]) {
-    for byte in bytes {
-        // SAFETY: the pointer comes from a reference.
-        unsafe { core::ptr::write_volatile(byte, 0) };
-    }
-    compiler_fence(Ordering::SeqCst);
 }
 
 /// Refuses a wrong length.
@@ -119,9 +111,7 @@ impl<'a> Wrapping<'a> {
             out,
         )?;
         let mut new = Self::empty();
-        let status = call!(
-            sys::keywrap_begin_wrap, in iv, in data, &mut new.done, new.block.as_mut_ptr()
-        );
+        let status = calls::begin_wrap(iv, data, &mut new.done, &mut new.block);
         result_of(status, 0, Error::InvalidDataSize)?;
         new.hold(data, out);
         Ok(new)
@@ -137,10 +127,7 @@ impl<'a> Wrapping<'a> {
         let mut new = Self::empty();
         new.hold(data, out);
         let (_, registers) = split(new.out);
-        let status = call!(
-            sys::keywrap_begin_wrap_padded, data.len(), out registers, &mut new.done,
-            new.block.as_mut_ptr()
-        );
+        let status = calls::begin_wrap_padded(data.len(), registers, &mut new.done, &mut new.block);
         result_of(status, 0, Error::InvalidDataSize)?;
         Ok(new)
     }
@@ -161,8 +148,7 @@ impl<'a> Wrapping<'a> {
         for (to, from) in registers.iter_mut().zip(data) {
             *to = *from;
         }
-        // SAFETY: it takes a number only.
-        self.steps = unsafe { sys::keywrap_step_count(registers.len()) };
+        self.steps = calls::step_count(registers.len());
     }
 
     /// Returns the next block to encrypt, or `None` after the last step.
@@ -186,17 +172,14 @@ impl<'a> Wrapping<'a> {
 
     fn advance(&mut self) -> Result<()> {
         let (_, registers) = split(self.out);
-        stepped(call!(
-            sys::keywrap_step_wrap, out registers, &mut self.done, self.block.as_mut_ptr()
-        ))
+        stepped(calls::step_wrap(registers, &mut self.done, &mut self.block))
     }
 
     /// Ends the wrapping after the last step. Then `out` is the wrapped key.
     pub fn end(mut self) -> Result<()> {
         let (first, registers) = split(self.out);
-        stepped(call!(
-            sys::keywrap_end_wrap, first.as_mut_ptr(), in registers, self.done, self.block.as_ptr()
-        ))?;
+        let first = first.try_into().map_err(|_| Error::InvalidStep)?;
+        stepped(calls::end_wrap(first, registers, self.done, &self.block))?;
         // The drop does not clear it.
         self.out = &mut [];
         Ok(())
@@ -249,25 +232,25 @@ impl<'a> Unwrapping<'a> {
 
     /// Begins to unwrap `data` in the plain form, under an initial value that both ends agreed on.
     pub fn with_iv(iv: &[u8; 8], data: &[u8], out: &'a mut [u8]) -> Result<Self> {
-        Self::begin(Check::Plain(*iv), data, out, sys::keywrap_begin_unwrap)
+        Self::begin(Check::Plain(*iv), data, out, calls::begin_unwrap)
     }
 
     /// Begins to unwrap `data` in the padded form.
     pub fn with_padding(data: &[u8], out: &'a mut [u8]) -> Result<Self> {
-        Self::begin(Check::Padded, data, out, sys::keywrap_begin_unwrap_padded)
+        Self::begin(Check::Padded, data, out, calls::begin_unwrap_padded)
     }
 
     /// Begins to unwrap `data` in the form that it has, the plain one with the default initial value.
     /// [`end_with_form`](Self::end_with_form) returns the form.
     pub fn in_either_form(data: &[u8], out: &'a mut [u8]) -> Result<Self> {
-        Self::begin(Check::Either, data, out, sys::keywrap_begin_unwrap_padded)
+        Self::begin(Check::Either, data, out, calls::begin_unwrap_padded)
     }
 
     fn begin(
         check: Check,
         data: &[u8],
         out: &'a mut [u8],
-        begin: unsafe extern "C" fn(*const u8, *const u8, usize, *mut u64, *mut u8) -> i32,
+        begin: fn(&[u8; 8], &[u8], &mut u64, &mut [u8; 16]) -> i32,
     ) -> Result<Self> {
         let form = match check {
             Check::Plain(_) => Form::Plain,
@@ -281,8 +264,8 @@ impl<'a> Unwrapping<'a> {
             block: [0; 16],
             check,
         };
-        let (left, block) = (&mut new.left, new.block.as_mut_ptr());
-        let status = call!(begin, first.as_ptr(), in registers, left, block);
+        let first = first.try_into().map_err(|_| Error::InvalidDataSize)?;
+        let status = begin(first, registers, &mut new.left, &mut new.block);
         result_of(status, 0, Error::InvalidDataSize)?;
         out.copy_from_slice(registers);
         new.out = out;
@@ -309,8 +292,10 @@ impl<'a> Unwrapping<'a> {
     }
 
     fn advance(&mut self) -> Result<()> {
-        stepped(call!(
-            sys::keywrap_step_unwrap, out self.out, &mut self.left, self.block.as_mut_ptr()
+        stepped(calls::step_unwrap(
+            self.out,
+            &mut self.left,
+            &mut self.block,
         ))
     }
 
@@ -323,29 +308,15 @@ impl<'a> Unwrapping<'a> {
     /// Ends the unwrapping, as [`end`](Self::end) does, and also returns the form of the wrapped key.
     pub fn end_with_form(mut self) -> Result<(&'a [u8], Form)> {
         let (mut key_len, mut padded) = (self.out.len(), 0);
-        let (out, len, block) = (
-            self.out.as_mut_ptr(),
-            self.out.len(),
-            self.block.as_mut_ptr(),
-        );
-        // SAFETY: the rules of `sys`. A block has 16 bytes.
-        stepped(unsafe {
-            match &self.check {
-                Check::Plain(iv) => {
-                    sys::keywrap_end_unwrap(iv.as_ptr(), iv.len(), out, len, self.left, block)
-                }
-                Check::Padded => {
-                    padded = sys::KEYWRAP_OLD_PADDED;
-                    sys::keywrap_end_unwrap_padded(out, len, self.left, block, &mut key_len)
-                }
-                Check::Either => sys::keywrap_end_unwrap_any(
-                    out,
-                    len,
-                    self.left,
-                    block,
-                    &mut padded,
-                    &mut key_len,
-                ),
+        let (left, block) = (self.left, &mut self.block);
+        stepped(match &self.check {
+            Check::Plain(iv) => calls::end_unwrap(iv, self.out, left, block),
+            Check::Padded => {
+                padded = sys::KEYWRAP_OLD_PADDED;
+                calls::end_unwrap_padded(self.out, left, block, &mut key_len)
+            }
+            Check::Either => {
+                calls::end_unwrap_any(self.out, left, block, &mut padded, &mut key_len)
             }
         })?;
         // The drop does not clear it.
@@ -415,9 +386,12 @@ impl<'a> Rewrapping<'a> {
             status: 0,
             block: [0; 16],
         };
-        let status = call!(
-            sys::keywrap_begin_rewrap, new.flags, in data, &mut new.phase, &mut new.steps,
-            new.block.as_mut_ptr()
+        let status = calls::begin_rewrap(
+            new.flags,
+            data,
+            &mut new.phase,
+            &mut new.steps,
+            &mut new.block,
         );
         result_of(status, 0, Error::InvalidDataSize)?;
         out.copy_from_slice(data);
@@ -427,8 +401,7 @@ impl<'a> Rewrapping<'a> {
     }
 
     fn begin_run(&mut self) {
-        // SAFETY: it takes a number only.
-        self.left = unsafe { sys::keywrap_step_count(room(self.data.len())) };
+        self.left = calls::step_count(room(self.data.len()));
     }
 
     /// Returns the next block and what is to be done with it, or `None` after the last step.
@@ -454,12 +427,12 @@ impl<'a> Rewrapping<'a> {
 
     fn advance(&mut self) -> Result<()> {
         let step = if self.phase & sys::KEYWRAP_DECRYPT == 0 {
-            sys::keywrap_step_wrap
+            calls::step_wrap
         } else {
-            sys::keywrap_step_unwrap
+            calls::step_unwrap
         };
         let (_, registers) = split(self.out);
-        stepped(call!(step, out registers, &mut self.steps, self.block.as_mut_ptr()))?;
+        stepped(step(registers, &mut self.steps, &mut self.block))?;
         self.left -= 1;
         if self.left == 0 {
             self.turn();
@@ -469,9 +442,13 @@ impl<'a> Rewrapping<'a> {
 
     /// Ends a run. The call says which comes next.
     fn turn(&mut self) {
-        self.status = call!(
-            sys::keywrap_next_rewrap_from, self.flags, in self.data, out self.out,
-            &mut self.phase, &mut self.steps, self.block.as_mut_ptr()
+        self.status = calls::next_rewrap_from(
+            self.flags,
+            self.data,
+            self.out,
+            &mut self.phase,
+            &mut self.steps,
+            &mut self.block,
         );
         self.begin_run();
     }

@@ -1,14 +1,10 @@
-//! The calls and constants of keywrap.c, with their names in keywrap.h and keywrap_steps.h. The
-//! tests compare both with the headers.
-//!
-//! The headers have rules for the caller. This crate keeps them in every call, by `call!`:
-//!
-//! - A pointer comes from the slice or the reference whose length comes with it. It is not null,
-//!   not even for an empty slice. A block has 16 bytes, and before registers are 8.
-//! - Everything that a call writes is borrowed by `&mut`. So it overlaps no other argument, and no
-//!   other thread uses it.
+//! The constants of keywrap.h and keywrap_steps.h, and the declarations of the calls of keywrap.c, with
+//! their names there. The tests compare both with the headers.
+
+#![allow(unsafe_code)]
 
 /// Declares the calls. The tests see the declarations as text.
+#[cfg(feature = "c")]
 macro_rules! calls {
     ($(fn $name:ident($($argument:ident: $type:ty),* $(,)?) -> $result:ty;)*) => {
         extern "C" {
@@ -21,25 +17,6 @@ macro_rules! calls {
         )),*];
     };
 }
-
-/// Makes a call: of a slice (`in`, or `out` if it is written) it gets the pointer and the length.
-macro_rules! call {
-    (@ $call:expr, [$($done:expr,)*]) => {
-        // SAFETY: the rules above.
-        unsafe { $call($($done),*) }
-    };
-    (@ $call:expr, [$($done:expr,)*] in $slice:expr $(, $($more:tt)*)?) => {
-        $crate::sys::call!(@ $call, [$($done,)* $slice.as_ptr(), $slice.len(),] $($($more)*)?)
-    };
-    (@ $call:expr, [$($done:expr,)*] out $slice:expr $(, $($more:tt)*)?) => {
-        $crate::sys::call!(@ $call, [$($done,)* $slice.as_mut_ptr(), $slice.len(),] $($($more)*)?)
-    };
-    (@ $call:expr, [$($done:expr,)*] $other:expr $(, $($more:tt)*)?) => {
-        $crate::sys::call!(@ $call, [$($done,)* $other,] $($($more)*)?)
-    };
-    ($call:expr, $($argument:tt)*) => { $crate::sys::call!(@ $call, [] $($argument)*) };
-}
-pub(crate) use call;
 
 /// Defines the constants. The tests see them with their names.
 macro_rules! constants {
@@ -70,6 +47,7 @@ constants! {
     KEYWRAP_MAX_TEXT: usize = KEYWRAP_MAX_KEY + 8;
 }
 
+#[cfg(feature = "c")]
 calls! {
     fn keywrap_version() -> u32;
     fn keywrap_status_text(status: i32, text: *mut u8, capacity: usize) -> usize;
@@ -142,11 +120,13 @@ calls! {
 
 #[cfg(test)]
 mod tests {
-    use super::{CALLS, CONSTANTS};
+    #[cfg(feature = "c")]
+    use super::CALLS;
+    use super::CONSTANTS;
     use std::collections::HashMap;
-    use std::format;
     use std::string::String;
-    use std::vec::Vec;
+    #[cfg(feature = "c")]
+    use std::{format, vec::Vec};
 
     const HEADERS: &str = concat!(
         include_str!("../keywrap.h"),
@@ -193,6 +173,7 @@ mod tests {
     }
 
     /// A parameter of the header as this crate declares it.
+    #[cfg(feature = "c")]
     fn parameter(text: &str) -> String {
         let text = text.replace("KEYWRAP_RESTRICT", "").replace('*', " * ");
         let words: Vec<&str> = text.split_whitespace().collect();
@@ -215,6 +196,7 @@ mod tests {
     }
 
     /// The call at the end of this text of a header, as this crate declares it.
+    #[cfg(feature = "c")]
     fn call(text: &str) -> Option<String> {
         let of = ["_t keywrap_", "void keywrap_"];
         let of = of.iter().find_map(|of| text.find(of))?;
@@ -229,6 +211,7 @@ mod tests {
         Some(all.join(", "))
     }
 
+    #[cfg(feature = "c")]
     #[test]
     fn calls_of_the_headers() {
         let found: Vec<String> = HEADERS.split(';').filter_map(call).collect();
