@@ -24,13 +24,12 @@ from terms import Refused  # noqa: E402
 
 def rows(name):
     """Returns the rows of a file, by their names."""
-    lines = (HERE / name).read_text().splitlines()
-    split = [
-        [part.strip() for part in line.split(" | ")]
-        for line in lines
-        if line.strip() and not line.startswith("#")
-    ]
-    return {name: what for name, *what in split}
+    found = {}
+    for line in (HERE / name).read_text().splitlines():
+        if line.strip() and not line.startswith("#"):
+            name, *what = map(str.strip, line.split(" | "))
+            found[name] = what
+    return found
 
 
 BUGS, AT_SOME_LENGTHS = rows("bugs.txt"), rows("lengths.txt")
@@ -45,26 +44,22 @@ class Text:
     """The text of a module. Each function is one line of instructions."""
 
     def __init__(self, file):
-        self.text = subprocess.run(
-            ["wasm2wat", file], capture_output=True, text=True, check=True
-        ).stdout
-        self.functions = {
-            int(number): re.sub(
-                r"\s+", " ", re.sub(r";; label = @\d+|\(;@\d+;\)", "", body)
-            ).strip()
-            for number, body in FUNCTION.findall(self.text)
-        }
-        self.exports = {
-            name: int(number)
-            for name, number in re.findall(
-                r'\(export "(\w+)" \(func (\d+)\)', self.text
-            )
-        }
-        (self.aes,) = [
-            number
-            for number, body in self.functions.items()
-            if "i32.const 14 i32.shr_u" in body and self.reached("wrap") >= {number}
-        ]
+        said = subprocess.run(["wasm2wat", file], capture_output=True, check=True)
+        self.text = said.stdout.decode()
+        self.functions, self.exports = {}, {}
+        for number, body in FUNCTION.findall(self.text):
+            self.functions[int(number)] = on_one_line(body)
+        exports = re.findall(r'\(export "(\w+)" \(func (\d+)\)', self.text)
+        for name, number in exports:
+            self.exports[name] = int(number)
+        (self.aes,) = filter(self.is_aes, self.reached("wrap"))
+
+    def is_aes(self, number):
+        return "i32.const 14 i32.shr_u" in self.functions[number]
+
+    def called_by(self, number):
+        """Returns the numbers of the functions that a function calls."""
+        return map(int, re.findall(r"\bcall (\d+)", self.functions[number]))
 
     def reached(self, export):
         waiting, found = [self.exports[f"keywrap_{export}"]], set()
@@ -72,43 +67,51 @@ class Text:
             number = waiting.pop()
             if number not in found:
                 found.add(number)
-                waiting += map(int, re.findall(r"\bcall (\d+)", self.functions[number]))
+                waiting += self.called_by(number)
         return found
 
     def chosen(self, where):
         if not where.startswith("@"):
             return self.reached(where)
         # An export sets the guard, calls the function that computes it, and resets the guard.
-        called = re.findall(
-            r"\bcall (\d+)", self.functions[self.exports[f"keywrap_{where[1:]}"]]
-        )
-        return {max(map(int, called), key=lambda number: len(self.functions[number]))}
+        called = self.called_by(self.exports[f"keywrap_{where[1:]}"])
+        return {max(called, key=lambda number: len(self.functions[number]))}
 
     def with_bug(self, where, old, new):
         """Returns the text with the bug."""
+        old = old.replace("AES", str(self.aes))
         functions = dict(self.functions)
         for number in self.chosen(where):
-            body = functions[number]
-            head = re.match(r"\(type \d+\)(?: \((?:param|result|local)[^)]*\))*", body)[
-                0
-            ]
-            local = len(
-                re.findall(r"\b[if]\d\d\b", re.sub(r"\(result[^)]*\)", "", head))
-            )
-            code = body[len(head) :]
-            if old == "ENTRY":
-                changed = f" {new}{code}"
-            else:
-                changed = re.sub(old.replace("AES", str(self.aes)), new, code, count=1)
-            if "NEW" in changed:
-                head += " (local i64)"
-            functions[number] = head + changed.replace("NEW", str(local))
+            functions[number] = function_with_bug(functions[number], old, new)
         if functions == self.functions:
             raise SystemExit(f"bugs.py: not found: {old}")
-        return FUNCTION.sub(
-            lambda match: f"  (func (;{match[1]};) {functions[int(match[1])]}\n",
-            self.text,
-        )
+
+        def text_of(match):
+            number = match[1]
+            return f"  (func (;{number};) {functions[int(number)]}\n"
+
+        return FUNCTION.sub(text_of, self.text)
+
+
+def on_one_line(body):
+    without_labels = re.sub(r";; label = @\d+|\(;@\d+;\)", "", body)
+    return re.sub(r"\s+", " ", without_labels).strip()
+
+
+def function_with_bug(body, old, new):
+    """Returns a function with other code in the place of the first that is found, or at its beginning."""
+    head = re.match(r"\(type \d+\)(?: \((?:param|result|local)[^)]*\))*", body)[0]
+    code = body[len(head) :]
+    if old == "ENTRY":
+        changed = f" {new}{code}"
+    else:
+        changed = re.sub(old, new, code, count=1)
+    if "NEW" in changed:
+        parameters_and_locals = re.sub(r"\(result[^)]*\)", "", head)
+        count = len(re.findall(r"\b[if]\d\d\b", parameters_and_locals))
+        changed = changed.replace("NEW", str(count))
+        head += " (local i64)"
+    return head + changed
 
 
 def address_of_the_s_box(file):
@@ -125,13 +128,15 @@ def planted(file, name, directory):
     if "SBOX" in new:
         new = new.replace("SBOX", str(address_of_the_s_box(file)))
     if where == "data":
-        content, before = bytearray(pathlib.Path(file).read_bytes()), bytes.fromhex(old)
-        if content.count(before) != 1:
-            raise SystemExit(f"bugs.py: {content.count(before)} times: {old}")
-        for at, mask in enumerate(
-            bytes.fromhex(new), content.index(before) + len(before)
-        ):
+        content = bytearray(pathlib.Path(file).read_bytes())
+        before = bytes.fromhex(old)
+        count = content.count(before)
+        if count != 1:
+            raise SystemExit(f"bugs.py: {count} times: {old}")
+        at = content.index(before) + len(before)
+        for mask in bytes.fromhex(new):
             content[at] ^= mask
+            at += 1
         result.write_bytes(content)
     else:
         wat = pathlib.Path(directory, "bug.wat")

@@ -12,17 +12,12 @@ NO_LIBRARY = pathlib.Path(__file__).with_name("without_a_library")
 
 
 def main(output):
-    headers = "".join(
-        (ROOT / "dist" / name).read_text() for name in ("keywrap.h", "keywrap_steps.h")
-    )
+    headers = ""
+    for name in "keywrap.h", "keywrap_steps.h":
+        headers += (ROOT / "dist" / name).read_text()
     portable = headers.split("#ifndef KEYWRAP_PORTABLE\n/* The calls for many keys")[0]
-    calls = sorted(
-        set(
-            re.findall(
-                r"^(?:u?int32_t|uint64_t|size_t|void) (keywrap_\w+)\(", portable, re.M
-            )
-        )
-    )
+    declaration = r"^(?:u?int32_t|uint64_t|size_t|void) (keywrap_\w+)\("
+    calls = sorted({*re.findall(declaration, portable, re.M)})
     # With -O2 an address depends on the outcome of a check, in rewrap_steps 16 24 16 10: the checker stops there.
     subprocess.run(
         [

@@ -47,9 +47,16 @@ class Todo(NamedTuple):
     setting: Setting
 
     def __str__(self):
-        names = list(inspect.signature(CALLS[self.name]).parameters)[1:]
-        shown = [f"{key}={n}" for key, n in zip(names, self.numbers)]
-        return " ".join([self.name, *shown]) + self.setting.value
+        words = [self.name]
+        for key, n in zip(names_of_numbers(self.name), self.numbers):
+            words.append(f"{key}={n}")
+        return " ".join(words) + self.setting.value
+
+
+def names_of_numbers(name):
+    """Returns the names of the numbers of a call."""
+    _, *names = inspect.signature(CALLS[name]).parameters
+    return names
 
 
 # The exports
@@ -125,16 +132,16 @@ def wrong_exports(module):
     """Returns what is wrong with the names that the object exports, as texts."""
     known = {export_of(name) for name in CALLS} | MADE_WITH_OTHERS
     exported = {*module.exports}
-    allowed = (
-        known | OF_A_MODULE | ONLY_FOR_C if isinstance(module, wasm.Module) else known
-    )
     missing = known - exported
     if not exported & MANY_STEPS:
         missing -= MANY_STEPS
-    return [f"{name}: not exported" for name in sorted(missing)] + [
-        f"{name}: an export that is not in the headers"
-        for name in sorted(exported - allowed)
-    ]
+    unknown = exported - known
+    if isinstance(module, wasm.Module):
+        unknown -= OF_A_MODULE | ONLY_FOR_C
+    wrong = [f"{name}: not exported" for name in sorted(missing)]
+    for name in sorted(unknown):
+        wrong.append(f"{name}: an export that is not in the headers")
+    return wrong
 
 
 # One object in each process
@@ -257,16 +264,21 @@ class Report:
             self.bad += 1
             print(f"{line}: REFUSED: {result}", flush=True)
             return
-        statuses = ", ".join(map(str, sorted({status for status, _ in result.paths})))
-        forks = sorted({place for _, forks in result.paths for place in forks})
+        statuses, forks = set(), set()
+        for status, places_of_path in result.paths:
+            statuses.add(status)
+            forks.update(places_of_path)
+        count = len(result.paths)
+        shown_statuses = ", ".join(map(str, sorted(statuses)))
+        branches = "; ".join(sorted(forks)) or "none"
         print(
-            f'{line}: passes, status {statuses}, {len(result.paths)} paths, branches: {"; ".join(forks) or "none"}; '
+            f"{line}: passes, status {shown_statuses}, {count} paths, branches: {branches}; "
             f"{result.lookups} look-ups in tables, {result.shuffles} in registers, {result.steps} instructions, "
             f"{result.stack} bytes of stack, {took:.1f} s",
             flush=True,
         )
-        self.paths += len(result.paths)
-        self.passed.setdefault(todo.name, []).append((todo.numbers, len(result.paths)))
+        self.paths += count
+        self.passed.setdefault(todo.name, []).append((todo.numbers, count))
         for place in forks:
             self.places.setdefault(place, set()).add(todo.name)
         if result.lookups and todo.setting != Setting.WITHOUT_AES:
@@ -281,37 +293,35 @@ class Report:
         )
 
     def summary(self):
-        lines = [
-            f"{self.count - self.bad} of {self.count} calls pass, {self.paths} paths, "
+        passed = self.count - self.bad
+        print_folded(
+            f"{passed} of {self.count} calls pass, {self.paths} paths, "
             f"{self.seconds:.0f} s of a processor"
-        ]
-        lines += [shown(name, calls) for name, calls in self.passed.items()]
-        lines.append(f'look-ups in tables: {", ".join(sorted(self.looking)) or "none"}')
-        lines += [
-            f'branch on input bytes at {place}: {", ".join(sorted(self.places[place]))}'
-            for place in sorted(self.places)
-        ]
-        for line in lines:
-            print(
-                textwrap.fill(
-                    line, 118, subsequent_indent="    ", break_long_words=False
-                )
-            )
+        )
+        for name, calls in self.passed.items():
+            print_folded(shown(name, calls))
+        looking = ", ".join(sorted(self.looking)) or "none"
+        print_folded(f"look-ups in tables: {looking}")
+        for place in sorted(self.places):
+            names = ", ".join(sorted(self.places[place]))
+            print_folded(f"branch on input bytes at {place}: {names}")
+
+
+def print_folded(line):
+    print(textwrap.fill(line, 118, subsequent_indent="    ", break_long_words=False))
 
 
 def shown(name, calls):
     """Returns which numbers each number of these calls is, for (its numbers, its paths) of each call."""
     texts = []
-    for i, key in enumerate(list(inspect.signature(CALLS[name]).parameters)[1:]):
+    for i, key in enumerate(names_of_numbers(name)):
         values = sorted({numbers[i] for numbers, _ in calls if i < len(numbers)})
-        if values:
-            text = (
-                " ".join(map(str, values))
-                if len(values) < 9
-                else f"{values[0]} to {values[-1]}"
-            )
-            texts.append(f"{key} {text}")
-    return f'{name}: {len(calls)} calls, {sum(paths for _, paths in calls)} paths; {", ".join(texts)}'
+        if len(values) > 8:
+            texts.append(f"{key} {values[0]} to {values[-1]}")
+        elif values:
+            texts.append(" ".join(map(str, [key, *values])))
+    paths = sum(paths for _, paths in calls)
+    return f"{name}: {len(calls)} calls, {paths} paths; {', '.join(texts)}"
 
 
 class Arguments(NamedTuple):
@@ -366,12 +376,12 @@ def main(words):
     todo = all_todo(module, which, numbers)
     processes = numbers[0] if which in lists.LISTS and numbers else 1
     report = Report(len(todo), may_look_up)
-    pool = (
-        multiprocessing.Pool(processes, load, (path, seed)) if processes > 1 else None
-    )
-    for each, (result, took) in zip(
-        todo, pool.imap(tried, todo) if pool else map(tried, todo)
-    ):
+    if processes > 1:
+        pool = multiprocessing.Pool(processes, load, (path, seed))
+        results = pool.imap(tried, todo)
+    else:
+        results = map(tried, todo)
+    for each, (result, took) in zip(todo, results):
         report.add(each, result, took)
     report.summary()
     return int(bool(report.bad or wrong)) if todo else 2
