@@ -225,10 +225,10 @@ class TestSources:
     def test_ranges_of_a_table(self):
         """docs/ROTATION.md has the rows of a step in SQLite and the blocks of a range in PostgreSQL; DECISIONS too."""
         (rows,) = re.findall(
-            r"^ROWS\b.* = (\d+),", text_of("rotation/src/keywrap_rotate/keys.py"), re.M
+            r"^ROWS = (\d+)$", text_of("rotation/src/keywrap_rotate/keys.py"), re.M
         )
         (blocks,) = re.findall(
-            r"^BLOCKS\b.* = (\d+),",
+            r"^BLOCKS = (\d+)$",
             text_of("rotation/src/keywrap_rotate/postgresql.py"),
             re.M,
         )

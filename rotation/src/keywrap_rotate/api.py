@@ -19,7 +19,8 @@ def rewrap_all(keys: Mapping[str, bytes], keks: Keks) -> Dict[str, bytes]:
     for refusals. `keks` is the result of `challenges` at the beginning of the rotation. Raises `WrongKeks` if this
     machine's KEKs are others, and `Refused` with the names of the keys that are under neither KEK.
     """
-    names, found = list(keys), Found()
+    names = list(keys)
+    found = Found()
     fresh = renewed(
         keks.rings(),
         Notation("raw"),

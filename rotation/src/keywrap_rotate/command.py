@@ -32,16 +32,20 @@ def main(words: Optional[Sequence[str]] = None) -> int:
     try:
         return _run(options)
     except Failure as error:
-        status, why = error.status, str(error)
+        status = error.status
+        why = str(error)
     except KeyboardInterrupt:
-        status, why = INTERRUPTED, "interrupted: run it again"
+        status = INTERRUPTED
+        why = "interrupted: run it again"
     except ImportError as error:
         package = f"python3-{error.name}"
-        status, why = ARGUMENTS, f"{error.name} is missing (apt-get install {package})"
+        status = ARGUMENTS
+        why = f"{error.name} is missing (apt-get install {package})"
     except Exception as error:
         # Of the system, of Dask, or a defect: its text may have anything in it.
         unexpected = f"unexpected {type(error).__name__}"
-        status, why = UNFINISHED, getattr(error, "strerror", None) or unexpected
+        status = UNFINISHED
+        why = getattr(error, "strerror", None) or unexpected
     Console().say(why)
     if options.summary_json and status != INTERRUPTED:
         with contextlib.suppress(ReportFailed):
@@ -64,7 +68,8 @@ def _run(options: argparse.Namespace) -> int:
     if options.make_challenges:
         print(*keks.make_challenges(), sep="\n")
         return DONE
-    keks, store = keks.challenged(options.new_challenge), open_store(options)
+    keks = keks.challenged(options.new_challenge)
+    store = open_store(options)
     record = None
     if options.verify_record is not None:
         record = Record(options.verify_record)
@@ -112,11 +117,11 @@ def _handle_signals(pool: Pool, console: Console) -> None:
 
 def _heading(options: argparse.Namespace, keks: Keks) -> Dict[str, Any]:
     """Returns the first line of a report: where and how the rotation runs, and between which KEKs."""
-    given = {
-        name: value
-        for name, value in vars(options).items()
-        if value not in (None, False, [], "") and name != "files"
-    }
+    unset: Sequence[Any] = (None, False, [], "")
+    given = {}
+    for name, value in vars(options).items():
+        if value not in unset:
+            given[name] = value
     if options.files:
         given["files"] = options.files[:20]
     return {

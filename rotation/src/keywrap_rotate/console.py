@@ -8,8 +8,10 @@ from typing import Any, Set
 from . import signs
 from .found import Found
 
-#: How many refused or lost keys and units are named here, and the seconds between two lines about a pass.
-SHOWN, INTERVAL = 20, 60.0
+#: How many refused or lost keys and units are named here.
+SHOWN = 20
+#: The seconds between two lines about a pass.
+INTERVAL = 60.0
 
 
 def shown(text: str) -> str:
@@ -61,7 +63,8 @@ class Console:
         """Begins a pass over units of this weight."""
         self.end()
         self._pass += 1
-        self._total, self._at_begin = total, signs.read()
+        self._total = total
+        self._at_begin = signs.read()
         self._began = time.monotonic()
         self._percent = 0
         if self._is_terminal:

@@ -107,7 +107,8 @@ class Fields:
 
     def _with(self, record: Record, text: bytes) -> str:
         """Puts the new key in the place of the old one: the place from which the parser reads it."""
-        value, new = _value_at(record.parsed, record.path), text.decode("ascii")
+        value = _value_at(record.parsed, record.path)
+        new = text.decode("ascii")
         old = value.strip()
         wanted = _replaced(record.parsed, record.path, value.replace(old, new, 1))
         at = record.content.find(old)
@@ -224,7 +225,8 @@ class Json(Fields):
         self, path: Path, notation: Notation, kek_path: Optional[Path] = None
     ) -> None:
         super().__init__(notation)
-        self.path, self.kek_path = path, kek_path
+        self.path = path
+        self.kek_path = kek_path
         self.missing = f"no line has the member {'/'.join(map(str, path))!r}"
 
     def records(self, lines: Iterator[str]) -> Iterator[Record]:
@@ -238,7 +240,8 @@ class Json(Fields):
                 why = "not a JSON object, or a member comes twice"
                 yield Record(line, number, True, why)
                 continue
-            value, name = _value_at(members, self.path), None
+            value = _value_at(members, self.path)
+            name = None
             if self.kek_path is not None:
                 name = _value_at(members, self.kek_path)
             text: Text = None if value is None else "not a string"

@@ -41,11 +41,13 @@ def lines(
     notation: Notation, blocks: Iterable[bytes], rings: Rings, found: Found
 ) -> Iterator[Tuple[bytes, bytes]]:
     """One key on each line. Blanks and ends of lines stay."""
-    number, rest = 1, b""
+    number = 1
+    rest = b""
     for block in itertools.chain(blocks, [b""]):
         rest += block
         end = rest.rfind(b"\n") + 1 if block else len(rest)
-        content, rest = rest[:end], rest[end:]
+        content = rest[:end]
+        rest = rest[end:]
         if content:
             yield content, _renewed_lines(notation, content, rings, found, number)
         number += content.count(b"\n")
@@ -77,7 +79,8 @@ def one_key(
     notation: Notation, blocks: Iterable[bytes], rings: Rings, found: Found
 ) -> Iterator[Tuple[bytes, bytes]]:
     """The file is one key, which may span lines."""
-    content, end = b"", b"" if notation.name == "raw" else b"\n"
+    content = b""
+    end = b"" if notation.name == "raw" else b"\n"
     for block in blocks:
         content += block
         if len(content) > 2 * LONGEST:
@@ -93,7 +96,9 @@ class Files:
     noun = "files"
 
     def __init__(self, format: Format, names: Names, quiesced: bool = False) -> None:
-        self.format, self.names, self.quiesced = format, names, quiesced
+        self.format = format
+        self.names = names
+        self.quiesced = quiesced
         self._sightings: Optional[Sightings] = None
 
     def listed(self, may_write: bool) -> ContextManager[Listing]:
@@ -103,7 +108,9 @@ class Files:
         )
 
     def do(self, unit: Unit, rings: Rings, may_write: bool, found: Found) -> None:
-        path, digest, length = os.fsencode(unit.name), hashlib.blake2b(), 0
+        path = os.fsencode(unit.name)
+        digest = hashlib.blake2b()
+        length = 0
         own = Found()
         new: Optional[Successor] = None
         try:
@@ -140,7 +147,8 @@ class Files:
                     raise Changed
         except FileNotFoundError:  # Only absence is excused.
             raise (Changed if os.path.lexists(path) else Gone) from None
-        own.digest, own.identity = digest.hexdigest()[:64], identity(before)
+        own.digest = digest.hexdigest()[:64]
+        own.identity = identity(before)
         found.become(own)
 
 

@@ -5,9 +5,17 @@ import time
 from typing import Callable, Counter, Dict, List, Optional, Tuple
 
 #: The exit statuses.
-DONE, ARGUMENTS, KEKS, REPORT, REFUSED, UNFINISHED, INTERRUPTED = 0, 2, 3, 4, 5, 6, 130
-#: How many refused keys of a unit are named (the others are counted), and how often a unit is read again in one pass.
-NAMED, ATTEMPTS = 50000, 4
+DONE = 0
+ARGUMENTS = 2
+KEKS = 3
+REPORT = 4
+REFUSED = 5
+UNFINISHED = 6
+INTERRUPTED = 130
+#: How many refused keys of a unit are named. The others are counted.
+NAMED = 50000
+#: How often a unit is read in one pass, if others change it.
+ATTEMPTS = 4
 _COUNTED = (
     "keys",
     "new",

@@ -18,8 +18,10 @@ import keywrap
 from .found import EqualKeks, WrongKeks
 
 _PR_SET_DUMPABLE = 4
-#: The most bytes that a KEK file has, and a table of KEKs.
-_KEK_FILE, _TABLE = 4096, 1 << 24
+#: The most bytes that a KEK file has.
+_KEK_FILE = 4096
+#: The most bytes that a table of KEKs has.
+_TABLE = 1 << 24
 #: How long a KEK that is a pipe may take.
 PIPE_SECONDS = 60.0
 #: The content of KEK files that are pipes: read once, before any process is forked.

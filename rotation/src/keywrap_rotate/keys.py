@@ -38,8 +38,10 @@ Text = Union[bytes, str, None]
 Item = TypeVar("Item")
 #: Refuses the key at a place, with the reason.
 Refuse = Callable[[int, str], None]
-#: How many rows, and about how many bytes, are read and written at once.
-ROWS, BYTES = 2000, 1 << 20
+#: How many rows are read and written at once.
+ROWS = 2000
+#: About how many bytes are read and written at once.
+BYTES = 1 << 20
 #: A key, how long it is, the name of its KEK, and what identifies its row. An oversized value is not fetched.
 Row = Tuple[Any, ...]
 #: What each database reads of a key, before its row.
@@ -157,7 +159,8 @@ class Notation(NamedTuple):
             return None
         if {*map(type, texts)} != {bytes} or len({*map(len, texts)}) != 1:
             return None
-        content, keys = b"".join(texts), bytearray()
+        content = b"".join(texts)
+        keys = bytearray()
         if self.name == "raw":
             keys += content
         else:
@@ -172,7 +175,8 @@ class Notation(NamedTuple):
     def write(self, keys: bytes, length: int) -> List[bytes]:
         """Returns the texts of keys of one length."""
         if self.name == "hex" and not self.new_prefix:
-            digits, size = keys.hex().encode("ascii"), 2 * length
+            digits = keys.hex().encode("ascii")
+            size = 2 * length
             return [digits[at : at + size] for at in range(0, len(digits), size)]
         each = (keys[at : at + length] for at in range(0, len(keys), length))
         return [self.new_prefix + _WRITE[self.name](key) for key in each]
@@ -242,7 +246,8 @@ def _batch_of_lines(content: bytes) -> Optional[Batch]:
     size = content.find(b"\n") + 1
     if not size or len(content) % size or size % 2 == 0:
         return None
-    count, length = len(content) // size, size // 2
+    count = len(content) // size
+    length = size // 2
     try:
         keys = bytearray.fromhex(content.decode("ascii"))
     except ValueError:
@@ -311,7 +316,8 @@ def _rewrapped(ring: Ring, batch: Batch, found: Found, refuse: Refuse) -> Sequen
             statuses = _many.check_slots(ring.new, keys, batch.length)[0]
         else:
             statuses = _many.rewrap_slots(old, ring.new, keys, batch.length, _KEEP_FORM)
-        done, rest = left, []
+        done = left
+        rest = []
         if any(statuses):
             done = [slot for slot, status in zip(left, statuses) if not status]
             rest = [slot for slot, status in zip(left, statuses) if status]
@@ -372,7 +378,8 @@ def _check_new(
 def some(items: Iterator[Item], length: Callable[[Item], int]) -> List[Item]:
     """Takes a batch of at most ROWS rows or records, and about BYTES bytes."""
     taken: List[Item] = []
-    size, most = 0, signs.batch_size(ROWS)
+    size = 0
+    most = signs.batch_size(ROWS)
     for item in items:
         taken.append(item)
         size += length(item)

@@ -18,6 +18,7 @@ from typing import (
     NamedTuple,
     Optional,
     Sequence,
+    Set,
     Tuple,
 )
 
@@ -123,7 +124,8 @@ class Listing:
         self._rows = rows
         self._database = (sightings or Sightings()).database
         self._database.execute("DELETE FROM done")
-        self.found, self._at_end = self._list("first"), Found()
+        self.found = self._list("first")
+        self._at_end = Found()
         self.units, self.number, self.weight = self._units("first WHERE size NOTNULL")
 
     def _list(self, table: str) -> Found:
@@ -141,11 +143,10 @@ class Listing:
         each = self._database.execute(
             f"SELECT name, size, identity FROM {rows} ORDER BY name"
         )
-        return (
-            (Unit(os.fsdecode(name), size, identity) for name, size, identity in each),
-            count,
-            weight,
+        units = (
+            Unit(os.fsdecode(name), size, identity) for name, size, identity in each
         )
+        return units, count, weight
 
     def take(self, unit: Unit, found: Found) -> None:
         """Notes what was read, under whatever name, or was there and could not be read."""
@@ -192,7 +193,8 @@ class FileListing(Listing):
     def __init__(
         self, names: Names, may_write: bool, sightings: Optional[Sightings] = None
     ) -> None:
-        self.names, self.may_write = names, may_write
+        self.names = names
+        self.may_write = may_write
         super().__init__(self.all, sightings)
 
     def _list(self, table: str) -> Found:
@@ -238,20 +240,13 @@ class FileListing(Listing):
 
     def all(self, found: Found) -> Iterator[Row]:
         self._left_over: Dict[bytes, List[bytes]] = {}
-        roots = [
-            os.path.realpath(root) if os.path.isdir(root) else root
-            for root in map(_absolute, map(os.fsencode, self.names.names))
-        ]
+        roots = []
+        for name in map(os.fsencode, self.names.names):
+            root = _absolute(name)
+            roots.append(os.path.realpath(root) if os.path.isdir(root) else root)
         directories = {root.rstrip(b"/") for root in roots if os.path.isdir(root)}
         for root in roots:
-            # The outermost directory decides on the shard: so what is named twice is in one.
-            ends = (
-                at for at in range(len(root) + 1) if root[at : at + 1] in (b"/", b"")
-            )
-            outer = next(
-                (at + 1 for at in ends if root[:at] in directories),
-                root.rfind(b"/") + 1,
-            )
+            outer = _length_of_outermost(root, directories)
             if os.path.isdir(root):
                 yield from self._below(root, outer, found)
             elif not self.skips(root) and self.names.has(root[outer:], found):
@@ -324,6 +319,16 @@ class FileListing(Listing):
             1  # A file may have come back to its name, which may be listed already.
         )
         found.named += [(os.fsdecode(path), why) for _, why in done.named]
+
+
+def _length_of_outermost(path: bytes, directories: Set[bytes]) -> int:
+    """Returns the length of the outermost of these directories that has the path, or of the path's own, with the slash
+    behind it. It decides on the shard: so what is named twice is in one."""
+    for end in range(len(path) + 1):
+        is_end = path[end : end + 1] in (b"/", b"")
+        if is_end and path[:end] in directories:
+            return end + 1
+    return path.rfind(b"/") + 1
 
 
 def _absolute(name: bytes) -> bytes:

@@ -24,7 +24,8 @@ class Objects:
     noun = "objects"
 
     def __init__(self, files: Files, get: str, put: str, timeout: float) -> None:
-        self.files, self.timeout = files, timeout
+        self.files = files
+        self.timeout = timeout
         #: What puts without success may have written, by the names of the objects.
         self._tried: Dict[str, Counter[str]] = {}
         try:

@@ -4,7 +4,7 @@ import argparse
 import itertools
 import os
 import sys
-from typing import Any, Optional, Sequence, Tuple
+from typing import Any, Dict, Optional, Sequence, Tuple
 
 import keywrap
 
@@ -208,39 +208,44 @@ def _parser() -> argparse.ArgumentParser:
 
 def _reason(options: argparse.Namespace) -> Optional[str]:
     """Why these options do not go together."""
-    has_tables = options.keks is not None or options.new_keks is not None
-    prefixes = [prefix.encode() for prefix in (*options.prefix, options.new_prefix)]
-    wrong = {
-        "--verify-record goes with --verify": options.verify_record
-        and not options.verify,
-        "--kek-name and --keks, or --new-keks, go together": (
-            options.kek_name is not None
-        )
-        != has_tables,
-        "--keks goes without --kek, and --new-keks without --new-kek": options.keks
-        is not None
-        and options.kek is not None
-        or options.new_keks is not None
-        and options.new_kek is not None,
-        "a JSON pointer begins with /": options.json_pointer is not None
-        and not options.json_pointer.startswith("/"),
-        "--raw does not go with --prefix": options.notation == "raw" and options.prefix,
-        "--prefix and --new-prefix go together": bool(options.prefix)
-        != bool(options.new_prefix),
-        "a prefix has neither blanks at its ends nor control characters": any(
-            not text.isprintable() or text != text.strip()
-            for text in (*options.prefix, options.new_prefix)
-        ),
-        "one prefix begins with another one": any(
-            one.startswith(other)
-            for one in prefixes
-            for other in prefixes
-            if one is not other
-        ),
-    }
-    if why := next((why for why, is_so in wrong.items() if is_so), None):
-        return why
-    return None if options.make_challenges else misfit(options)
+    if options.verify_record and not options.verify:
+        return "--verify-record goes with --verify"
+    why = _reason_of_keks(options) or _reason_of_texts(options)
+    if why is None and not options.make_challenges:
+        why = misfit(options)
+    return why
+
+
+def _reason_of_keks(options: argparse.Namespace) -> Optional[str]:
+    """Why the options of KEKs do not go together."""
+    has_old_table = options.keks is not None
+    has_new_table = options.new_keks is not None
+    has_names = options.kek_name is not None
+    if has_names != (has_old_table or has_new_table):
+        return "--kek-name and --keks, or --new-keks, go together"
+    has_old_both = has_old_table and options.kek is not None
+    has_new_both = has_new_table and options.new_kek is not None
+    if has_old_both or has_new_both:
+        return "--keks goes without --kek, and --new-keks without --new-kek"
+    return None
+
+
+def _reason_of_texts(options: argparse.Namespace) -> Optional[str]:
+    """Why the options that say how keys are written do not go together."""
+    if options.json_pointer is not None and not options.json_pointer.startswith("/"):
+        return "a JSON pointer begins with /"
+    if options.notation == "raw" and options.prefix:
+        return "--raw does not go with --prefix"
+    if bool(options.prefix) != bool(options.new_prefix):
+        return "--prefix and --new-prefix go together"
+    prefixes = [*options.prefix, options.new_prefix]
+    for prefix in prefixes:
+        if not prefix.isprintable() or prefix != prefix.strip():
+            return "a prefix has neither blanks at its ends nor control characters"
+    for one, other in itertools.permutations(prefixes, 2):
+        if one.startswith(other):
+            return "one prefix begins with another one"
+    return None
 
 
 def parse(words: Optional[Sequence[str]]) -> argparse.Namespace:
@@ -258,16 +263,19 @@ def parse(words: Optional[Sequence[str]]) -> argparse.Namespace:
 
 def keks_of(options: argparse.Namespace) -> Keks:
     """Finds the files of the KEKs. To verify, the old ones are not needed."""
-    old = options.kek or [
-        os.environ[name] for name in ("KEYWRAP_KEK",) if name in os.environ
-    ]
+    old = options.kek
+    if not old and "KEYWRAP_KEK" in os.environ:
+        old = [os.environ["KEYWRAP_KEK"]]
     new = options.new_kek or os.environ.get("KEYWRAP_NEW_KEK", "")
-    table = {} if options.keks is None else table_of(options.keks, "--keks")
-    new_table = (
-        {} if options.new_keks is None else table_of(options.new_keks, "--new-keks")
-    )
+    table: Dict[str, str] = {}
+    if options.keks is not None:
+        table = table_of(options.keks, "--keks")
+    new_table: Dict[str, str] = {}
+    if options.new_keks is not None:
+        new_table = table_of(options.new_keks, "--new-keks")
     if options.verify:
-        old, table = [], {}
+        old = []
+        table = {}
     if not (new or new_table) or not (old or table or options.verify):
         raise WrongKeks(
             "give --kek and --new-kek, or set KEYWRAP_KEK and KEYWRAP_NEW_KEK"
@@ -277,15 +285,10 @@ def keks_of(options: argparse.Namespace) -> Keks:
             f"--keks and --new-keks: only one of them has {min(table.keys() ^ new_table.keys())!r}"
         )
     names: Sequence[Any] = sorted(table or new_table) or [None]
-    files = (
-        (name, [table[name]] if name in table else old, new_table.get(name, new))
-        for name in names
-    )
-    path = os.path.abspath
-    return Keks(
-        {
-            name: (tuple(map(path, olds)), path(its_new))
-            for name, olds, its_new in files
-        },
-        options.raw_kek,
-    )
+    files: Dict[Optional[str], Tuple[Tuple[str, ...], str]] = {}
+    for name in names:
+        its_old = [table[name]] if name in table else old or []
+        its_new = new_table.get(name, new)
+        paths = tuple(os.path.abspath(path) for path in its_old)
+        files[name] = (paths, os.path.abspath(its_new))
+    return Keks(files, options.raw_kek)

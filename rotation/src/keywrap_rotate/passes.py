@@ -12,8 +12,12 @@ from .pool import Pool
 from .report import Record, Report
 from .stores import Store
 
-#: How many passes there are at most; how many that write nothing, but do not settle; and how often one lists again.
-PASSES, IDLE, LISTINGS = 10, 3, 8
+#: How many passes there are at most.
+PASSES = 10
+#: How many passes in a row may write nothing and not settle.
+IDLE = 3
+#: How often a pass lists again at its end.
+LISTINGS = 8
 
 
 def do(
@@ -43,16 +47,22 @@ class Passes:
         may_write: bool,
         record: Optional[Record] = None,
     ) -> None:
-        self.store, self.keks, self.pool, self.report = store, keks, pool, report
-        self.may_write, self.record = may_write, record
+        self.store = store
+        self.keks = keks
+        self.pool = pool
+        self.report = report
+        self.may_write = may_write
+        self.record = record
         self.number = self.rewrapped = self.units = 0
-        self.last, self.is_settled = Found(), False
+        self.last = Found()
+        self.is_settled = False
         self.left_out: List[str] = []
         self.warnings: List[str] = []
         self.old: Counter[str] = collections.Counter()
 
     def run(self) -> None:
-        idle, was_still = 0, False
+        idle = 0
+        was_still = False
         while (
             not self.is_settled
             and self.number < PASSES
@@ -79,11 +89,13 @@ class Passes:
         """One pass. Returns whether nothing moved: every key that there was at some moment of it was read."""
         if self.record is not None:
             self.record.begin()
-        self.last, self.units = Found(), 0
+        self.last = Found()
+        self.units = 0
         with self.store.listed(self.may_write) as listed:
             self.report.console.begin(listed.weight)
             self._take("", listed.found)
-            units, number = listed.units, listed.number
+            units = listed.units
+            number = listed.number
             for _ in range(LISTINGS):
                 self._units(listed, units, number)
                 units, number = (iter(()), 0) if self.pool.stopped else listed.rest()

@@ -22,8 +22,12 @@ from . import signs
 from .found import Found, Unanswered, WrongKeks
 from .listing import Unit
 
-#: How often a unit is tried whose process died; how many units a batch has, and batches a thread of Dask, at most.
-TRIES, LARGEST, WINDOW = 3, 16, 3
+#: How often a unit is tried whose process died.
+TRIES = 3
+#: How many units a batch has at most.
+LARGEST = 16
+#: How many batches a thread of Dask has at most.
+WINDOW = 3
 _SIGNALS = (signal.SIGINT, signal.SIGTERM)
 _PR_SET_PDEATHSIG = 1
 
@@ -107,13 +111,14 @@ class Task:
     """A batch of the workers of Dask, which try it again if a worker dies. Here we only ask what became of it."""
 
     def __init__(self, work: Work, client: Any, timeout: float) -> None:
-        self.work, self.client, self.timeout = work, client, timeout
+        self.work = work
+        self.client = client
+        self.timeout = timeout
 
     def begin(self, units: List[Unit]) -> None:
         # Not pure: no pass is answered from a cache.
-        self.units, self.future = units, self.client.submit(
-            _answer, self.work, units, pure=False
-        )
+        self.units = units
+        self.future = self.client.submit(_answer, self.work, units, pure=False)
 
     def answer(self) -> Answer:
         return _answer(lambda units: self.future.result(self.timeout), self.units)  # type: ignore[no-any-return]
@@ -128,7 +133,9 @@ class Pool:
         tick: Callable[[], None],
         rate: Optional[int] = None,
     ) -> None:
-        self.jobs, self.timeout, self.tick = jobs, timeout, tick
+        self.jobs = jobs
+        self.timeout = timeout
+        self.tick = tick
         # The processes of this machine keep the rate by themselves.
         self.rate = rate if dask else None
         self._client: Any = (
@@ -212,13 +219,16 @@ class Pool:
 
     def _ended(self) -> List[Tuple[List[Unit], Answer]]:
         """Waits for some batches. What shows no sign of life is given up."""
-        seen, until = signs.beats(), time.monotonic() + self.timeout
+        seen = signs.beats()
+        until = time.monotonic() + self.timeout
         while not (ready := self._ready()):
             self.tick()
             if signs.beats() != seen:
-                seen, until = signs.beats(), time.monotonic() + self.timeout
+                seen = signs.beats()
+                until = time.monotonic() + self.timeout
             elif time.monotonic() > until:
-                given_up, self._running = self._running, {}
+                given_up = self._running
+                self._running = {}
                 if self._client is not None:
                     raise Unanswered(
                         f"no worker of Dask answered in {self.timeout:g} seconds"

@@ -25,10 +25,14 @@ from .listing import Listing, Names, Row, Unit
 
 psycopg: Any = importlib.import_module("psycopg")
 errors: Any = importlib.import_module("psycopg.errors")
-#: How many blocks a unit has. How many rows are written at once: each stays locked until the others are written.
-BLOCKS, WRITTEN = 64, ROWS // 8
-#: How long the connection that lists waits for the lock of the table, and how long each other statement waits for one.
-LISTING_LOCK, LOCK = "60s", "1s"
+#: How many blocks a unit has.
+BLOCKS = 64
+#: How many rows are written at once: each stays locked until the others are written.
+WRITTEN = ROWS // 8
+#: How long the connection that lists waits for the lock of the table.
+LISTING_LOCK = "60s"
+#: How long each other statement waits for a lock.
+LOCK = "1s"
 #: The pauses before each attempt to write the rows that others updated since the snapshot.
 PAUSES = 0.0, 0.02, 0.1
 #: A server that is gone is noticed within a minute or two.
@@ -73,8 +77,10 @@ SELECT count(*), coalesce(bool_and(is_kept), TRUE),
     ARRAY(SELECT place FROM {fresh} EXCEPT SELECT place FROM {written})
 FROM {written}"""
 )
-#: Which rows of the batch may be written: those that are where they were, or any with an old key of the batch.
-_IN_PLACE, _ANYWHERE = "{name}.ctid = {fresh}.row AND", ""
+#: Writes the rows of the batch that are where they were.
+_IN_PLACE = "{name}.ctid = {fresh}.row AND"
+#: Writes any row that has an old key of the batch.
+_ANYWHERE = ""
 _COUNT_OLD = (
     _FRESH + " SELECT count(*) FROM {table} JOIN {fresh} ON {key} = {fresh}.old"
 )
@@ -141,13 +147,12 @@ class Postgresql:
         digest: Optional[str] = None,
         timeout: float = 600.0,
     ) -> None:
-        self.table, self.column, self.notation, self.kek_name = (
-            table,
-            column,
-            notation,
-            kek_name,
-        )
-        self.digest, self.timeout = digest, timeout
+        self.table = table
+        self.column = column
+        self.notation = notation
+        self.kek_name = kek_name
+        self.digest = digest
+        self.timeout = timeout
         #: The transactions that were open at the first listing of the run, and still are. `None` before.
         self.older: Optional[Set[str]] = None
         *schema, name = map(quoted, table.split("."))
@@ -294,7 +299,8 @@ class _Batches:
     def __init__(
         self, store: Postgresql, connection: Any, kind: str, found: Found
     ) -> None:
-        self.connection, self.found = connection, found
+        self.connection = connection
+        self.found = found
         self._run = functools.partial(store.run, connection, type=kind)
         self.tree = store.names["table"]
         triggers = self._run(_TRIGGERS, self.tree).fetchall()
@@ -372,7 +378,8 @@ class _Listing(Listing):
     """Ranges of blocks in a snapshot, which is a moment."""
 
     def __init__(self, store: Postgresql, connection: Any) -> None:
-        self.store, self.connection = store, connection
+        self.store = store
+        self.connection = connection
         run = functools.partial(store.run, connection)
         connection.execute("BEGIN ISOLATION LEVEL REPEATABLE READ")
         # The snapshot comes with the first query. If that waited for a lock, the snapshot would be older than the

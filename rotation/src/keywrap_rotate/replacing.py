@@ -20,17 +20,22 @@ from typing import Any, Dict, Iterator, Optional, Tuple
 from . import signs
 from .found import Changed, Refused, Unanswered
 
-#: How many seconds a rotation waits for another process that has locked a file; how much is read at once.
-LOCK_SECONDS, BLOCK = 60.0, 1 << 17
-#: How long those who wait for a lock get to write: a process that is seen to wait, and one that may be there.
-AWAITED, UNSEEN = 1.0, 0.0002
+#: How many seconds a rotation waits for another process that has locked a file.
+LOCK_SECONDS = 60.0
+#: How many bytes are read at once.
+BLOCK = 1 << 17
+#: How many seconds a process that is seen to wait for a lock gets to write.
+AWAITED = 1.0
+#: The same for a process that may be there, and is not seen.
+UNSEEN = 0.0002
 _DIGITS = 24
 #: The longest name of a file, so that its temporary name is none too long.
 LONGEST_NAME = 255 - len(f".rotating.{8 * '0'}.{_DIGITS * '0'}.{_DIGITS * '0'}.")
 _NAME = re.compile(
     rb"\.rotating\.[0-9a-f]{8}\.([0-9a-f]{24})\.([0-9a-f]{24})\.(.+)", re.DOTALL
 )
-_AT_FDCWD, _RENAME_EXCHANGE = -100, 2
+_AT_FDCWD = -100
+_RENAME_EXCHANGE = 2
 _libc = ctypes.CDLL(None, use_errno=True)
 
 
@@ -212,10 +217,11 @@ class Successor:
     """A new file that takes the place of another one."""
 
     def __init__(self, path: bytes, before: os.stat_result) -> None:
-        self.path, self.before, self.digest = path, before, hashlib.blake2b()
-        self.directory, self.base = os.path.dirname(path) or b".", os.path.basename(
-            path
-        )
+        self.path = path
+        self.before = before
+        self.digest = hashlib.blake2b()
+        self.directory = os.path.dirname(path) or b"."
+        self.base = os.path.basename(path)
         self.name: Optional[bytes] = self._temporary("0" * _DIGITS, "0" * _DIGITS)
         self.descriptor = os.open(self.name, os.O_CREAT | os.O_EXCL | os.O_RDWR, 0o600)
         fcntl.flock(self.descriptor, fcntl.LOCK_EX)

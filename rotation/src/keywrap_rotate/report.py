@@ -57,7 +57,8 @@ class Record:
                 f"CREATE TABLE {table} (unit PRIMARY KEY, keys, digest) WITHOUT ROWID"
             )
         self._database.execute("BEGIN")
-        number, line = 0, None
+        number = 0
+        line = None
         try:
             with open(name, encoding="utf-8", opener=at_once) as file:
                 if not stat.S_ISREG(os.fstat(file.fileno()).st_mode):
@@ -97,10 +98,8 @@ class Record:
             f"SELECT keys, digest FROM {table} WHERE unit = ?", (name,)
         ).fetchone()
         if old and is_range:
-            keys, digest = (
-                keys + old[0],
-                f"{(int(old[1], 16) + int(digest, 16)) % (1 << 256):064x}",
-            )
+            keys = keys + old[0]
+            digest = f"{(int(old[1], 16) + int(digest, 16)) % (1 << 256):064x}"
         self._database.execute(
             f"INSERT OR REPLACE INTO {table} VALUES (?, ?, ?)", (name, keys, digest)
         )

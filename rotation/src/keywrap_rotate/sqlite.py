@@ -69,7 +69,8 @@ class _Table:
         column: str,
         kek_name: Optional[str],
     ) -> None:
-        self.database, self.title = database, table
+        self.database = database
+        self.title = table
         # SQLite takes an unknown quoted name for a string unless its table qualifies it.
         name = quoted(table)
         self.names = {
@@ -180,7 +181,8 @@ class _Table:
             return False
         if written < len(writes):
             return False
-        first, last = rows[0][3:], rows[-1][3:]
+        first = rows[0][3:]
+        last = rows[-1][3:]
         if self.key_place is not None or None in (*first, *last):
             return all(self._has_new_key(write) for write in writes)
         statement = "SELECT {set}, {row} FROM {table} WHERE ({row}) >= ({places}) AND ({row}) <= ({places})"
@@ -247,13 +249,11 @@ class Sqlite:
         kek_name: Optional[str],
         digest: Optional[str] = None,
     ) -> None:
-        self.table, self.column, self.notation, self.names, self.kek_name = (
-            table,
-            column,
-            notation,
-            names,
-            kek_name,
-        )
+        self.table = table
+        self.column = column
+        self.notation = notation
+        self.names = names
+        self.kek_name = kek_name
         self.digest = digest
         self._sightings: Optional[Sightings] = None
 
@@ -300,7 +300,8 @@ class Sqlite:
         weight: int,
         found: Found,
     ) -> None:
-        read, free = 0, 0.0
+        read = 0
+        free = 0.0
         found.digest = self.digest
         last: Sequence[Any] = ()
         table.begin()
