@@ -16,7 +16,8 @@ pyca = pytest.importorskip(
     reason="no cryptography (apt-get install python3-cryptography)",
 )
 
-KEK, NEW_KEK = bytes(range(16)), bytes(range(100, 132))
+KEK = bytes(range(16))
+NEW_KEK = bytes(range(100, 132))
 # What is left to `make evidence`, which sets KEYWRAP_EVIDENCE=1.
 evidence = pytest.mark.skipif(
     os.environ.get("KEYWRAP_EVIDENCE") != "1", reason="left to KEYWRAP_ALL=1"
@@ -116,7 +117,8 @@ class Done:
 
     def __init__(self, status, said, printed=b""):
         assert secrets_in(said + printed) == []
-        self.status, self.printed = status, printed.decode()
+        self.status = status
+        self.printed = printed.decode()
         self.said = said.decode("utf-8", "backslashreplace").splitlines()
         last = re.findall(
             r"(\d+) (passes|keys|new|old|refused|rewrapped)", (self.said or [""])[-1]

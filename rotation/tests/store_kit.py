@@ -80,7 +80,8 @@ class Files(Bench):
     words = ["store"]
 
     def __init__(self, keys, server):
-        self.keys, self.last = dict(keys), {}
+        self.keys = dict(keys)
+        self.last = {}
         os.makedirs("store")
         for number in range(FILES):
             self.rename(
@@ -137,7 +138,8 @@ class Files(Bench):
 class Objects(Files):
     """Objects with compare-and-swap: a version is the digest of the content."""
 
-    places, move = 16, None
+    places = 16
+    move = None
     words = [
         "--files-from",
         "manifest",
@@ -178,8 +180,10 @@ class Objects(Files):
 class OneKey(Objects):
     """Files of one key."""
 
-    words, places = ["--one-key", "store"], 120
-    move, empty = Files.move, Files.empty
+    words = ["--one-key", "store"]
+    places = 120
+    move = Files.move
+    empty = Files.empty
 
 
 class Table(Bench):
@@ -205,7 +209,8 @@ class Table(Bench):
 
 
 class Sqlite(Table):
-    words, mode = ["--table", "keys", "keys.db"], "DELETE"
+    words = ["--table", "keys", "keys.db"]
+    mode = "DELETE"
 
     def __init__(self, keys, server):
         self.run(f"PRAGMA journal_mode = {self.mode}")
@@ -247,7 +252,8 @@ class Log(Sqlite):
 
 
 class Postgresql(Table):
-    words, needs_server = ["--postgresql", "keys"], True
+    words = ["--postgresql", "keys"]
+    needs_server = True
 
     def __init__(self, keys, server):
         self.server = server
@@ -301,18 +307,15 @@ class Writer(threading.Thread):
 
     def __init__(self, store, source):
         super().__init__()
-        self.store, self.source, self.acknowledged, self.stopped = (
-            store,
-            source,
-            [],
-            threading.Event(),
-        )
+        self.store = store
+        self.source = source
+        self.acknowledged = []
+        self.stopped = threading.Event()
 
     def run(self):
         while not self.stopped.is_set():
-            place, key = self.source.randrange(
-                self.store.places
-            ), self.source.randbytes(24)
+            place = self.source.randrange(self.store.places)
+            key = self.source.randbytes(24)
             with contextlib.suppress(LookupError):
                 self.store.write(place, wrapped_under(NEW_KEK, key))
                 self.acknowledged.append((place, key))
@@ -392,7 +395,8 @@ class StoreTests:
     def test_a_store_at_rest(self, store, keys):
         """Every key is rewrapped once, and the verifying pass needs no old KEK."""
         done = self.rotated()
-        assert (done.status, done.counts["rewrapped"]) == (0, len(keys)), done
+        assert done.status == 0, done
+        assert done.counts["rewrapped"] == len(keys), done
         assert store.held() == under(NEW_KEK, keys)
         os.unlink("kek.hex")
         assert (done := self.rotated("--verify")) == 0, done
@@ -400,7 +404,8 @@ class StoreTests:
 
     def test_a_dry_run_writes_nothing(self, store, keys):
         done = self.rotated("--dry-run")
-        assert (done.status, done.counts["old"]) == (6, len(keys)), done
+        assert done.status == 6, done
+        assert done.counts["old"] == len(keys), done
         assert store.held() == under(KEK, keys)
 
     def test_churn(self, store, keys):
@@ -449,7 +454,8 @@ class StoreTests:
         foreign = wrapped_under(bytes(16), keys[5])
         store.write(5, foreign)
         done = self.rotated()
-        assert (done.status, done.counts["refused"]) == (5, 1), done
+        assert done.status == 5, done
+        assert done.counts["refused"] == 1, done
         assert done.has("under no KEK of this rotation")
         assert store.held() == {**under(NEW_KEK, keys), 5: foreign}
 
@@ -458,7 +464,8 @@ class StoreTests:
         self.needs("keep_history")
         store.keep_history()
         done = self.rotated()
-        assert (done.status, done.has("history")) == (5, True), done
+        assert done.status == 5, done
+        assert done.has("history"), done
         assert store.held() == under(KEK, keys)
 
     def test_a_schema_change(self, store, keys):
@@ -470,7 +477,8 @@ class StoreTests:
         store.change_schema()
         took = time.monotonic() - began
         done = end(running)
-        assert took < 5 and done.status in (0, 6), (took, done)
+        assert took < 5, (took, done)
+        assert done.status in (0, 6), (took, done)
         assert (done := self.ended()) == 0, done
         assert store.held() == under(NEW_KEK, keys)
 
@@ -487,7 +495,8 @@ class StoreTests:
         self.needs("freeze")
         store.freeze(5)
         done = self.rotated()
-        assert (done.status, done.counts["refused"]) == (5, 1), done
+        assert done.status == 5, done
+        assert done.counts["refused"] == 1, done
         assert done.has("it cannot be written")
         assert store.held() == {**under(NEW_KEK, keys), 5: wrapped_under(KEK, keys[5])}
 

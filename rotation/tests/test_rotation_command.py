@@ -76,7 +76,9 @@ class TestStatus:
     @pytest.mark.parametrize("jobs", ["1", "2", "4"])
     def test_rotates_many_files(self, store, jobs):
         done = rotate("--jobs", jobs, "--report", "report", *names(store))
-        assert (done.status, found_in(store), len(done.said)) == (0, ALL_NEW, 1)
+        assert done.status == 0
+        assert found_in(store) == ALL_NEW
+        assert len(done.said) == 1
         assert done.counts == {
             "passes": 2,
             "keys": 240,
@@ -94,22 +96,18 @@ class TestStatus:
                 for line in units
             }
             assert counts == {(30, old, 30 - old, 0)}
-        assert (
-            last["status"],
-            last["passes"],
-            last["rewrapped"],
-            last["keys"],
-            last["new"],
-        ) == (0, 2, 240, 240, 240)
+        assert last["status"] == 0
+        assert last["passes"] == 2
+        assert last["rewrapped"] == 240
+        assert last["keys"] == 240
+        assert last["new"] == 240
         assert os.stat("report").st_mode & 0o777 == 0o600
         before = list(map(seen, sorted(store.iterdir())))
         again = rotate(*names(store))
         assert list(map(seen, sorted(store.iterdir()))) == before
-        assert (again.status, again.counts["passes"], again.counts["rewrapped"]) == (
-            0,
-            1,
-            0,
-        )
+        assert again.status == 0
+        assert again.counts["passes"] == 1
+        assert again.counts["rewrapped"] == 0
         assert again.has(
             "no key was under the KEK: this rotation ran before, or the KEKs are swapped"
         )
@@ -125,13 +123,12 @@ class TestStatus:
     def test_dry_run_and_verify_write_nothing(self, store):
         before = list(map(seen, sorted(store.iterdir())))
         dry = rotate("--dry-run", str(store))
-        assert (dry.status, dry.counts["old"], dry.has("240 keys are under")) == (
-            6,
-            240,
-            True,
-        )
+        assert dry.status == 6
+        assert dry.counts["old"] == 240
+        assert dry.has("240 keys are under")
         verified = rotate("--verify", str(store))
-        assert (verified.status, verified.counts["refused"]) == (5, 240)
+        assert verified.status == 5
+        assert verified.counts["refused"] == 240
         assert list(map(seen, sorted(store.iterdir()))) == before
         assert rotate(str(store)) == 0
         assert rotate("--dry-run", store).counts["new"] == 240
@@ -193,7 +190,8 @@ def test_a_store_that_is_not_there(words):
     write_lines("line", ['{"kye": "00"}'])
     for mode in [], ["--verify"], ["--dry-run"]:
         done = rotate(*mode, *words)
-        assert done == 5 and len(done.said) >= 1
+        assert done == 5
+        assert len(done.said) >= 1
 
 
 def test_an_empty_shard(store):
@@ -315,7 +313,8 @@ class TestArguments:
             timeout=60,
             preexec_fn=lambda: resource.setrlimit(resource.RLIMIT_AS, (limit, limit)),
         )
-        assert (done.status, done.has(line.format(keks))) == (status, True), done
+        assert done.status == status, done
+        assert done.has(line.format(keks)), done
         if status != 5:
             assert found_in(store) == ["old"] * FILES
         assert (keks / "kek.hex").read_bytes() == kek
@@ -327,24 +326,24 @@ class TestArguments:
         os.mkfifo("fifo")
         for what in "/dev/zero", "/dev/full", "fifo":
             done = rotate("--jobs", "1", *words, what, timeout=60)
-            assert (done.status, done.has("regular file")) == (5, True), done
+            assert done.status == 5, done
+            assert done.has("regular file"), done
 
     def test_an_option_that_is_gone_says_what_to_do(self, store):
         shown = rotate("--help").printed
         for name, instead in options.GONE.items():
             for words in ([name, "x"], [f"{name}=x"]):
                 done = rotate(*words, store)
-                assert (
-                    done == 2
-                    and done.said[-1].endswith(f"{name} is gone: {instead}")
-                    and name not in shown
-                )
+                assert done == 2
+                assert done.said[-1].endswith(f"{name} is gone: {instead}")
+                assert name not in shown
         assert found_in(store) == ["old"] * FILES
 
     def test_help_and_version(self, monkeypatch):
         monkeypatch.setenv("COLUMNS", "80")
         lines = rotate("--help").printed.splitlines()
-        assert len(lines) <= 60 and max(map(len, lines)) <= 80
+        assert len(lines) <= 60
+        assert max(map(len, lines)) <= 80
         assert "renamed at the right moment in both last passes" in " ".join(
             " ".join(lines).split()
         )
@@ -358,10 +357,8 @@ class TestArguments:
 class TestOutput:
     def test_a_report_among_the_files(self, store):
         """It is no file of keys, and replaces none."""
-        assert (
-            rotate("--report", store / "0", store).has("--report")
-            and found_in(store) == ["old"] * FILES
-        )
+        assert rotate("--report", store / "0", store).has("--report")
+        assert found_in(store) == ["old"] * FILES
         assert (
             (done := rotate("--report", store / "report", store)).status,
             found_in(store),
@@ -380,10 +377,8 @@ class TestOutput:
                     resource.RLIMIT_FSIZE, (8192, 8192)
                 ),
             )
-            assert (done.status, done.said[-1]) == (
-                4,
-                "keywrap-rotate: the report: File too large",
-            )
+            assert done.status == 4
+            assert done.said[-1] == "keywrap-rotate: the report: File too large"
             assert left_over(store) == []
             assert rotate(store) == 0
 
@@ -394,10 +389,8 @@ class TestOutput:
         (store / name).write_bytes(b"")
         done = rotate("--report", "report", str(store))
         escaped = name.encode("unicode_escape").decode()
-        assert (done.status, done.said[0]) == (
-            5,
-            f"keywrap-rotate: {store}/{escaped}: no key",
-        )
+        assert done.status == 5
+        assert done.said[0] == f"keywrap-rotate: {store}/{escaped}: no key"
 
 
 def of_kind(path, kind, kek, keys=KEYS[0], encode=bytes.hex):
@@ -445,7 +438,8 @@ class TestRecord:
     @pytest.mark.parametrize("kind", OPTIONS)
     @pytest.mark.parametrize("notation", ENCODINGS)
     def test_each_notation_of_each_store(self, tmp_path, kind, notation):
-        one, other = tmp_path / "one", tmp_path / "other"
+        one = tmp_path / "one"
+        other = tmp_path / "other"
         of_kind(one, kind, KEK, encode=ENCODINGS[notation])
         of_kind(other, kind, NEW_KEK, encode=ENCODINGS[notation])
         words = [*OPTIONS[kind], *([] if notation == "hex" else [f"--{notation}"])]
@@ -463,16 +457,19 @@ class TestRecord:
         for name in ("record", "again"):
             assert rotate("--record", name, *words) == 0
         first, again = map(report_of, ("record", "again"))
-        assert (first[-1]["status"], first[0]["digest"]) == (0, again[0]["digest"])
+        assert first[-1]["status"] == 0
+        assert first[0]["digest"] == again[0]["digest"]
         assert [line["keys"] for line in first[:-1]] == [1 if kind == "one-key" else 30]
-        assert os.stat("record").st_mode & 0o777 == 0o600 and len(os.listdir()) == 5
+        assert os.stat("record").st_mode & 0o777 == 0o600
+        assert len(os.listdir()) == 5
         assert rotate("--verify-record", "record", *words) == 0
         keys = KEYS[0]
         changes = [[*keys[:-1], b"another" * 3], keys[:-1], [*keys, b"another" * 3]]
         for change in changes if kind != "one-key" else [keys[1:]]:
             of_kind(path, kind, NEW_KEK, change)
             done = rotate("--verify-record", "record", *words)
-            assert done == 5 and done.said[0].startswith(
+            assert done == 5
+            assert done.said[0].startswith(
                 f"keywrap-rotate: {path}: missing or changed since"
             )
 
@@ -485,18 +482,16 @@ class TestRecord:
         (store / "7").unlink()  # The last one of the record, and nothing after it.
         (store / "9").rename(store / "4a")
         done = rotate("--verify", "--verify-record", "record", str(store))
-        assert (done.status, sorted(done.said[:-1])) == (
-            5,
-            sorted(
-                f"keywrap-rotate: {store}/{what} since the record: 30 keys"
-                for what in (
-                    "1: missing or changed",
-                    "1: added or changed",
-                    "3: missing or changed",
-                    "4a: added or changed",
-                    "7: missing or changed",
-                )
-            ),
+        assert done.status == 5
+        assert sorted(done.said[:-1]) == sorted(
+            f"keywrap-rotate: {store}/{what} since the record: 30 keys"
+            for what in (
+                "1: missing or changed",
+                "1: added or changed",
+                "3: missing or changed",
+                "4a: added or changed",
+                "7: missing or changed",
+            )
         )
 
     @pytest.mark.parametrize(
@@ -553,10 +548,8 @@ class TestRecord:
             running.send_signal(signal.SIGINT)
             assert ended(running) == 130
         done = rotate("--verify", "--verify-record", "record", str(store))
-        assert (done.status, done.has("it is not a whole report of status 0")) == (
-            2,
-            True,
-        )
+        assert done.status == 2
+        assert done.has("it is not a whole report of status 0")
         last = open("record").read().splitlines()[-1]
         assert json.loads(last)["status"] == status
 
@@ -570,11 +563,9 @@ class TestNames:
             done.counts["keys"],
         ) == (0, 30)
         done = rotate(str(store), "1", ".", "../link")
-        assert (done.status, done.counts["keys"], done.counts["rewrapped"]) == (
-            0,
-            240,
-            210,
-        )
+        assert done.status == 0
+        assert done.counts["keys"] == 240
+        assert done.counts["rewrapped"] == 210
 
     def test_a_directory_means_all_files_below(self, store):
         (store / "below" / "further").mkdir(parents=True)
@@ -641,7 +632,8 @@ def test_progress_on_a_terminal(store):
             shown += os.read(ours, 1000)
     except OSError:
         os.close(ours)
-    assert done.returncode == 0 and re.search(r"\b\d+ %", shown.decode())
+    assert done.returncode == 0
+    assert re.search(r"\b\d+ %", shown.decode())
     assert (
         "240 rewrapped" in shown.decode().rstrip().replace("\r", "\n").splitlines()[-1]
     )
@@ -717,7 +709,8 @@ class TestProcesses:
         wait_for(lambda: not any(map(is_alive, workers)))
         assert "neither" not in found_in(store)
         assert rotate(store) == 0
-        assert (found_in(store), left_over(store)) == (ALL_NEW, [])
+        assert found_in(store) == ALL_NEW
+        assert left_over(store) == []
 
     def test_a_process_ends_with_a_run_that_is_killed_before_it_serves(self, store):
         running = start(
@@ -748,13 +741,16 @@ pool._serve = lambda *words, real=pool._serve: time.sleep(1) or real(*words)"""
             "keywrap-rotate: interrupted: run it again",
         )
         found = found_in(store)
-        assert "neither" not in found and "old" in found and found.count("new") >= 2
+        assert "neither" not in found
+        assert "old" in found
+        assert found.count("new") >= 2
         *units, last = report_of("report")
-        assert (last["status"], {line["unit"] for line in units}) == (
-            130,
-            {name for name, is_new in zip(names(store), found) if is_new == "new"},
-        )
-        assert left_over(store) == [] and rotate(store) == 0
+        assert last["status"] == 130
+        assert {line["unit"] for line in units} == {
+            name for name, is_new in zip(names(store), found) if is_new == "new"
+        }
+        assert left_over(store) == []
+        assert rotate(store) == 0
 
     def test_a_second_interrupt_ends_at_once(self, store):
         running = started(store)
@@ -766,7 +762,8 @@ pool._serve = lambda *words, real=pool._serve: time.sleep(1) or real(*words)"""
             ["keywrap-rotate: interrupted: run it again"],
         )
         assert found_in(store) == ["old"] * FILES
-        assert rotate(store) == 0 and left_over(store) == []
+        assert rotate(store) == 0
+        assert left_over(store) == []
 
     @pytest.mark.parametrize(
         "what, why",
@@ -781,12 +778,10 @@ pool._serve = lambda *words, real=pool._serve: time.sleep(1) or real(*words)"""
         """Not even those of its batch. One that hangs once is done again."""
         fill(store, [*KEYS, *[KEYS[0][:1]] * 92])
         done = with_files(f'name == "5" and ({what})', "--timeout", "1", store)
-        assert done == (6 if why else 0) and done.has(
-            f"keywrap-rotate: {store}/5: {why}"
-        ) == (why != "")
-        assert found_in(store).count("new") == (7 if why else 8) and done.counts[
-            "new"
-        ] == (302 if why else 332)
+        assert done == (6 if why else 0)
+        assert done.has(f"keywrap-rotate: {store}/5: {why}") == (why != "")
+        assert found_in(store).count("new") == (7 if why else 8)
+        assert done.counts["new"] == (302 if why else 332)
 
     @pytest.mark.parametrize(
         "slowly",
@@ -809,7 +804,8 @@ pool._serve = lambda *words, real=pool._serve: time.sleep(1) or real(*words)"""
             program=patched(slowly),
             env={**os.environ, "SLOW": "0.001"},
         )
-        assert (done.status, done.counts["rewrapped"]) == (0, 3000)
+        assert done.status == 0
+        assert done.counts["rewrapped"] == 3000
 
     def test_keks_that_change_meanwhile(self, store):
         """The units at work have the KEKs of the begin; no other unit is done."""
@@ -818,8 +814,10 @@ pool._serve = lambda *words, real=pool._serve: time.sleep(1) or real(*words)"""
         os.rename("other", "new-kek.hex")
         done = ended(running)
         said = "keywrap-rotate: the KEKs of this machine are not those that the rotation began with"
-        assert (done.status, done.said) == (3, [said])
-        assert "neither" not in found_in(store) and "old" in found_in(store)
+        assert done.status == 3
+        assert done.said == [said]
+        assert "neither" not in found_in(store)
+        assert "old" in found_in(store)
 
     def test_memory_does_not_grow_with_the_number_of_files(self, tmp_path):
         """The parent lists names in a temporary file, and hands out a bounded window of units."""

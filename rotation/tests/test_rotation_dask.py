@@ -41,7 +41,8 @@ class Cluster:
     """The processes of a scheduler and its workers, and their logs."""
 
     def __init__(self, directory):
-        self.directory, self.processes = directory, []
+        self.directory = directory
+        self.processes = []
         (directory / "slow.py").write_text(SLOW)
         file = directory / "scheduler"
         self.start(
@@ -105,7 +106,8 @@ class Cluster:
             process.kill()
             process.wait()
         logs = b"".join(path.read_bytes() for path in self.directory.glob("log.*"))
-        assert logs and secrets_in(logs) == []
+        assert logs
+        assert secrets_in(logs) == []
 
 
 @pytest.fixture
@@ -129,11 +131,9 @@ class TestDask:
         cluster.add_worker()
         cluster.add_worker()
         done = rotate("--dask", cluster.address, "--report", "report", store)
-        assert (done.status, done.counts["rewrapped"], {*state(store, KEYS)}) == (
-            0,
-            20 * 40,
-            {"new"},
-        ), done
+        assert done.status == 0, done
+        assert done.counts["rewrapped"] == 20 * 40, done
+        assert {*state(store, KEYS)} == {"new"}, done
         assert secrets_in(pathlib.Path("report").read_bytes()) == []
         assert rotate("--verify", "--dask", cluster.address, store) == 0
         (store / "7").write_bytes(lines_under(KEK, KEYS[7]))
@@ -150,7 +150,8 @@ class TestDask:
         done = end(running)
         assert done.status in (0, 6), done
         assert rotate("--dask", cluster.address, store) == 0
-        assert ({*state(store, KEYS)}, left_over(store)) == ({"new"}, [])
+        assert {*state(store, KEYS)} == {"new"}
+        assert left_over(store) == []
 
     def test_a_worker_with_other_keks(self, cluster, store, tmp_path):
         """The KEK files are read on the machine of the worker. Here another file system hides them."""
@@ -164,10 +165,8 @@ os.execvp('unshare', ['unshare', '-m', 'sh', '-c', {hidden!r}, 'sh', sys.executa
         )
         cluster.add_worker("run")
         done = rotate("--dask", cluster.address, store)
-        assert (done.status, done.has("not those that the rotation began with")) == (
-            3,
-            True,
-        ), done
+        assert done.status == 3, done
+        assert done.has("not those that the rotation began with"), done
         assert {*state(store, KEYS)} == {"old"}
 
     def test_no_scheduler(self, store):

@@ -99,10 +99,12 @@ def store(tmp_path):
 def kinds(store):
     """How many files are old, new, or have their first or second content."""
     of_theirs = {THEIRS[0]: "1", THEIRS[1]: "2"}
-    return collections.Counter(
-        found if found != "neither" else of_theirs[(store / str(number)).read_bytes()]
-        for number, found in enumerate(state(store, KEYS))
-    )
+    counts = collections.Counter()
+    for number, found in enumerate(state(store, KEYS)):
+        if found == "neither":
+            found = of_theirs[(store / str(number)).read_bytes()]
+        counts[found] += 1
+    return counts
 
 
 def broken(store, what, number, **more):
@@ -110,7 +112,8 @@ def broken(store, what, number, **more):
     fill(store, KEYS)
     if os.path.exists("once"):
         os.unlink("once")
-    files, more = store.iterdir() if "names" in what else [store], {
+    files = store.iterdir() if "names" in what else [store]
+    more = {
         "WHAT": what,
         "NUMBER": str(number),
         **more,
@@ -146,26 +149,24 @@ def test_faults_of_input_and_output(store, what, numbers):
         done = broken(store, what, number)
         found = kinds(store)
         if done == 0:
-            assert (set(found), left_over(store)) == ({"new"}, []), (what, number)
+            assert set(found) == {"new"}, (what, number)
+            assert left_over(store) == [], (what, number)
         assert set(found) <= {"old", "new"}
         if number == -1 and what in ("fail exchange", "fail none"):
-            assert done.status in (5, 6) and set(found) == {"old"}
+            assert done.status in (5, 6)
+            assert set(found) == {"old"}
         if (
             number == -1 and "dirsync" in what
         ):  # Files that are new, also before, and may be old again after a crash.
             for done in done, rotate(
                 store, program=BROKEN, env={**os.environ, "WHAT": what, "NUMBER": "-1"}
             ):
-                assert (
-                    done == 6
-                    and done.has(": it was not synced: Input/output error")
-                    and set(found) == {"new"}
-                )
+                assert done == 6
+                assert done.has(": it was not synced: Input/output error")
+                assert set(found) == {"new"}
         assert rotate(store) == 0
-        assert (set(kinds(store)), sorted(os.listdir(store))) == (
-            {"new"},
-            list(map(str, range(FILES))),
-        )
+        assert set(kinds(store)) == {"new"}
+        assert sorted(os.listdir(store)) == list(map(str, range(FILES)))
 
 
 KILLS = [
@@ -191,22 +192,20 @@ def test_kills_at_each_point_of_an_exchange(store, what, each, numbers):
         done = broken(store, what, number, **({"EACH": "1"} if each else {}))
         assert done.status in (0, 5, 6, -9)
         if done == 0:
-            assert left_over(store) == [] and "old" not in kinds(store)
+            assert left_over(store) == []
+            assert "old" not in kinds(store)
         last = rotate(store)
         found = kinds(store)
-        assert "old" not in found and (
-            last.status,
-            found["new"] == FILES or found["1"] + found["2"] > 0,
-        ) in ((0, True), (5, True)), (what, number, last)
+        assert "old" not in found, (what, number, last)
+        assert last.status in (0, 5), (what, number, last)
+        assert found["new"] == FILES or found["1"] + found["2"] > 0, (what, number)
         assert (last == 5) == bool(left_over(store))
-        if (
-            last == 5
-        ):  # Others wrote the file twice around one exchange: what came out is there, and named.
+        if last == 5:
+            # Others wrote the file twice around one exchange: what came out is there, and named.
             assert what == "kill twice" or each and what == "kill written"
             assert last.has("compare it with the file")
-            assert all(
-                (store / name).read_bytes() in THEIRS for name in left_over(store)
-            )
+            for name in left_over(store):
+                assert (store / name).read_bytes() in THEIRS
 
 
 MOVER = """
@@ -243,25 +242,22 @@ def test_beside_programs_that_rename(store, how, rate, runs):
     for _ in range(runs):
         shutil.rmtree(store, ignore_errors=True)
         for number, key in enumerate(keys):
-            (store / str(number % 10)).mkdir(parents=True, exist_ok=True)
-            (store / str(number % 10) / f"f{number}").write_bytes(
-                lines_under(KEK, [key])
-            )
+            directory = store / str(number % 10)
+            directory.mkdir(parents=True, exist_ok=True)
+            (directory / f"f{number}").write_bytes(lines_under(KEK, [key]))
         mover = subprocess.Popen([sys.executable, "-B", "-c", MOVER, how, str(rate)])
         began = time.monotonic()
         try:
-            done = rotate(
-                "--jobs", "1", store, timeout=1000
-            )  # On a busy machine each pass takes long.
+            # On a busy machine each pass takes long.
+            done = rotate("--jobs", "1", store, timeout=1000)
         finally:
             mover.kill()
             mover.wait()
         found = {path.read_bytes() for path in store.glob("*/f*")}
-        assert len(found) == len(keys) and done.status in (0, 6), done
+        assert len(found) == len(keys), done
+        assert done.status in (0, 6), done
         is_slow = time.monotonic() - began > 10 and os.getloadavg()[0] < os.cpu_count()
         assert rate > 50 or done == 0 and not is_slow, done
         assert found == expected or done == 6
-        assert (
-            rotate(store) == 0
-            and {path.read_bytes() for path in store.glob("*/f*")} == expected
-        )
+        assert rotate(store) == 0
+        assert {path.read_bytes() for path in store.glob("*/f*")} == expected

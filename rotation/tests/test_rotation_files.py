@@ -31,7 +31,9 @@ from keywrap_rotate.files import Files, lines, one_key
 from keywrap_rotate.keys import BLANKS, Notation, renewed
 from keywrap_rotate.listing import FileListing, Names, Sightings, Unit
 
-HEX, BASE64, RAW = Notation(), Notation("base64"), Notation("raw")
+HEX = Notation()
+BASE64 = Notation("base64")
+RAW = Notation("raw")
 
 
 def Lines(notation):
@@ -52,7 +54,8 @@ def Json(name, notation=HEX):
 
 KEYS = make_keys(12)
 EQUAL = [key[:16] + key[:16] for key in KEYS]
-OLD, NEW = lines_under(KEK, KEYS), lines_under(NEW_KEK, KEYS)
+OLD = lines_under(KEK, KEYS)
+NEW = lines_under(NEW_KEK, KEYS)
 FOREIGN = wrapped_under(bytes(32), KEYS[1]).hex().encode() + b"\n"
 
 
@@ -65,10 +68,8 @@ def file(tmp_path):
 
 def rotated(path, format=None, may_write=True, verify=False):
     """What is found in one unit. No temporary file is left."""
-    store, rings = (
-        Files(format or Lines(HEX), Names([str(path)])),
-        rotate.challenges().rings(),
-    )
+    store = Files(format or Lines(HEX), Names([str(path)]))
+    rings = rotate.challenges().rings()
     if verify:
         rings = {None: rings[None]._replace(old=())}
     answer = found.found_by(
@@ -82,18 +83,17 @@ def refusal(path, format=None):
     """The reason for which a file is as it was, with its inode and times."""
     before = seen(path)
     answer = rotated(path, format)
-    assert (seen(path), answer.refused + answer.lost, answer.digest) == (
-        before,
-        1,
-        None,
-    )
+    assert seen(path) == before
+    assert answer.refused + answer.lost == 1
+    assert answer.digest is None
     return answer.named[0][1]
 
 
 def refused(path, format=None):
     """The places of refused keys, and why."""
     answer = rotated(path, format)
-    assert (answer.digest is not None, answer.refused) == (True, len(answer.named))
+    assert answer.digest is not None
+    assert answer.refused == len(answer.named)
     return [": ".join(named) for named in answer.named]
 
 
@@ -211,96 +211,83 @@ class TestLeftOut:
         assert listing.left_out() == []
 
 
+def something_else(source, line, wrap, length):
+    """Returns what may be in the place of a line: a key in another form or under another KEK, or no key at all."""
+    new = wrap(NEW_KEK, source.randbytes(length)).hex()
+    new_upper = wrap(NEW_KEK, bytes(length)).hex().upper()
+    foreign = wrap(bytes(16), bytes(length)).hex()
+    at = source.randrange(len(line) - 1)
+    other_digit = b"%x" % (int(line[at : at + 1], 16) ^ 1)
+    choices = [
+        new.encode() + b"\n",
+        new_upper.encode() + b"\n",
+        foreign.encode(),
+        line.upper(),
+        b" " + line,
+        b"\n",
+        b" \n",
+        line[:-1] + b" \n",
+        line[2:],
+        line[1:],
+        line[:-1] + b"\r\n",
+        line + line[:2] + b"\n",
+        line[:-1],
+    ]
+    for other in b"\n", b" ", b"g", b"\xff", other_digit:
+        choices.append(line[:at] + other + line[at + 1 :])
+    return source.choice(choices)
+
+
+def move_an_end(source, lines):
+    """Two lines stay as long together as they were, with LF in other places."""
+    at = source.randrange(1, len(lines) - 1)
+    one, other = lines[at : at + 2]
+    exchanged = [other[:2] + one, other[2:]]
+    joined = [one[:-1] + b" " + other]
+    lines[at : at + 2] = source.choice([exchanged, joined])
+
+
 class TestKeys:
     @pytest.mark.parametrize("seed", range(150))
     def test_lines_with_something_else_among_them(self, file, monkeypatch, seed):
         """Lines of one length are taken at once. Each line gets its own result."""
         source = random.Random(seed)
         monkeypatch.setattr(replacing, "BLOCK", source.choice([82, 200, 1000, 1 << 18]))
-        wrap, length = source.choice(
-            [pyca.aes_key_wrap, pyca.aes_key_wrap_with_padding]
-        ), source.choice([16, 24, 32])
-        each = [
-            wrap(KEK, source.randbytes(length)).hex().encode() + b"\n"
-            for _ in range(source.randrange(1, 12))
-        ]
-        for at in source.sample(
-            range(len(each)), min(len(each), source.choice([0, 1, 1, 2, 4]))
-        ):
-            line = each[at]
-            digit = source.randrange(len(line) - 1)
-            each[at] = source.choice(
-                [
-                    wrap(NEW_KEK, source.randbytes(length)).hex().encode() + b"\n",
-                    line.upper(),
-                    b" " + line,
-                    b"\n",
-                    b" \n",
-                    wrap(NEW_KEK, bytes(length)).hex().upper().encode() + b"\n",
-                    line[:-1] + b" \n",
-                    line[2:],
-                    line[1:],
-                    wrap(bytes(16), bytes(length)).hex().encode(),
-                    line[:-1] + b"\r\n",
-                    line + line[:2] + b"\n",
-                    line[:-1],
-                    *(
-                        line[:digit] + other + line[digit + 1 :]
-                        for other in (
-                            b"\n",
-                            b" ",
-                            b"g",
-                            b"\xff",
-                            b"%x" % (int(line[digit : digit + 1], 16) ^ 1),
-                        )
-                    ),
-                ]
-            )
-        if (
-            len(each) > 2 and source.randrange(3) == 0
-        ):  # As long together as they were, with LF in other places.
-            at = source.randrange(1, len(each) - 1)
-            one, other = each[at : at + 2]
-            each[at : at + 2] = source.choice(
-                [(other[:2] + one, other[2:]), (one[:-1] + b" " + other,)]
-            )
+        wrap = source.choice([pyca.aes_key_wrap, pyca.aes_key_wrap_with_padding])
+        length = source.choice([16, 24, 32])
+        each = []
+        for _ in range(source.randrange(1, 12)):
+            wrapped = wrap(KEK, source.randbytes(length))
+            each.append(wrapped.hex().encode() + b"\n")
+        count = min(len(each), source.choice([0, 1, 1, 2, 4]))
+        for at in source.sample(range(len(each)), count):
+            each[at] = something_else(source, each[at], wrap, length)
+        if len(each) > 2 and source.randrange(3) == 0:
+            move_an_end(source, each)
         content = b"".join(each)
         file.write_bytes(content)
         expected = [rotated_line(line) for line in io.BytesIO(content)]
         answer = rotated(file)
         assert file.read_bytes() == b"".join(line for line, _, _ in expected)
-        refused = {
-            f"line {at}"
-            for at, (_, is_refused, _) in enumerate(expected, 1)
-            if is_refused
-        }
-        assert ({place for place, _ in answer.named}, answer.refused) == (
-            refused,
-            len(refused),
-        )
-        assert (answer.keys, answer.new) == (
-            len(expected),
-            sum(is_new for _, _, is_new in expected),
-        )
-        texts, also = [
-            line.strip(BLANKS) for line in io.BytesIO(content)
-        ], found.Found()
-        assert renewed(rotate.challenges().rings(), HEX, texts, also, str) == {
-            at: line.strip(BLANKS)
-            for at, (line, is_refused, is_new) in enumerate(expected)
-            if not (is_refused or is_new)
-        }
-        assert (also.counts(), len(also.named)) == (answer.counts(), len(refused))
-        assert (
-            renewed(
-                rotate.challenges().rings(),
-                HEX,
-                [lines_under(KEK, EQUAL[:2]).strip()],
-                also,
-                str,
-            )
-            == {}
-        )
+        refused = set()
+        changed = {}
+        for at, (line, is_refused, is_new) in enumerate(expected):
+            if is_refused:
+                refused.add(f"line {at + 1}")
+            elif not is_new:
+                changed[at] = line.strip(BLANKS)
+        assert {place for place, _ in answer.named} == refused
+        assert answer.refused == len(refused)
+        assert answer.keys == len(expected)
+        assert answer.new == sum(is_new for _, _, is_new in expected)
+        texts = [line.strip(BLANKS) for line in io.BytesIO(content)]
+        also = found.Found()
+        rings = rotate.challenges().rings()
+        assert renewed(rings, HEX, texts, also, str) == changed
+        assert also.counts() == answer.counts()
+        assert len(also.named) == len(refused)
+        two_lines = lines_under(KEK, EQUAL[:2]).strip()
+        assert renewed(rings, HEX, [two_lines], also, str) == {}
 
     @pytest.mark.parametrize(
         "format", [Lines(HEX), OneKey(HEX), OneKey(RAW), Csv("key"), Json("key")]
@@ -309,7 +296,8 @@ class TestKeys:
         with open(file, "wb") as sparse:
             sparse.truncate(1 << 40)
         answer = rotated(file, format)
-        assert (answer.refused, answer.keys) == (1, 0)
+        assert answer.refused == 1
+        assert answer.keys == 0
         assert "longer than any" in answer.named[0][1]
 
     @pytest.mark.parametrize("wrong", [0, 11])
@@ -434,11 +422,9 @@ class TestRecords:
         file.write_bytes(content(KEK))
         for _ in range(2):
             answer = rotated(file, format)
-            assert (file.read_bytes(), answer.keys, answer.refused) == (
-                content(NEW_KEK),
-                12,
-                0,
-            )
+            assert file.read_bytes() == content(NEW_KEK)
+            assert answer.keys == 12
+            assert answer.refused == 0
 
     def test_a_key_that_is_twice_in_its_record_changes_in_its_column(self, file):
         old, new = (wrapped_under(kek, KEYS[0]).hex() for kek in (KEK, NEW_KEK))
@@ -481,10 +467,8 @@ class TestRecords:
             '{"key": "00"}',
         ]
         file.write_text("\n".join([*wrong, f'{{"key": "{good}"}}', "[" * 100000]))
-        no_string, no_json = (
-            "not a string",
-            "not a JSON object, or a member comes twice",
-        )
+        no_string = "not a string"
+        no_json = "not a JSON object, or a member comes twice"
         assert sorted(refused(file, Json("key"))) == [
             f"line 1: {no_string}",
             f"line 2: {no_string}",
@@ -534,10 +518,8 @@ class TestAccess:
         for length, refused in ((186, 0), (187, 1)):
             path = tmp_path / ("n" * length)
             path.write_bytes(OLD)
-            assert (rotated(path).refused, path.read_bytes()) == (
-                refused,
-                OLD if refused else NEW,
-            )
+            assert rotated(path).refused == refused
+            assert path.read_bytes() == (OLD if refused else NEW)
         assert "its name is longer than 186 bytes" in refusal(path)
         assert "its name is longer" in rotated(path, may_write=False).named[0][1]
         path.write_bytes(NEW)
@@ -617,7 +599,8 @@ class TestChanges:
     def test_begins_again_after_a_change_of_the_mode(self, file, meanwhile):
         meanwhile(lambda: file.chmod(0o640))
         rotated(file)
-        assert (file.read_bytes(), stat.S_IMODE(file.stat().st_mode)) == (NEW, 0o640)
+        assert file.read_bytes() == NEW
+        assert stat.S_IMODE(file.stat().st_mode) == 0o640
 
     @pytest.mark.parametrize("at", [1, 2, 12])
     @pytest.mark.parametrize("change, keys", CHANGES)
@@ -636,9 +619,8 @@ class TestChanges:
             lambda: file.unlink() if content is None else file.write_bytes(content)
         )
         answer = rotated(file, OneKey(RAW))
-        assert answer.moved == (content is None) != bool(
-            answer.digest
-        ) and answer.refused == (content == b"")
+        assert answer.moved == (content is None) != bool(answer.digest)
+        assert answer.refused == (content == b"")
         assert (file.read_bytes() if file.exists() else None) == (
             wrapped_under(NEW_KEK, ADDED) if content else content
         )

@@ -68,18 +68,14 @@ class TestKeks:
         (keks / "kek").write_bytes(content)
         write_lines("store", hexes(KEK))
         done = rotated("--kek", "kek", "store")
-        assert (
-            done.status,
-            done.said[0].startswith(f"keywrap-rotate: the KEK: {keks}/kek: {why}"),
-        ) == (3, True)
+        assert done.status == 3
+        assert done.said[0].startswith(f"keywrap-rotate: the KEK: {keks}/kek: {why}")
         assert not content or content.decode("latin1") not in done.said[0]
 
     def test_a_kek_in_the_place_of_its_file_is_not_shown(self):
         done = rotated("--kek", KEK.hex(), "store")
-        assert (done.status, done.said) == (
-            3,
-            ["keywrap-rotate: the KEK: it: No such file or directory"],
-        )
+        assert done.status == 3
+        assert done.said == ["keywrap-rotate: the KEK: it: No such file or directory"]
 
     def test_raw_keks(self, keks):
         """And a KEK of digits may have blanks and line ends."""
@@ -95,7 +91,8 @@ class TestKeks:
         assert rotated("--raw-kek", "--kek", "kek", "--new-kek", "new", "store") == 0
         assert read("store") == hexes(NEW_KEK)
         write_lines("store", hexes(KEK))
-        assert rotated("store") == 0 and read("store") == hexes(NEW_KEK)
+        assert rotated("store") == 0
+        assert read("store") == hexes(NEW_KEK)
 
     def test_keks_of_pipes(self):
         """They are read once, and the processes of each pass have them."""
@@ -112,19 +109,18 @@ class TestKeks:
     def test_swapped_keks_are_refused_by_a_challenge(self, keks):
         """Without one a second rotation with swapped KEKs undoes the first one, and cannot know it."""
         done = rotated("--make-challenges")
-        assert (done.status, done.printed.split()) == (
-            0,
-            [f"{keks}/kek.challenge", f"{keks}/new-kek.challenge"],
-        )
+        assert done.status == 0
+        assert done.printed.split() == [
+            f"{keks}/kek.challenge",
+            f"{keks}/new-kek.challenge",
+        ]
         for kek, name in (KEK, "kek.challenge"), (NEW_KEK, "new-kek.challenge"):
             assert len(pyca.aes_key_unwrap(kek, bytes.fromhex(read(name)[0]))) == 32
         made = read("kek.challenge")
         os.unlink("new-kek.challenge")
-        assert (
-            rotated("--make-challenges") == 0
-            and read("kek.challenge") == made
-            and os.path.exists("new-kek.challenge")
-        )
+        assert rotated("--make-challenges") == 0
+        assert read("kek.challenge") == made
+        assert os.path.exists("new-kek.challenge")
         write_lines("store", hexes(KEK))
         assert rotated("--new-challenge", "new-kek.challenge", "store") == 0
         swapped = [
@@ -182,30 +178,27 @@ SEVERAL = ["--kek", "kek.hex", "--kek", "0.hex", "--kek", "1.hex"]
 
 
 def test_a_key_under_any_of_several_keks(keks):
-    mixed = [
-        wrapped_under([KEK, *OTHERS[:2], NEW_KEK][at % 4], key).hex()
-        for at, key in enumerate(KEYS)
-    ]
-    write_lines("store", [*mixed, hexes(OTHERS[2])[0]])
+    mixed = []
+    for at, key in enumerate(KEYS):
+        kek = [KEK, *OTHERS[:2], NEW_KEK][at % 4]
+        mixed.append(wrapped_under(kek, key).hex())
+    foreign = hexes(OTHERS[2])[0]
+    write_lines("store", [*mixed, foreign])
     dry = rotated("--dry-run", *SEVERAL, "store")
     labels = sorted(f"{keks}/{name}.hex" for name in ("0", "1", "kek"))
     assert [line for line in dry.said if "keys are under" in line] == [
         f"keywrap-rotate: 3 keys are under {label}" for label in labels
     ]
     done = rotated(*SEVERAL, "store")
-    assert read("store") == [*hexes(NEW_KEK), hexes(OTHERS[2])[0]]
-    assert (
-        done.status,
-        done.said[0].endswith("store: line 13: under no KEK of this rotation"),
-    ) == (5, True)
+    assert read("store") == [*hexes(NEW_KEK), foreign]
+    assert done.status == 5
+    assert done.said[0].endswith("store: line 13: under no KEK of this rotation")
     assert done.said[1:4] == [
         f"keywrap-rotate: 3 keys were under {label}" for label in labels
     ]
-    assert (done.counts["keys"], done.counts["rewrapped"], done.counts["refused"]) == (
-        13,
-        9,
-        1,
-    )
+    assert done.counts["keys"] == 13
+    assert done.counts["rewrapped"] == 9
+    assert done.counts["refused"] == 1
 
 
 @pytest.mark.parametrize("kek", [0, 1, 2])
@@ -213,14 +206,11 @@ def test_lines_of_one_length_under_one_of_several_keks(keks, kek):
     """All lines at once: they are counted under the KEK that fits."""
     plain = [bytes([at]) * 32 for at in range(50)]
     write_lines("store", hexes([KEK, *OTHERS][kek], plain))
-    assert ((done := rotated(*SEVERAL, "store")).status, read("store")) == (
-        0,
-        hexes(NEW_KEK, plain),
-    )
-    assert (
-        done.said[0]
-        == f"keywrap-rotate: 50 keys were under {keks}/{('kek', '0', '1')[kek]}.hex"
-    )
+    done = rotated(*SEVERAL, "store")
+    assert done.status == 0
+    assert read("store") == hexes(NEW_KEK, plain)
+    name = ("kek", "0", "1")[kek]
+    assert done.said[0] == f"keywrap-rotate: 50 keys were under {keks}/{name}.hex"
 
 
 def tables():
@@ -239,21 +229,20 @@ def named(at):
 
 
 def in_csv(of, keys=KEYS):
-    lines = (
-        f"{at},{named(at)},{wrapped_under(of[named(at)], key).hex()}"
-        for at, key in enumerate(keys)
-    )
-    return ["id,owner,wrapped", *lines]
+    lines = ["id,owner,wrapped"]
+    for at, key in enumerate(keys):
+        name = named(at)
+        lines.append(f"{at},{name},{wrapped_under(of[name], key).hex()}")
+    return lines
 
 
 def in_json(of):
-    return [
-        json.dumps(
-            {"owner": named(at), "wrapped": wrapped_under(of[named(at)], key).hex()},
-            ensure_ascii=False,
-        )
-        for at, key in enumerate(KEYS)
-    ]
+    lines = []
+    for at, key in enumerate(KEYS):
+        name = named(at)
+        members = {"owner": name, "wrapped": wrapped_under(of[name], key).hex()}
+        lines.append(json.dumps(members, ensure_ascii=False))
+    return lines
 
 
 NAMED = {
@@ -280,11 +269,9 @@ class TestNames:
         new = dict.fromkeys(OF_TABLE, NEW_KEK) if one else NEW_OF_TABLE
         for again in (False, True):
             done = rotated(*words, *guard, *of_keks, "store")
-            assert (done.status, read("store"), done.counts["rewrapped"]) == (
-                0,
-                content(new),
-                0 if again else 12,
-            )
+            assert done.status == 0
+            assert read("store") == content(new)
+            assert done.counts["rewrapped"] == (0 if again else 12)
             assert again or done.said[:3] == [
                 f"keywrap-rotate: 4 keys were under {name}" for name in OF_TABLE
             ]
@@ -326,13 +313,11 @@ class TestNames:
         )
         connection.close()
         done = rotated(*words, "keys.db")
-        assert (
-            done.status,
-            [line.split("keys.db: ")[1] for line in done.said[:2]],
-        ) == (
-            5,
-            ["row 2: no KEK for the name 'stranger'", "row 3: it has no name of a KEK"],
-        )
+        assert done.status == 5
+        assert [line.split("keys.db: ")[1] for line in done.said[:2]] == [
+            "row 2: no KEK for the name 'stranger'",
+            "row 3: it has no name of a KEK",
+        ]
         assert rotated(*words[:-1], "ownr", "keys.db").has(
             "no such column (table keys, column key, ownr)"
         )
@@ -343,10 +328,8 @@ class TestNames:
         moved = lines[2].replace("b c,", "a,")
         write_lines("store", [lines[0], lines[1], moved, *lines[3:]])
         done = rotated(*NAMED["csv"][0], *tables(), "store")
-        assert (
-            done.status,
-            done.said[0].endswith("line 3: under no KEK of this rotation"),
-        ) == (5, True)
+        assert done.status == 5
+        assert done.said[0].endswith("line 3: under no KEK of this rotation")
         assert read("store") == [
             *in_csv(NEW_OF_TABLE)[:2],
             moved,
@@ -389,10 +372,8 @@ class TestNames:
         write_lines("store", in_csv(OF_TABLE))
         write_lines(f"keks/{table}", lines)
         done = rotated(*NAMED["csv"][0], *words, "store")
-        assert (done.status in (2, 3), why.format(keks) in done.said[0]) == (
-            True,
-            True,
-        ), done
+        assert done.status in (2, 3), done
+        assert why.format(keks) in done.said[0], done
         assert read("store") == in_csv(OF_TABLE)
 
     def test_a_table_that_changes_meanwhile(self):
@@ -415,17 +396,15 @@ class TestNames:
         write_lines("many/table", [f"{name}={name}" for name in of])
         write_lines("many/new-table", [f"{name}={name}.new" for name in of])
         known = [*of]
-        tenants = (known[at * 7919 % 1000] for at in range(count))
-        write_lines(
-            "keys.csv",
-            itertools.chain(
-                ["tenant,key"],
-                (
-                    f"{name},{pyca.aes_key_wrap(of[name], at.to_bytes(16, 'big')).hex()}"
-                    for at, name in enumerate(tenants)
-                ),
-            ),
-        )
+
+        def lines():
+            yield "tenant,key"
+            for at in range(count):
+                name = known[at * 7919 % 1000]
+                key = at.to_bytes(16, "big")
+                yield f"{name},{pyca.aes_key_wrap(of[name], key).hex()}"
+
+        write_lines("keys.csv", lines())
         words = "--csv key --kek-name tenant --keks many/table --new-keks many/new-table keys.csv".split()
         measured = [
             sys.executable,
@@ -434,18 +413,19 @@ class TestNames:
             "print(resource.getrusage(resource.RUSAGE_CHILDREN).ru_maxrss); sys.exit(done.returncode)",
         ]
         done = rotate(*words, program=[*measured, *ROTATE], timeout=3000)
-        assert (done.status, done.counts["keys"], done.counts["rewrapped"]) == (
-            0,
-            count,
-            count,
-        )
+        assert done.status == 0
+        assert done.counts["keys"] == count
+        assert done.counts["rewrapped"] == count
         assert int(done.printed) < 70_000
         with open("keys.csv", newline="") as file:
-            for at, (name, wrapped) in enumerate(csv.reader(file), -1):
-                if at >= 0 and at % max(1, count // 10_000) == 0:
-                    assert pyca.aes_key_unwrap(
-                        of[name][::-1], bytes.fromhex(wrapped)
-                    ) == at.to_bytes(16, "big")
+            records = csv.reader(file)
+            next(records)
+            step = max(1, count // 10_000)
+            for at, (name, wrapped) in enumerate(records):
+                if at % step == 0:
+                    new_kek = of[name][::-1]
+                    key = pyca.aes_key_unwrap(new_kek, bytes.fromhex(wrapped))
+                    assert key == at.to_bytes(16, "big")
 
 
 PREFIX = [
@@ -460,39 +440,32 @@ PREFIX = [
 
 
 def prefixed(kek, version, keys=KEYS):
-    return [
-        f"vault:v{version}:{base64.b64encode(wrapped_under(kek, key)).decode()}"
-        for key in keys
-    ]
+    texts = []
+    for key in keys:
+        text = base64.b64encode(wrapped_under(kek, key)).decode()
+        texts.append(f"vault:v{version}:{text}")
+    return texts
 
 
 class TestPrefixes:
     def test_a_prefix_is_read_and_written_anew(self):
-        write_lines(
-            "store",
-            [
-                *prefixed(KEK, 3)[:5],
-                *prefixed(KEK, 2)[5:10],
-                *prefixed(NEW_KEK, 4)[10:],
-            ],
-        )
+        lines = prefixed(KEK, 3)[:5]
+        lines += prefixed(KEK, 2)[5:10]
+        lines += prefixed(NEW_KEK, 4)[10:]
+        write_lines("store", lines)
         done = rotated(*PREFIX, "store")
-        assert (done.status, read("store"), done.counts["rewrapped"]) == (
-            0,
-            prefixed(NEW_KEK, 4),
-            10,
-        )
+        assert done.status == 0
+        assert read("store") == prefixed(NEW_KEK, 4)
+        assert done.counts["rewrapped"] == 10
         assert rotated("--verify", *PREFIX, "store") == 0
 
     def test_a_key_under_the_new_kek_with_an_old_prefix(self):
         """A dry run says what the rotation then does; to verify, it is refused."""
         write_lines("store", [*prefixed(NEW_KEK, 3)[:6], *prefixed(NEW_KEK, 4)[6:]])
         dry = rotated("--dry-run", *PREFIX, "store")
-        assert (
-            dry.status,
-            dry.counts["new"],
-            dry.has("6 keys are under an old prefix"),
-        ) == (6, 6, True)
+        assert dry.status == 6
+        assert dry.counts["new"] == 6
+        assert dry.has("6 keys are under an old prefix")
         assert rotated("--verify", *PREFIX, "store").has(
             "line 1: it does not have the prefix of new keys"
         )
@@ -516,11 +489,9 @@ class TestPrefixes:
         write_lines("store", [line, *prefixed(KEK, 3)])
         for mode in ["--dry-run"], [], []:
             done = rotated(*mode, *PREFIX, "store")
-            assert (done.status, done.counts["refused"], done.has("line 1: ")) == (
-                5,
-                1,
-                True,
-            )
+            assert done.status == 5
+            assert done.counts["refused"] == 1
+            assert done.has("line 1: ")
         assert read("store") == [line, *prefixed(NEW_KEK, 4)]
 
     def test_a_prefix_in_a_text_column(self):

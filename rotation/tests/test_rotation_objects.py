@@ -73,7 +73,8 @@ def rotated(*words, meanwhile="", commands=(*FROM, *COMMANDS)):
     """No temporary directory is left."""
     pathlib.Path("meanwhile").write_text(meanwhile)
     done = rotate(*commands, *words)
-    assert os.listdir("temporary") == [] and not os.path.exists("done")
+    assert os.listdir("temporary") == []
+    assert not os.path.exists("done")
     return done
 
 
@@ -90,37 +91,31 @@ class TestObjects:
     def test_each_name_of_an_object(self, jobs):
         for rewrapped, act in (8, ""), (0, 'call == "put" and sys.exit(1)'):
             done = rotated("--jobs", jobs, meanwhile=act)
-            assert (done.status, held(), done.counts["rewrapped"]) == (
-                0,
-                under(NEW_KEK),
-                rewrapped,
-            )
+            assert done.status == 0
+            assert held() == under(NEW_KEK)
+            assert done.counts["rewrapped"] == rewrapped
 
     def test_dry_run_verify_and_a_record(self):
         before = held()
-        assert (rotated("--dry-run") == 6, rotated("--verify") == 5, held()) == (
-            True,
-            True,
-            before,
-        )
+        assert rotated("--dry-run") == 6
+        assert rotated("--verify") == 5
+        assert held() == before
         rotated()
         os.unlink("kek.hex")
         assert rotated("--verify", "--record", "record") == 0
         assert rotated("--verify", "--verify-record", "record") == 0
         os.rename(path_of("a"), path_of("é"))
         done = rotated("--verify", "--verify-record", "record")
-        assert (
-            done == 5
-            and done.has("é: missing or changed since")
-            and done.has("a: get ended with status 1")
-        )
+        assert done == 5
+        assert done.has("é: missing or changed since")
+        assert done.has("a: get ended with status 1")
 
     def test_a_refused_object(self):
         path_of("a").write_text("00" * 40)
         done = rotated()
-        assert (done.status, done.said[0]) == (
-            5,
-            "keywrap-rotate: a: its key: under no KEK of this rotation",
+        assert done.status == 5
+        assert (
+            done.said[0] == "keywrap-rotate: a: its key: under no KEK of this rotation"
         )
         assert held() == {**under(NEW_KEK), "a": "00" * 40}
 
@@ -128,10 +123,8 @@ class TestObjects:
         done = rotated(
             meanwhile='call == "get" and name == "a" and (shutil.copy(path, file), sys.exit())'
         )
-        assert (done.status, done.said[0]) == (
-            5,
-            "keywrap-rotate: a: get printed no version",
-        )
+        assert done.status == 5
+        assert done.said[0] == "keywrap-rotate: a: get printed no version"
         assert held() == {**under(NEW_KEK), "a": under(KEK)["a"]}
 
     @pytest.mark.parametrize("call", ["get", "put"])
@@ -153,12 +146,11 @@ class TestObjects:
             meanwhile=f'if (call, name) == ("{call}", "b b"): {how}',
         )
         is_lost = call == "put" or "did not" in said
-        assert (done.status, done.has(f"b b: {call} ") and done.has(said)) == (
-            6 if is_lost else 5,
-            True,
-        ), done
+        assert done.status == (6 if is_lost else 5), done
+        assert done.has(f"b b: {call} ") and done.has(said), done
         assert held() == {**under(NEW_KEK), "b b": under(KEK)["b b"]}
-        assert rotated() == 0 and held() == under(NEW_KEK)
+        assert rotated() == 0
+        assert held() == under(NEW_KEK)
 
 
 ADDED, NEW_ADDED = (hexes(kek, bytes(32))[0] for kek in (KEK, NEW_KEK))

@@ -68,14 +68,16 @@ class TestProgress:
         wait_for(lambda: children(running))
         running.send_signal(signal.SIGUSR1)
         done = end(running)
-        assert done == 0 and done.has("keywrap-rotate: pass 1: ")
+        assert done == 0
+        assert done.has("keywrap-rotate: pass 1: ")
         assert done.has(" % read in ")
 
     def test_a_line_once_in_an_interval(self, store):
         lines = "from keywrap_rotate import console; console.INTERVAL = 0.1\n"
         slow = lines + SLOWLY[-1].split("from keywrap_rotate import main")[0]
         done = rotate("--jobs", "1", store, program=patched(slow))
-        assert done == 0 and len([line for line in done.said if " % read" in line]) >= 1
+        assert done == 0
+        assert len([line for line in done.said if " % read" in line]) >= 1
 
     def test_no_line_in_a_short_run(self, store):
         assert len(rotate(store).said) == 1
@@ -87,13 +89,18 @@ class TestSummary:
         summary = json.loads(done.printed)
         last = report_of("report")[-1]
         assert {"time": last["time"], **summary} == last
-        assert (summary["status"], summary["keys"], summary["new"]) == (0, 30, 30)
-        assert (summary["units"], summary["passes"], summary["rewrapped"]) == (1, 2, 30)
+        assert summary["status"] == 0
+        assert summary["keys"] == 30
+        assert summary["new"] == 30
+        assert summary["units"] == 1
+        assert summary["passes"] == 2
+        assert summary["rewrapped"] == 30
 
     def test_a_run_that_does_not_begin(self, store):
         done = rotate("--summary-json", "--kek", "none", store)
         summary = json.loads(done.printed)
-        assert (done.status, summary["status"]) == (3, 3)
+        assert done.status == 3
+        assert summary["status"] == 3
         assert "No such file or directory" in summary["error"]
 
     def test_a_summary_that_cannot_be_printed(self, store):
@@ -137,7 +144,8 @@ class TestRefused:
     def test_twenty_are_shown_and_the_report_has_all(self, store):
         (store / "0").write_bytes(b"zz\n" * 2500 + lines_under(KEK, KEYS))
         done = rotate("--report", "report", store)
-        assert (done.status, done.counts["refused"]) == (5, 2500)
+        assert done.status == 5
+        assert done.counts["refused"] == 2500
         assert sum("not in the notation" in line for line in done.said) == 20
         assert done.has("more is refused: --report names all of it")
         units = [line for line in report_of("report") if "named" in line]
@@ -149,7 +157,8 @@ class TestRefused:
         """The status is that of the rotation."""
         line = f'"$@" {how}; exit ${{PIPESTATUS[0]}}'
         done = subprocess.run(["bash", "-c", line, "bash", *ROTATE, store])
-        assert done.returncode == 0 and state(store, [KEYS]) == ["new"]
+        assert done.returncode == 0
+        assert state(store, [KEYS]) == ["new"]
 
 
 TRIGGER = """CREATE TRIGGER frozen BEFORE UPDATE ON keys WHEN NEW.id = 7
@@ -162,7 +171,8 @@ class TestRowsThatCannotBeWritten:
         make_table(KEYS, TRIGGER)
         before = rows_of_table()
         done = rotate("--table", "keys", "keys.db")
-        assert done == 5 and done.has("row 7: it cannot be written: IntegrityError")
+        assert done == 5
+        assert done.has("row 7: it cannot be written: IntegrityError")
         counts = done.counts["new"], done.counts["old"], done.counts["rewrapped"]
         assert counts == (29, 1, 29)
         new = [wrapped_under(NEW_KEK, key).hex() for key in KEYS]
@@ -176,7 +186,8 @@ class TestRowsThatCannotBeWritten:
             CREATE TRIGGER frozen BEFORE UPDATE ON keys FOR EACH ROW EXECUTE FUNCTION frozen();"""
         )
         done = rotate("--postgresql", "keys")
-        assert done == 5 and done.has(": it cannot be written: RaiseException")
+        assert done == 5
+        assert done.has(": it cannot be written: RaiseException")
         counts = done.counts["new"], done.counts["old"], done.counts["rewrapped"]
         assert counts == (29, 1, 29)
         keks = {at: KEK if at == 7 else NEW_KEK for at in range(30)}
@@ -197,7 +208,8 @@ class TestRecordsWithoutAKey:
         self.write()
         for words in [], ["--verify"]:
             done = rotate(*words, "--json-pointer", "/data/key", "keys.json")
-            assert done == 0 and done.said[-1].endswith("; 2 records have no key")
+            assert done == 0
+            assert done.said[-1].endswith("; 2 records have no key")
 
     def test_all_refuses_them(self):
         self.write()
@@ -209,9 +221,11 @@ class TestRecordsWithoutAKey:
     def test_null_in_a_table(self):
         make_table(KEYS[:3], "INSERT INTO keys (key) VALUES (NULL);")
         done = rotate("--table", "keys", "keys.db")
-        assert done == 0 and done.said[-1].endswith("; 1 records have no key")
+        assert done == 0
+        assert done.said[-1].endswith("; 1 records have no key")
         done = rotate("--all", "--table", "keys", "keys.db")
-        assert done == 5 and done.has("row 4: it has no key")
+        assert done == 5
+        assert done.has("row 4: it has no key")
 
 
 class TestNestedMembers:
@@ -238,7 +252,8 @@ class TestNestedMembers:
 
     def test_what_is_no_pointer(self, store):
         done = rotate("--json-pointer", "data", store)
-        assert done == 2 and done.has("a JSON pointer begins with /")
+        assert done == 2
+        assert done.has("a JSON pointer begins with /")
 
 
 @pytest.mark.parametrize("name, character", [(";", ";"), ("tab", "\t"), ("|", "|")])
@@ -288,7 +303,8 @@ class TestRate:
         began = time.monotonic()
         assert end(running) == 130
         assert time.monotonic() - began < 60
-        assert rotate("--table", "keys", "keys.db") == 0 and {*rows_of_table()} == new
+        assert rotate("--table", "keys", "keys.db") == 0
+        assert {*rows_of_table()} == new
 
     def test_several_processes_together(self, tmp_path):
         keys = [make_keys(5, seed) for seed in range(8)]
@@ -305,7 +321,8 @@ class TestPipeWithoutAWriter:
     def test_a_kek_that_never_comes(self, store):
         os.mkfifo("pipe")
         done = rotate("--kek", "pipe", store, program=self.SHORT, timeout=60)
-        assert done == 3 and done.has("nobody wrote into it for 1 seconds")
+        assert done == 3
+        assert done.has("nobody wrote into it for 1 seconds")
         assert state(store, [KEYS]) == ["old"]
 
     def test_a_kek_that_comes_later(self, store):
@@ -313,4 +330,5 @@ class TestPipeWithoutAWriter:
         running = start("--kek", "pipe", store)
         time.sleep(0.5)
         pathlib.Path("pipe").write_text(KEK.hex())
-        assert end(running) == 0 and state(store, [KEYS]) == ["new"]
+        assert end(running) == 0
+        assert state(store, [KEYS]) == ["new"]

@@ -30,7 +30,8 @@ class Key:
     numbers = itertools.count()
 
     def __init__(self, state):
-        self.state, self.identity = state, str(next(self.numbers))
+        self.state = state
+        self.identity = str(next(self.numbers))
 
 
 class Memory:
@@ -40,13 +41,11 @@ class Memory:
 
     def __init__(self, states, order, acts=()):
         self.places = {place: Key(state) for place, state in states.items()}
-        self.order, self.acts, self.steps, self.passes, self.moves = (
-            order,
-            dict(acts),
-            0,
-            0,
-            [],
-        )
+        self.order = order
+        self.acts = dict(acts)
+        self.steps = 0
+        self.passes = 0
+        self.moves = []
         self.trouble = {}
         #: The identities of keys that a listing had, and that were not read since.
         self.unread = set()
@@ -73,7 +72,9 @@ class Memory:
     @contextlib.contextmanager
     def listed(self, may_write):
         self.passes += 1
-        first, read, last = self.seen(), set(), []
+        first = self.seen()
+        read = set()
+        last = []
         self.unread |= {identity for _, identity in first}
 
         def take(unit, found):
@@ -117,7 +118,9 @@ class Memory:
         self.step()
         if self.places.get(unit.name) is not key:
             raise Changed
-        found.keys, found.identity, found.digest = 1, key.identity, "digest"
+        found.keys = 1
+        found.identity = key.identity
+        found.digest = "digest"
         found.read_identity = key.identity
         if key.state == "foreign":
             found.refuse("", "under no KEK of this rotation")
@@ -195,7 +198,8 @@ class TestMoves:
     ):
         store = Memory(given, "abcd")
         made = run(store, may_write)
-        assert made.status() == status and (made.number, made.rewrapped) == numbers
+        assert made.status() == status
+        assert (made.number, made.rewrapped) == numbers
         then = {"old": "new"} if may_write else {}
         assert states(store) == {
             place: then.get(state, state) for place, state in given.items()
@@ -247,7 +251,8 @@ class TestMoves:
                     store.moves,
                 )
                 holes += 1
-        assert ended > 1000 and holes < 15
+        assert ended > 1000
+        assert holes < 15
 
 
 def write(place, state):
@@ -265,7 +270,8 @@ def test_a_write_of_others_at_any_step(act):
     """A writer under the new KEK, or one that removes a key, at any step: the run ends with 0."""
     for at in range(1, 40):
         store = Memory(OLD, "abcd", {at: act})
-        assert run(store).status() == DONE and set(states(store).values()) == {"new"}
+        assert run(store).status() == DONE
+        assert set(states(store).values()) == {"new"}
 
 
 def test_a_writer_that_never_rests():
@@ -273,10 +279,8 @@ def test_a_writer_that_never_rests():
     store = Memory(
         OLD, "abcd", {at: write("abcd"[at % 4], "new") for at in range(1, 1000, 3)}
     )
-    assert (
-        run(store).status() in (DONE, UNFINISHED)
-        and "old" not in states(store).values()
-    )
+    assert run(store).status() in (DONE, UNFINISHED)
+    assert "old" not in states(store).values()
     store = Memory(OLD, "abcd", {at: write("b", "old") for at in range(1, 10000, 3)})
     assert run(store).status() == UNFINISHED
 

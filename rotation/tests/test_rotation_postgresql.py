@@ -27,12 +27,11 @@ def rows(kek, keys):
     return {number * 10: wrapped_under(kek, key) for number, key in enumerate(keys, 1)}
 
 
-KEYS, MANY, ADDED = (
-    make_keys(60),
-    make_keys(1500, 3),
-    wrapped_under(NEW_KEK, make_keys(2, 9)[1]),
-)
-OLD, NEW = rows(KEK, KEYS), rows(NEW_KEK, KEYS)
+KEYS = make_keys(60)
+MANY = make_keys(1500, 3)
+ADDED = wrapped_under(NEW_KEK, make_keys(2, 9)[1])
+OLD = rows(KEK, KEYS)
+NEW = rows(NEW_KEK, KEYS)
 # Ranges of one block, so that small tables have several.
 SMALL = patched("from keywrap_rotate import postgresql; postgresql.BLOCKS = 1")
 
@@ -76,11 +75,9 @@ class TestTable:
         value = "encode(key, 'hex')" if kind == "bytea" else "trim(key)"
         for rewrapped in (60, 0):
             done = rotated("--jobs", jobs)
-            assert (done.status, server.held(value), done.counts["rewrapped"]) == (
-                0,
-                NEW,
-                rewrapped,
-            ), done
+            assert done.status == 0, done
+            assert server.held(value) == NEW, done
+            assert done.counts["rewrapped"] == rewrapped, done
         assert rotated("--verify", "--record", "record") == 0
         server.sql("VACUUM FULL keys")
         assert rotated("--verify", "--verify-record", "record", program=ROTATE) == 0
@@ -153,7 +150,8 @@ class TestTable:
                 )
             )
             done = rotated("--column", column, table=f"{schema}.{table}")
-            assert (done.status, done.counts["rewrapped"]) == (0, 1), done
+            assert done.status == 0, done
+            assert done.counts["rewrapped"] == 1, done
             assert (
                 server.sql("SELECT {2} FROM {0}.{1} ORDER BY 1".format(*names))
                 == f"{NEW[10].hex()}\n\n"
@@ -171,11 +169,9 @@ class TestTable:
     def test_refuses_names(self, server, table, words, said):
         for mode in ([], ["--verify"]):
             done = rotated(*mode, *words, table=table)
-            assert (done.status, said in done.said[0], len(done.said)) == (
-                5,
-                True,
-                1,
-            ), done
+            assert done.status == 5, done
+            assert said in done.said[0], done
+            assert len(done.said) == 1, done
         assert server.held() == OLD
 
     def test_an_unreachable_server(self, server, monkeypatch):
@@ -188,13 +184,15 @@ class TestTable:
 
     def test_dry_run_and_verify(self, server):
         before = server.sql("SELECT ctid, xmin, * FROM keys")
-        assert (rotated("--dry-run").status, rotated("--verify").status) == (6, 5)
+        assert rotated("--dry-run").status == 6
+        assert rotated("--verify").status == 5
         assert server.sql("SELECT ctid, xmin, * FROM keys") == before
         rotated()
         os.unlink("kek.hex")
         assert rotated("--verify") == 0
         server.sql("DELETE FROM keys")
-        assert rotated("--verify").has("no key was found") and rotated("--verify") == 5
+        assert rotated("--verify").has("no key was found")
+        assert rotated("--verify") == 5
 
     def test_names_of_keks_in_a_column(self, server):
         other = bytes([7]) * 16
@@ -218,7 +216,8 @@ class TestTable:
         words = ["--kek-name", "who", "--keks", "old", "--new-keks", "new"]
         done = rotated(*words)
         said = [f"keywrap-rotate: 30 keys were under {name}" for name in ("ada", "bob")]
-        assert (done.status, done.said[:2]) == (0, said)
+        assert done.status == 0
+        assert done.said[:2] == said
         assert server.held() == {
             number: (NEW if number <= 300 else rows(bytes(32), KEYS))[number]
             for number in NEW
@@ -283,7 +282,8 @@ class TestTable:
         )
         monkeypatch.setenv("PGOPTIONS", "-c search_path=other")
         done = rotated()
-        assert (done.status, done.counts["keys"]) == (0, 7)
+        assert done.status == 0
+        assert done.counts["keys"] == 7
         monkeypatch.delenv("PGOPTIONS")
         assert server.held() == OLD
 
@@ -291,7 +291,8 @@ class TestTable:
         server.fill(OLD, "text")
         server.sql("UPDATE keys SET key = 'my plain master key \x1b[2J' WHERE id = 30")
         done = rotated("--report", "report")
-        assert (done.status, done.has("not in the notation of the store")) == (5, True)
+        assert done.status == 5
+        assert done.has("not in the notation of the store")
         assert "master" not in pathlib.Path("report").read_text() + "".join(done.said)
 
 
@@ -319,7 +320,8 @@ class TestOthers:
             f"-c default_transaction_isolation={level.replace(' ', chr(92) + ' ')}",
         )
         ends_of(*(begun("--jobs", "2") for _ in range(2)))
-        assert rotated() == 0 and server.held() == NEW
+        assert rotated() == 0
+        assert server.held() == NEW
 
     def test_two_columns_at_once(self, server):
         server.sql("ALTER TABLE keys ADD COLUMN key2 bytea; UPDATE keys SET key2 = key")
@@ -357,7 +359,8 @@ _many.rewrap_slots = before_each_key(lambda text: next(calls) == 3 and subproces
             program=program,
             env={**os.environ, "STATEMENT": f"SET lock_timeout = '1ms'; {statement}"},
         )
-        assert (done.status, server.held()) == (0, changed), done
+        assert done.status == 0, done
+        assert server.held() == changed, done
         assert rotated("--verify") == 0
 
     @pytest.mark.parametrize(
@@ -374,7 +377,8 @@ _many.rewrap_slots = before_each_key(lambda text: next(calls) == 3 and subproces
             assert {
                 number for number, key in server.held().items() if key != NEW[number]
             } <= {50, 330}
-        assert rotated() == 0 and server.held() == NEW
+        assert rotated() == 0
+        assert server.held() == NEW
 
     def test_a_table_that_another_process_has_locked(self, server):
         program = patched(
@@ -382,7 +386,8 @@ _many.rewrap_slots = before_each_key(lambda text: next(calls) == 3 and subproces
         )
         with holding("LOCK TABLE keys"):
             done = rotated(program=program)
-            assert (done.status, done.has("lock timeout (55P03)")) == (6, True), done
+            assert done.status == 6, done
+            assert done.has("lock timeout (55P03)"), done
         assert rotated() == 0
 
 
@@ -423,7 +428,8 @@ class TestTables:
             wait_for(lambda: server.sql(query) != "0\n")
             other.commit()
             done = end(running)
-        assert (done.status, done.counts["keys"]) == (0, 1500), done
+        assert done.status == 0, done
+        assert done.counts["keys"] == 1500, done
         assert len(under_the_new_kek(server, "parts")) == 1500
 
     def test_tables_that_inherit(self, server):
@@ -433,7 +439,8 @@ class TestTables:
         )
         copied(server, "child", MANY)
         done = rotated(table="parent")
-        assert (done.status, done.counts["keys"]) == (0, 1500), done
+        assert done.status == 0, done
+        assert done.counts["keys"] == 1500, done
         assert len(under_the_new_kek(server, "parent")) == 1500
         server.sql("DROP TABLE parent CASCADE")
 
@@ -447,7 +454,8 @@ class TestWhatIsStored:
             server.sql(f"INSERT INTO names VALUES ({number}, '{text}')")
         prefixes = ["--prefix", "a:", "--new-prefix", "longer-than-before:"]
         done = rotated(*prefixes, table="names")
-        assert (done.status, done.counts["refused"]) == (5, 1), done
+        assert done.status == 5, done
+        assert done.counts["refused"] == 1, done
         assert done.has("the table keeps another value")
         first, second = server.sql("SELECT key FROM names ORDER BY id").split()
         assert first == "longer-than-before:" + wrapped_under(NEW_KEK, bytes(8)).hex()
@@ -483,7 +491,8 @@ class TestWhatIsStored:
             % hashlib.md5(OLD[70]).hexdigest()
         )
         done = rotated()
-        assert (done.status, done.counts["refused"]) == (5, 1), done
+        assert done.status == 5, done
+        assert done.counts["refused"] == 1, done
         assert done.has("it cannot be written: CheckViolation")
         assert server.held() == {**NEW, 70: OLD[70]}
 
@@ -509,7 +518,8 @@ class TestWhatIsStored:
         monkeypatch.delenv("PGOPTIONS")
         held = server.held()
         server.sql("DROP FUNCTION durable CASCADE")
-        assert (done.status, held) == (0, NEW), done
+        assert done.status == 0, done
+        assert held == NEW, done
 
 
 class TestSessions:
@@ -519,12 +529,12 @@ class TestSessions:
         )
         monkeypatch.setenv("PGUSER", "few")
         done = rotated("--jobs", "2")
-        assert (done.status, server.held()) == (0, NEW), done
+        assert done.status == 0, done
+        assert server.held() == NEW, done
         server.sql("UPDATE keys SET id = id")
         done = rotated("--jobs", "4")
-        assert done.status in (0, 6) and (
-            done == 0 or done.has("too many connections")
-        ), done
+        assert done.status in (0, 6), done
+        assert done == 0 or done.has("too many connections"), done
         server.sql("DROP TABLE keys; DROP ROLE few")
 
     def test_a_server_that_does_not_answer(self, monkeypatch):
@@ -533,7 +543,8 @@ class TestSessions:
             monkeypatch.setenv("PGHOST", "127.0.0.1")
             monkeypatch.setenv("PGPORT", str(silent.getsockname()[1]))
             done = end(begun("--timeout", "2"), timeout=60)
-        assert (done.status, done.has("no answer in 2 seconds")) == (6, True), done
+        assert done.status == 6, done
+        assert done.has("no answer in 2 seconds"), done
 
     def test_an_interrupt_while_a_server_does_not_answer(self, monkeypatch):
         """The first one ends the run: no unit is at work."""
@@ -545,7 +556,8 @@ class TestSessions:
             with connection:
                 running.terminate()
                 done = end(running, timeout=60)
-        assert (done.status, done.has("interrupted")) == (130, True), done
+        assert done.status == 130, done
+        assert done.has("interrupted"), done
 
     @pytest.mark.parametrize("is_prepared", [False, True])
     def test_a_transaction_that_is_older_than_the_run(self, server, is_prepared):
@@ -556,10 +568,8 @@ class TestSessions:
                 other.execute("PREPARE TRANSACTION 'theirs'")
             for words in [], ["--verify"]:
                 done = rotated(*words)
-                assert (
-                    done.status,
-                    done.has("1 transactions are older than this run"),
-                ) == (0, True), done
+                assert done.status == 0, done
+                assert done.has("1 transactions are older than this run"), done
         if is_prepared:
             server.sql("ROLLBACK PREPARED 'theirs'")
         assert not rotated().has("older than this run")
@@ -574,7 +584,8 @@ class TestSessions:
         server.sql("ALTER TABLE keys ADD COLUMN more int")
         assert time.monotonic() - began < 5
         done = end(running)
-        assert done == 0 and done.counts["passes"] == 2, done
+        assert done == 0, done
+        assert done.counts["passes"] == 2, done
 
 
 # Ranges of one block, each of which takes half a second.

@@ -126,10 +126,8 @@ def test_recipe(request, typed, answer, tmp_path, environment):
         check=False,
         text=True,
     )
-    assert (done.returncode, [line.strip() for line in done.stdout.splitlines()]) == (
-        0,
-        answer.split("\n"),
-    )
+    assert done.returncode == 0
+    assert [line.strip() for line in done.stdout.splitlines()] == answer.split("\n")
 
 
 # A test double of Slurm's sbatch: it runs the line for each task.
@@ -182,11 +180,9 @@ def test_the_job_and_the_container_file():
     job = yaml.safe_load(SEVERAL_MACHINES.split("```yaml\n")[1].split("```")[0])
     spec = job["spec"]["template"]["spec"]
     (container,) = spec["containers"]
-    assert (job["kind"], job["spec"]["completionMode"], job["spec"]["completions"]) == (
-        "Job",
-        "Indexed",
-        10,
-    )
+    assert job["kind"] == "Job"
+    assert job["spec"]["completionMode"] == "Indexed"
+    assert job["spec"]["completions"] == 10
     assert {mount["name"] for mount in container["volumeMounts"]} == {
         volume["name"] for volume in spec["volumes"]
     }
@@ -204,7 +200,8 @@ def test_the_lines_that_lock_a_file_for_a_write_in_place(tmp_path):
     path = tmp_path / "file"
     path.write_bytes(b"old")
     (tmp_path / "new").write_bytes(b"new")
-    real, calls = fcntl.flock, []
+    real = fcntl.flock
+    calls = []
 
     def flock(file, how):
         real(file, how)
@@ -220,7 +217,9 @@ def test_the_lines_that_lock_a_file_for_a_write_in_place(tmp_path):
     }
     exec(lines, names)
     with names["file"] as file:
-        assert (file.read(), len(calls), len(lines.splitlines())) == (b"new", 2, 6)
+        assert file.read() == b"new"
+        assert len(calls) == 2
+        assert len(lines.splitlines()) == 6
 
 
 def test_the_query_for_older_transactions(server):
@@ -253,9 +252,7 @@ def test_a_refused_secret(tmp_path, data, said):
     file.write_text(json.dumps(secret))
     command = [sys.executable, "-m", "keywrap_rotate.kubernetes_secret", file]
     done = subprocess.run(command, capture_output=True, text=True)
-    assert (done.returncode, said in done.stderr, json.loads(file.read_text())) == (
-        1,
-        True,
-        secret,
-    )
+    assert done.returncode == 1
+    assert said in done.stderr
+    assert json.loads(file.read_text()) == secret
     assert "\x1b" not in done.stderr

@@ -23,7 +23,8 @@ from rotation_help import (
 
 RUNS = int(os.environ.get("KEYWRAP_RENAMES", "20"))
 KEYS = make_keys(3)
-OLD, NEW = lines_under(KEK, KEYS), lines_under(NEW_KEK, KEYS)
+OLD = lines_under(KEK, KEYS)
+NEW = lines_under(NEW_KEK, KEYS)
 pytestmark = evidence
 
 
@@ -45,7 +46,8 @@ def rename_files(rate, stopped):
     names = [f"store/{at % 20}/{at}" for at in range(300)]
     free = [f"store/{at % 20}/free{at}" for at in range(60)]
     while not stopped.is_set():
-        one, other = source.randrange(len(names)), source.randrange(len(free))
+        one = source.randrange(len(names))
+        other = source.randrange(len(free))
         with contextlib.suppress(FileNotFoundError):
             os.rename(names[one], free[other])
             names[one], free[other] = free[other], names[one]
@@ -78,7 +80,8 @@ def test_files_that_are_renamed_are_all_rotated(run, rate):
     fill(f"store/{at % 20}/{at}" for at in range(300))
     with renaming(rename_files, rate):
         done = rotate("--jobs", "2", "store")
-    assert (done.status, set(contents())) == (0, {NEW}), done
+    assert done.status == 0, done
+    assert set(contents()) == {NEW}, done
 
 
 @pytest.mark.parametrize("run", range(RUNS))

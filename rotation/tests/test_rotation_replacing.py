@@ -22,12 +22,10 @@ from keywrap_rotate.found import Changed, Refused, Unanswered
 from keywrap_rotate.listing import FileListing, Names
 from keywrap_rotate.replacing import base_of
 
-OLD, NEW, OTHER, THIRD = (
-    b"old\n",
-    b"new\n",
-    b"written by another program\n",
-    b"and by a third\n",
-)
+OLD = b"old\n"
+NEW = b"new\n"
+OTHER = b"written by another program\n"
+THIRD = b"and by a third\n"
 
 
 @pytest.fixture
@@ -52,7 +50,8 @@ def at_exchange(monkeypatch):
     """at_exchange(before, after): runs these at the first exchange of two names, before and after it."""
 
     def install(before=lambda: None, after=lambda: None):
-        real, acts = replacing.exchange, [after, before]
+        real = replacing.exchange
+        acts = [after, before]
 
         def exchange(one, other):
             acts.pop()() if acts else None
@@ -73,7 +72,8 @@ class TestReplace:
     def test_replaces_what_was_read(self, file):
         file.chmod(0o640)
         replace(str(file), bytearray(NEW), old_bytes=memoryview(OLD))
-        assert (file.read_bytes(), stat.S_IMODE(file.stat().st_mode)) == (NEW, 0o640)
+        assert file.read_bytes() == NEW
+        assert stat.S_IMODE(file.stat().st_mode) == 0o640
         refuses(file)
         refuses(file, b"", NEW, "empty")
         assert contents(file.parent) == [NEW]
@@ -99,7 +99,8 @@ class TestReplace:
         assert contents(file.parent) == [OLD]
 
     def test_does_not_replace_a_link(self, file):
-        link, other = file.with_name("link"), file.with_name("other")
+        link = file.with_name("link")
+        other = file.with_name("other")
         link.symlink_to(file)
         refuses(link, why="symbolic link")
         os.link(file, other)
@@ -282,7 +283,9 @@ class TestKilledRuns:
     def test_nobody_puts_a_file_in_the_place_of_another_owners(self, file):
         os.chown(killed(file, OTHER, NEW), 12, 34)
         names, notes, after = later(file.parent)
-        assert (names, len(notes), after) == (["file"], 1, sorted([NEW, OTHER]))
+        assert names == ["file"]
+        assert len(notes) == 1
+        assert after == sorted([NEW, OTHER])
 
     @pytest.mark.parametrize(
         "make", [os.mkfifo, os.mkdir, lambda path: os.symlink("file", path)]
@@ -291,14 +294,17 @@ class TestKilledRuns:
     def test_what_has_a_temporary_name_and_is_no_file(self, file, make, may_write):
         make(file.with_name(NAME.format(digest(OLD), digest(NEW))))
         listing = FileListing(Names([str(file.parent)]), may_write=may_write)
-        assert (listing.found.refused, listing.number) == (1, 1)
+        assert listing.found.refused == 1
+        assert listing.number == 1
 
     @pytest.mark.parametrize("current", [OTHER, OLD, None])
     def test_a_later_run_names_what_it_cannot_decide(self, file, current):
-        path, there = killed(file, THIRD, current), [] if current is None else [current]
+        path = killed(file, THIRD, current)
+        there = [] if current is None else [current]
         for _ in range(2):
             names, (note,), after = later(file.parent)
-            assert (names, after) == (["file"] * len(there), sorted([THIRD, *there]))
+            assert names == ["file"] * len(there)
+            assert after == sorted([THIRD, *there])
             assert note.startswith(f"{path}: a run left it, and ")
 
     def test_a_write_while_a_later_run_decides(self, file, at_exchange):
@@ -306,11 +312,9 @@ class TestKilledRuns:
         path = killed(file, OTHER, NEW)
         at_exchange(before=lambda: write_by_rename(file, THIRD))
         names, (note,), after = later(file.parent)
-        assert (file.read_bytes(), path.read_bytes(), after) == (
-            THIRD,
-            OTHER,
-            sorted([THIRD, OTHER]),
-        )
+        assert file.read_bytes() == THIRD
+        assert path.read_bytes() == OTHER
+        assert after == sorted([THIRD, OTHER])
         assert note.startswith(
             f"{path}: other programs wrote it twice meanwhile: compare it with "
         )

@@ -39,10 +39,8 @@ def database(tmp_path):
 
 def rotated(path, table="keys", column="key", notation="hex", may_write=True):
     """What is found in one database."""
-    store, pair = (
-        sqlite.Sqlite(table, column, Notation(notation), Names([str(path)]), None),
-        challenges(),
-    )
+    store = sqlite.Sqlite(table, column, Notation(notation), Names([str(path)]), None)
+    pair = challenges()
     return found.found_by(
         lambda found: store.do(Unit(str(path), 1, ""), pair.rings(), may_write, found)
     )
@@ -92,7 +90,8 @@ class TestTable:
             f" {old}\n",
         )
         answer = rotated(database, 'a "b.{key}', "c.d}{row", "base64")
-        assert (answer.keys, answer.refused) == (2, 0), answer.named
+        assert answer.keys == 2, answer.named
+        assert answer.refused == 0, answer.named
         assert run_sql(database, 'SELECT "c.d}{row" FROM "a ""b.{key}"') == [
             (new,),
             (None,),
@@ -146,7 +145,8 @@ class TestTable:
             "INSERT INTO keys VALUES (?, ?, ?)",
             [(*values(at), wrapped_under(KEK, key)) for at, key in enumerate(KEYS)],
         )
-        assert (rotated(path).keys, rotated(path).new) == (12, 12)
+        assert rotated(path).keys == 12
+        assert rotated(path).new == 12
         assert sorted(run_sql(path, "SELECT key FROM keys")) == sorted(
             (wrapped_under(NEW_KEK, key),) for key in KEYS
         )
@@ -187,7 +187,8 @@ class TestTable:
                 "SELECT key FROM keys WHERE id = 70"
             ).fetchall()
             answer = rotated(database)
-            assert (answer.named, answer.keys) == ([("row 70", reason)], 12)
+            assert answer.named == [("row 70", reason)]
+            assert answer.keys == 12
             expected = [
                 (row, value if row == 70 else key)
                 for row, key, _ in rows_under(NEW_KEK)
@@ -211,7 +212,8 @@ class TestTable:
         run_sql(database, statement)
         before = list(sqlite3.connect(database).iterdump())
         answer = rotated(database)
-        assert (answer.refused, why(answer)) == (1, reason)
+        assert answer.refused == 1
+        assert why(answer) == reason
         assert list(sqlite3.connect(database).iterdump()) == before
 
     @pytest.mark.parametrize(
@@ -227,7 +229,9 @@ class TestTable:
         run_sql("numbers.db", "INSERT INTO keys VALUES (?)", old)
         done = rotate("--table", "keys", "numbers.db")
         refused = done.has("row 1: the table keeps another value")
-        assert (done.status, refused) == (status, status == 5) and float(new), done
+        assert done.status == status, done
+        assert refused == (status == 5), done
+        assert float(new), done
         assert run_sql("numbers.db", "SELECT key FROM keys") == [
             (old if status else new,)
         ]
@@ -243,7 +247,8 @@ class TestTable:
         answer = rotated(database)
         why = "it cannot be written: IntegrityError"
         assert sorted(answer.named) == sorted((f"row {row}", why) for row in rows)
-        assert (answer.unwritable, answer.unwritten) == (len(rows), 0)
+        assert answer.unwritable == len(rows)
+        assert answer.unwritten == 0
         held = dict(run_sql(database, "SELECT id, key FROM keys"))
         old, new = (dict(row[:2] for row in rows_under(kek)) for kek in (KEK, NEW_KEK))
         assert held == {**new, **{row: old[row] for row in rows}}
@@ -273,11 +278,9 @@ class TestTable:
             [(wrapped_under(KEK, key),) for key in keys],
         )
         done = rotate("--table", "keys", path)
-        assert (done.status, done.counts["keys"], done.counts["rewrapped"]) == (
-            0,
-            3000,
-            3000,
-        )
+        assert done.status == 0
+        assert done.counts["keys"] == 3000
+        assert done.counts["rewrapped"] == 3000
         held = {key for (key,) in run_sql(path, "SELECT key FROM keys")}
         assert held == {wrapped_under(NEW_KEK, key) for key in keys}
 
@@ -293,7 +296,8 @@ class TestTable:
         ]
         run_many(path, "INSERT INTO keys (id, key) VALUES (?, ?)", old)
         done = rotate("--table", "keys", path)
-        assert (done.status, done.counts["new"]) == (0, len(KEYS)), done
+        assert done.status == 0, done
+        assert done.counts["new"] == len(KEYS), done
 
     def test_a_primary_key_that_is_not_utf_8(self, tmp_path):
         path = tmp_path / "keys.db"
@@ -304,10 +308,8 @@ class TestTable:
             wrapped_under(KEK, KEYS[0]),
         )
         done = rotate("--table", "keys", path)
-        assert (
-            done.status,
-            done.has(f"{path}: a primary key is not UTF-8 (table keys)"),
-        ) == (5, True)
+        assert done.status == 5
+        assert done.has(f"{path}: a primary key is not UTF-8 (table keys)")
 
     def test_a_trigger_that_changes_what_is_written(self, database):
         run_sql(
@@ -315,15 +317,15 @@ class TestTable:
             "CREATE TRIGGER t AFTER UPDATE ON keys BEGIN UPDATE keys SET key = x'00' WHERE id = 10; END",
         )
         done = rotate("--table", "keys", database)
-        assert (done.status, done.has("row 10: bad length")) == (5, True)
+        assert done.status == 5
+        assert done.has("row 10: bad length")
 
     def test_refuses_what_is_no_database(self, tmp_path, database):
         (tmp_path / "file").write_bytes(b"no database" * 100)
         assert why(rotated(tmp_path / "file")).startswith("file is not a database")
         (tmp_path / "directory?%41").mkdir()
-        assert (
-            rotated(tmp_path / "none").moved == 1 and not (tmp_path / "none").exists()
-        )
+        assert rotated(tmp_path / "none").moved == 1
+        assert not (tmp_path / "none").exists()
         os.link(database, tmp_path / "second name")
         assert why(rotated(database)) == "not a regular file with one name"
 
@@ -345,7 +347,8 @@ class TestTable:
                 == 0
             )
             done = rotate("--table", "keys", database.parent)
-        assert (done.status, done.counts["keys"]) == (0, 36), done
+        assert done.status == 0, done
+        assert done.counts["keys"] == 36, done
         assert run_sql(database, "SELECT * FROM keys") == rows_under(NEW_KEK)
         assert (
             rotate(
@@ -386,10 +389,8 @@ class TestTable:
         path.write_bytes(content)
         for words in [], ["--verify"]:
             done = rotate(*words, "--table", "keys", path)
-            assert (done.status, done.has("database disk image is malformed")) == (
-                5,
-                True,
-            )
+            assert done.status == 5
+            assert done.has("database disk image is malformed")
 
 
 class TestWriters:
@@ -437,13 +438,16 @@ class TestWriters:
         assert rotated(database).moved == 1
         rotated(database)
         answer = rotated(database)
-        assert (answer.new, answer.keys, answer.moved) == (len(keys), len(keys), 0)
+        assert answer.new == len(keys)
+        assert answer.keys == len(keys)
+        assert answer.moved == 0
         assert run_sql(database, "SELECT * FROM keys") == rows_under(NEW_KEK, keys)
 
     @pytest.mark.parametrize("mode, seen", [("WAL", (12, 0)), ("DELETE", (11, 1))])
     def test_a_row_that_moves_meanwhile(self, database, monkeypatch, mode, seen):
         """Until it writes, a pass reads a log at one moment. Of a journal it knows that others wrote."""
-        real, move = sqlite.renewed_rows, "UPDATE keys SET id = 5 WHERE id = 120"
+        real = sqlite.renewed_rows
+        move = "UPDATE keys SET id = 5 WHERE id = 120"
         run_sql(database, f"PRAGMA journal_mode = {mode}")
         monkeypatch.setattr("keywrap_rotate.keys.ROWS", 2)
         monkeypatch.setattr(
@@ -474,10 +478,8 @@ class TestWriters:
             with monkeypatch.context() as patch:
                 patch.setattr(sqlite, "LOCK_SECONDS", 0.2)
                 answer = rotated(database)
-            assert (answer.lost, why(answer)) == (
-                1,
-                "another program has locked the database",
-            )
+            assert answer.lost == 1
+            assert why(answer) == "another program has locked the database"
             unlocking = threading.Timer(2, other.execute, ["COMMIT"])
             unlocking.start()
             assert rotate("--table", "keys", database) == 0
