@@ -575,7 +575,7 @@ class TestSessions:
         assert not rotated().has("older than this run")
 
     def test_a_schema_change_waits_for_no_pass(self, server):
-        """Also if the pass writes nothing."""
+        """Also if the pass writes nothing. Its end is said once, not for each range."""
         server.fill(rows(NEW_KEK, MANY))
         running = begun("--verify", "--jobs", "1", program=patched(SLOW_RANGES))
         query = "SELECT count(*) FROM pg_locks WHERE relation = 'keys'::regclass"
@@ -586,6 +586,9 @@ class TestSessions:
         done = end(running)
         assert done == 0, done
         assert done.counts["passes"] == 2, done
+        assert done.said[:-1] == [
+            "keywrap-rotate: keys: another session waits for its lock: the pass ends"
+        ]
 
 
 # Ranges of one block, each of which takes half a second.

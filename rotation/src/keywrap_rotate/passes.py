@@ -120,7 +120,10 @@ class Passes:
 
     def _take(self, name: str, found: Found) -> None:
         self.last.add(found)
-        if found.refused or found.lost:
+        if found.ends_pass:
+            # It concerns the store, and each unit at work would say so.
+            self.report.console.name("", found)
+        elif found.refused or found.lost:
             self.report.console.name(name, found)
         if name:
             self.report.line(

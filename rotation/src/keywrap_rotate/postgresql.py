@@ -14,7 +14,7 @@ import itertools
 import os
 import threading
 import time
-from typing import Any, Iterator, List, NamedTuple, Optional, Set
+from typing import Any, Iterator, List, NamedTuple, Optional, Set, Tuple
 
 from . import signs
 from .found import Found, PassEnds, Refused, Unanswered
@@ -131,7 +131,7 @@ class NotKept(Exception):
 #: What a row can be refused for. Others concern the whole table.
 _ROW_ERRORS = (NotKept, errors.IntegrityError, errors.DataError, errors.RaiseException)
 #: The connection of each thread of this process, since a new one takes longer than a unit of few rows; and the snapshot
-#: of the last pass that it ended.
+#: of the last pass that it ended, with the reason.
 _kept = threading.local()
 
 
@@ -244,8 +244,9 @@ class Postgresql:
 
     def do(self, unit: Unit, rings: Rings, may_write: bool, found: Found) -> None:
         snapshot, kind, first, last = unit.identity.split()
-        if snapshot == getattr(_kept, "ended", None):
-            raise PassEnds(f"{self.table}: the pass ended")
+        ended, why = getattr(_kept, "ended", ("", ""))
+        if snapshot == ended:
+            raise PassEnds(why)
         found.digest = self.digest
         try:
             with self._kept_connection() as connection:
@@ -254,8 +255,8 @@ class Postgresql:
                 )
                 self._rotate_rows(connection, kind, rings, may_write, found)
                 connection.execute("CLOSE rows")
-        except PassEnds:
-            _kept.ended = snapshot
+        except PassEnds as error:
+            _kept.ended = snapshot, str(error)
             raise
 
     def _rotate_rows(
@@ -410,6 +411,10 @@ class _Listing(Listing):
             name = os.fsencode(f"{self.store.table}: blocks from {at}")
             identity = f"{self.snapshot} {self.type} {at} {at + BLOCKS}"
             yield name, self.count // len(begins), identity, 0
+
+    def rest(self) -> Tuple[Iterator[Unit], int]:
+        """A snapshot has nothing new at the end of a pass."""
+        return iter(()), 0
 
     def note_open_transactions(self) -> None:
         open_now = self.store.run(self.connection, _OPEN)
