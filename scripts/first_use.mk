@@ -20,6 +20,7 @@ of.llvm.a = keywrap_c x86_64-unknown-linux-gnu llvm
 of.rattle.a = keywrap_c x86_64-unknown-linux-gnu rattle
 of.arm64.a = keywrap_c aarch64-unknown-linux-gnu llvm
 of.wasm64.a = keywrap_wasm wasm64-unknown-unknown llvm
+of.hw.a = keywrap_hw x86_64-unknown-linux-gnu llvm
 crate_of = $(firstword $(of.$(1)) $(1))
 # What each compiler takes: the check of this crate for this machine.
 check_of = $(word 1,$(of.$(1)))-for-$(word 2,$(of.$(1)))
@@ -70,10 +71,14 @@ rattle = cd 'crates/$(own)' && exec $(gently) '$(kit)/bin/rattle' $(1) --crate-n
     -L dependency='$(kit)/rlibs' -L dependency=../../$(kept) --antt-project '$(kit)/rattle/logic/antt-project.json' \
     --links $(own)= $(if $(of.$@),--crate-type staticlib --target $(word 2,$(of.$@)))
 proof = --logic-built '$(kit)/logic_built' --jobs $(jobs)
-compiled = --backend $(word 3,$(of.$@)) --toolchain '$(kit)/toolchain'
+# Over the leaves the compiler calls C.
+over_leaves = $(filter keywrap_hw,$(own))
+tools = $(if $(over_leaves),"$$LOGS/$@.toolchain",'$(kit)/toolchain')
+compiled = --backend $(word 3,$(of.$@)) --toolchain $(tools)
 is_proved = @mv "$$LOGS/$@.log" "$$LOGS/$@.proved"
 rlib = $(call rattle,build) $(proof) --statements -o ../../$(kept)/$@.rlib src/lib.rt
-archive = $(call rattle,build) --crate-checked "$$LOGS/$(call check_of,$@)" $(compiled) -o ../../$(kept)/$@ src/lib.rt
+archive = $(if $(over_leaves),generate/toolchain.sh $(tools) && )$(call rattle,build) \
+    --crate-checked "$$LOGS/$(call check_of,$@)" $(compiled) -o ../../$(kept)/$@ src/lib.rt
 ifneq ($(refused),)
 # It writes each archive to one path.
 .NOTPARALLEL:

@@ -315,6 +315,14 @@ class TestHere:
         run(sys.executable, OWN / "bugs.py", library / "libkeywrap.a")
 
 
+@evidence
+def test_rows_over_leaves(built):
+    """The exports of keywrap_hw, which are in no library yet, with c/aes in the place of the leaves."""
+    sources = [ROOT / "tests/rows.c", *sorted(AES.glob("*.c"))]
+    run("cc", *OPTIONS, *sources, built("hw.a"), "-o", "program")
+    faces.check("c", ["./program"], *kept(), "more")
+
+
 @pytest.fixture(scope="session")
 def programs(once, request):
     """programs("here") is the directory of the programs of a build, over its libkeywrap_hw.so.1."""

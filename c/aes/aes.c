@@ -33,6 +33,23 @@ void keywrap_aes_decrypt_many(const uint8_t *schedule, size_t len, uint8_t *bloc
     crypt_many(true, schedule, len, blocks, blocks_len);
 }
 
+/* 16 bytes at any address. */
+typedef uint64_t zeros __attribute__((vector_size(16), aligned(1), may_alias));
+
+/* gcc would make one slow instruction of memset. The empty asm keeps these stores. */
+static inline void write_zeros(uint8_t *memory, size_t len) {
+    for (size_t i = 0; i < len; i += 16) {
+        *(zeros *)(memory + i) = (zeros){0, 0};
+        __asm__ volatile("" : : "r"(memory) : "memory");
+    }
+}
+
+void keywrap_aes_clear(uint8_t room[SCHEDULE]) {
+    uint8_t cover[512];
+    write_zeros(room, SCHEDULE);
+    write_zeros(cover, sizeof cover);
+}
+
 /* FIPS 197, appendix C: 00112233445566778899aabbccddeeff under the keys that count from 00. */
 static const uint8_t CIPHERTEXTS[3][BLOCK] = {
     {0x69, 0xc4, 0xe0, 0xd8, 0x6a, 0x7b, 0x04, 0x30, 0xd8, 0xcd, 0xb7, 0x80, 0x70, 0xb4, 0xc5,

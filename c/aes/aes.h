@@ -32,6 +32,10 @@ void keywrap_aes_encrypt_many(const uint8_t *schedule, size_t len, uint8_t *bloc
 void keywrap_aes_decrypt_many(const uint8_t *schedule, size_t len, uint8_t *blocks,
                               size_t blocks_len);
 
+/* Clears the memory of a key schedule, and what the call that used it has left below this function's
+ * frame: the block of the last step, and words of it. */
+void keywrap_aes_clear(uint8_t room[SCHEDULE]);
+
 /* x86_64.c and aarch64.c have these, and the functions above for a KEK and for one block. The first
  * returns whether the processor has the instructions. The others work on whole groups of blocks. */
 bool keywrap_aes_has_instructions(void);

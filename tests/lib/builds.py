@@ -89,7 +89,7 @@ def built(once):
         run(
             ROOT / "tests/library/build.sh",
             directory,
-            *([] if name.endswith(".a") else [name]),
+            *([] if name in ("llvm.a", "rattle.a") else [name]),
         )
         return directory / name
 

@@ -1,0 +1,6 @@
+use Rattle.std.proofs.Common.{◌≡◌, refl}
+use Rattle.std.proofs.lemmas.List.Elements.{All-replicate}
+use Rattle.aes_leaves.proofs.key_room.KeyRoom.new.Goals as goal
+
+pub returns : goal.returns
+returns c = record { zeros = All-replicate (λ x. x ≡ 0) 240 0 refl }
