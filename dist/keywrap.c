@@ -21298,6 +21298,10 @@ static APART void keywrap_aes_encrypt_many(const uint8_t *schedule, size_t len, 
 static APART void keywrap_aes_decrypt_many(const uint8_t *schedule, size_t len, uint8_t *blocks,
                               size_t blocks_len);
 
+/* Clears the memory of a key schedule, and what the call that used it has left below this function's
+ * frame: the block of the last step, and words of it. */
+static APART void keywrap_aes_clear(uint8_t room[SCHEDULE]);
+
 /* x86_64.c and aarch64.c have these, and the functions above for a KEK and for one block. The first
  * returns whether the processor has the instructions. The others work on whole groups of blocks. */
 static APART bool keywrap_aes_has_instructions(void);
@@ -21686,6 +21690,23 @@ void keywrap_aes_encrypt_many(const uint8_t *schedule, size_t len, uint8_t *bloc
 void keywrap_aes_decrypt_many(const uint8_t *schedule, size_t len, uint8_t *blocks,
                               size_t blocks_len) {
     crypt_many(true, schedule, len, blocks, blocks_len);
+}
+
+/* 16 bytes at any address. */
+typedef uint64_t zeros __attribute__((vector_size(16), aligned(1), may_alias));
+
+/* gcc would make one slow instruction of memset. The empty asm keeps these stores. */
+static inline void write_zeros(uint8_t *memory, size_t len) {
+    for (size_t i = 0; i < len; i += 16) {
+        *(zeros *)(memory + i) = (zeros){0, 0};
+        __asm__ volatile("" : : "r"(memory) : "memory");
+    }
+}
+
+void keywrap_aes_clear(uint8_t room[SCHEDULE]) {
+    uint8_t cover[512];
+    write_zeros(room, SCHEDULE);
+    write_zeros(cover, sizeof cover);
 }
 
 /* FIPS 197, appendix C: 00112233445566778899aabbccddeeff under the keys that count from 00. */
