@@ -47,6 +47,16 @@ def calls_with_lanes():
     return re.findall(r"^pub fn (\w+)_lanes<", text, re.M)
 
 
+def with_lanes(text, call):
+    """The exports, of which one makes its call with lanes. rt fmt wants an argument a line."""
+    (arguments,) = re.findall(rf"with_leaves!\({call}, (.*)\)", text)
+    each = [f"{call}_lanes", call, *arguments.split(", ")]
+    lines = ",\n        ".join(each)
+    return text.replace(
+        f"with_leaves!({call}, {arguments})", f"with_lanes!(\n        {lines}\n    )"
+    )
+
+
 def over_leaves():
     """exports.rt over `aes_leaves`."""
     text = source("exports.rt")
@@ -65,9 +75,7 @@ def over_leaves():
     calls = re.sub(r"with_schedule!\(", "with_leaves!(", text[body:])
     calls = re.sub(r"with_schedules!\(", "with_both_leaves!(", calls)
     for call in calls_with_lanes():
-        calls = replaced(
-            rf"with_leaves!\({call}, ", f"with_lanes!({call}_lanes, {call}, ", calls
-        )
+        calls = with_lanes(calls, call)
     choice = (TOP / "generate/with_leaves.in").read_text(encoding="utf-8")
     return text[:body] + choice + calls
 

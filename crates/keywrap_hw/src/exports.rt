@@ -234,7 +234,15 @@ pub extern "C" fn keywrap_wrap_many(
     ensures { WrapsMany (aes_of kek.now)
         kek.now key_len flags texts.old texts.new statuses.old statuses.new result }
 {
-    with_lanes!(wrap_many_lanes, wrap_many, kek, texts, key_len, flags, statuses)
+    with_lanes!(
+        wrap_many_lanes,
+        wrap_many,
+        kek,
+        texts,
+        key_len,
+        flags,
+        statuses
+    )
 }
 
 /// Unwraps the wrapped key in each slot of a buffer.
@@ -249,7 +257,15 @@ pub extern "C" fn keywrap_unwrap_many(
     ensures { UnwrapsMany (aes_of kek.now) kek.now flags texts.old texts.new
         key_lens.old key_lens.new statuses.old statuses.new result }
 {
-    with_lanes!(unwrap_many_lanes, unwrap_many, kek, texts, flags, key_lens, statuses)
+    with_lanes!(
+        unwrap_many_lanes,
+        unwrap_many,
+        kek,
+        texts,
+        flags,
+        key_lens,
+        statuses
+    )
 }
 
 /// Rewraps the wrapped key in each slot of a buffer.
