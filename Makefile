@@ -1,7 +1,7 @@
 # Goals for developers. packaging/Makefile has the C library, what is installed and what is packed.
 
-# The program as it was built, which `make build` makes: without the kit it is the C of dist/.
-PROGRAM ?= $(if $(shell command -v rt)$(wildcard crates/keywrap/out/keywrap),crates/keywrap/out,dist)/keywrap
+# The program that ./keywrap runs.
+PROGRAM ?= $(or $(shell scripts/program.sh),$(error make $@ has no program))
 # The Python that builds the package for Python.
 PYTHON ?= python3
 
@@ -15,7 +15,8 @@ include packaging/Makefile
 
 # The times are of four processors, the first time; a second time takes seconds.
 define help_text
-make build              proves and builds the program, if its sources changed (5 to 10 minutes)
+make build              proves and builds the program with the kit, if its sources changed (5 to 10 minutes): then
+                        ./keywrap runs it, and not the translation in C
 make library            proves and builds the C library, as $(LIBRARY)/libkeywrap.a and $(shared) (5 minutes)
                         With HARDWARE=1 also libkeywrap_hw.a and .so, by the AES instructions of the processor
 make provider           builds the provider for OpenSSL 3, as $(PROVIDER)/keywrap.so: docs/OPENSSL.md (the library's
@@ -29,7 +30,8 @@ make go                 packs the Go module of dist/, as $(GO), which GOPROXY ca
 make sdist              packs the Python package with portable C, for pip to build elsewhere (5 seconds, no kit)
 make dist-sources       writes dist/, from which everyone builds without the kit: C, WebAssembly and Rust (10 minutes)
 make dist-rust          writes the proved code of the Rust crate there (1 second, no kit)
-make test               runs the tests of the built command and the libraries (5 minutes); with KEYWRAP_ALL=1 all (60)
+make test               runs the tests of the program and the libraries (5 minutes; with the kit 10, for their proofs);
+                        with KEYWRAP_ALL=1 all (60)
 make packages           installs the packages that the tests use: tests/packages.txt (5 minutes)
 make gate               make proofs: rt ci proves all from nothing and tries edits; then make test-all (2 hours)
 make evidence           runs what takes too long for the gate, and writes docs/evidence, before a release (hours)
@@ -63,7 +65,7 @@ version:
 	@echo '$(version)'
 
 build:
-	@./keywrap --version >/dev/null
+	$(needs_kit)@scripts/prove.sh keywrap
 
 # The scripts prove and build what is not built yet, and nothing else. Options of this make are not for those of tests.
 test:
@@ -72,8 +74,8 @@ test:
 packages:
 	scripts/packages.sh
 
-# The tests run the program that rt ci proved, and built by the compiler of the first use. The checksums come first: a
-# source that changes meanwhile then differs from them, and the launcher builds again.
+# The tests run the program that rt ci proved, and built by the compiler of `make build`. The checksums come first: a
+# source that changes meanwhile then differs from them.
 proofs:
 	$(needs_kit)built_from=$$(scripts/sources.sh) && rt ci && \
 	    { [ ! -e crates/keywrap/out/keywrap.by-rattle ] || \
@@ -98,8 +100,9 @@ dist-sources: dist-rust
 dist-rust:
 	$(PYTHON) generate/erase.py
 
-dist-command-sources:
-	$(needs_kit)generate/command_module.sh out/command.wasm
+# The first script takes the crates below the program as `make build` keeps them.
+dist-command-sources: build
+	generate/command_module.sh out/command.wasm
 	$(PYTHON) generate/command.py out/command.wasm dist/command
 
 # With BENCH=DIRECTORY it also writes DIRECTORY/*.csv; `make bench BENCH=docs/pictures` renews the data of the plots.

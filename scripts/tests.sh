@@ -16,8 +16,11 @@ for name in "$@"; do
     [ ! -e "tests/$name.sh" ] || file="tests/test_shell.py::test_rows[$name]"
     files+=("$file")
 done
-# The tests share the program, so it is built before the first test.
-[ -n "${KEYWRAP:-}" ] || ./keywrap --version || exit
+# The tests share the program, so it is there before the first test.
+program=${KEYWRAP:-$PWD/$(scripts/program.sh)} || exit
+version=$("$program" --version) || exit
+echo "testing $program: ${version//$'\n'/, }"
+export KEYWRAP=$program
 mkdir -p out && : >out/skipped || exit
 # The first Python that has pytest: Debian's need not be the first on the PATH.
 for python in "${PYTHON:-python3}" /usr/bin/python3; do

@@ -68,29 +68,32 @@ LONG = (
 def pytest_addoption(parser):
     parser.addoption("--skipped", help="a file for the reasons of what is skipped")
     parser.addoption(
-        "--passed", help="a file for the names of the rows that pass as a whole"
+        "--passed",
+        help="a file for the names of the rows that pass as a whole, whatever the program is",
     )
 
 
 def pytest_configure(config):
-    """Finds the program. It is never built here: that takes minutes."""
+    """Finds the program."""
     # A shell that starts pytest in the background has these ignored, and so would the program.
     for number in signal.SIGINT, signal.SIGTERM, signal.SIGHUP:
         if signal.getsignal(number) == signal.SIG_IGN:
             signal.signal(number, signal.SIG_DFL)
-    given = os.environ.get("KEYWRAP")
-    config.program = pathlib.Path(
-        given or ROOT / "crates/keywrap/out/keywrap"
-    ).absolute()
-    recorded = ["b2sum", "--check", "--status", "crates/keywrap/out/built_from"]
-    if not (given or hasattr(config, "workerinput")) and (
-        not config.program.exists()
-        or subprocess.run(recorded, cwd=ROOT, stderr=subprocess.DEVNULL).returncode
-    ):
-        pytest.exit(
-            "the program is not built of these sources: run ./keywrap --version, or name one by KEYWRAP=PATH",
-            returncode=1,
-        )
+    given = os.environ.get("KEYWRAP") or chosen_program()
+    config.program = pathlib.Path(given).absolute()
+
+
+def chosen_program():
+    """The program that ./keywrap runs. It is compiled from C if it was not yet."""
+    chosen = subprocess.run(
+        [ROOT / "scripts/program.sh"],
+        stdin=subprocess.DEVNULL,
+        stdout=subprocess.PIPE,
+        text=True,
+    )
+    if chosen.returncode:
+        pytest.exit("there is no program to test", returncode=1)
+    return ROOT / chosen.stdout.rstrip("\n")
 
 
 def pytest_collection_modifyitems(config, items):
@@ -117,6 +120,8 @@ def pytest_collection_modifyitems(config, items):
 
 def pytest_runtest_setup(item):
     item.stash[BEFORE] = os.times()
+    if "program_path" in item.fixturenames:
+        item.user_properties.append(("program", True))
     for mark in item.iter_markers("needs"):
         need(*mark.args)
 
@@ -141,7 +146,7 @@ def pytest_unconfigure(config):
             whole = [
                 report
                 for report in passed
-                if "skipped" not in dict(report.user_properties)
+                if not {"skipped", "program"} & {*dict(report.user_properties)}
             ]
             pathlib.Path(file).write_text(
                 "".join(f"{report.nodeid}\n" for report in whole)
@@ -189,9 +194,16 @@ def files(tmp_path, tmp_path_factory, monkeypatch):
 
 
 @pytest.fixture(scope="session")
-def keywrap(pytestconfig):
+def program_path(pytestconfig):
+    """The path of the program. A row that runs or packs the program has to depend on this fixture: --passed=FILE does
+    not name such rows, since another run tests another program."""
+    return pytestconfig.program
+
+
+@pytest.fixture(scope="session")
+def keywrap(program_path):
     """The program: keywrap("wrap --kek kek16.hex", stdin=KEY16) returns Ended(status, stdout, stderr)."""
-    return Program(pytestconfig.program)
+    return Program(program_path)
 
 
 @pytest.fixture(scope="session")

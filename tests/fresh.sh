@@ -1,11 +1,12 @@
 #!/usr/bin/env bash
-# Runs README's commands as a newcomer does: in a root directory with a minimal Debian, the packages that README names
-# and the kit, as a user who is not root, without a variable of this machine. Then runs the lines of each page of
-# without_kit.txt in such a directory without the kit. Whatever this machine cannot do is a failure.
+# Runs README's two commands as a newcomer does, without the kit and then with it: in a root directory with a minimal
+# Debian and the packages that README names, as a user who is not root, without a variable of this machine. Then runs
+# the lines of each page of without_kit.txt in such a directory without the kit. Whatever this machine cannot do is a
+# failure.
 #
 # usage: KEYWRAP_FRESH=1 tests/fresh.sh [PAGE..]        only these pages, if one is named. Without KEYWRAP_FRESH
-#        nothing is run. KEYWRAP_FRESH=DIRECTORY keeps the minimal Debian, the packages, what was proved there and the
-#        names of the rows that passed, and begins with what was kept
+#        nothing is run. KEYWRAP_FRESH=DIRECTORY keeps the minimal Debian, the packages, what was proved there for the
+#        libraries, and the names of the rows that passed, and begins with what was kept
 
 set -u
 # shellcheck source=tests/lib/workdir.sh
@@ -72,33 +73,53 @@ if [ ! -e "$fresh/minimal/etc/apt/apt.conf.d/machine" ]; then
     }
 fi
 
-### README, with the kit
+### README
 
 # beside_the_sources: what a run leaves in the clone, except what is built and Python's caches of the tests.
 beside_the_sources() {
     as_user "$workdir/machine" 'git -C keywrap status --porcelain --ignored' |
-        grep -vE '^!! (crates/[a-z0-9_]+/out|out|(generate|tests)(/.*)?/__pycache__|tests/.pytest_cache)/$'
+        grep -vE '^!! (crates/[a-z0-9_]+/out|out|(generate|tests)(/.*)?/__pycache__|tests/.pytest_cache)/$' |
+        grep -vxE '!! dist/keywrap(\.built_from)?'
 }
-readme() {
-    local last least
-    lines README.md 'With the kit' >commands
-    least=$(grep -oP '^make test .*at least \K[0-9,]+(?= tests)' commands | tr -d ,)
-    row 'README: how many tests run' test -n "$least"
-    row 'README: a clone' eval 'cp -a "$fresh/minimal/." machine && prepare "$workdir/machine" &&
-        cp -a "$fresh/built/." machine/home/user/keywrap/crates && ln -s "$kit/bin/rt" machine/usr/local/bin' || return
-    as_root "$workdir/machine" "$(head -n 1 commands)" >said 2>&1
-    verdict 'README: the packages' "$(problem $?)" || return
-    as_user "$workdir/machine" "TIMEFORMAT='%0R s, and %0U + %0S s of processor'
-        set -ex; cd keywrap; $(tail -n +2 commands | sed 's/^/time /')" >said 2>&1
-    verdict 'README: the commands' "$(problem $?)"
-    grep ' of processor$' said
-    sed -i '/ of processor$/d' said
+# typed COMMAND: runs it in the clone, and writes its output to `said`. The processor's seconds go to `spent`.
+typed() {
+    as_user "$workdir/machine" "TIMEFORMAT='%0R s, and %0U + %0S s of processor'; cd keywrap; time $1" >said 2>&1
+    verdict "README: $1" "$(problem $?)"
     tail -n 30 said
+    spent=$(grep -oP 's, and \K\d+ \+ \d+(?= s of processor$)' said)
+    sed -i '/ s of processor$/d' said
+}
+# make_test LEAST: no row fails, and at least as many run as README says.
+make_test() {
+    local last
+    typed 'make test'
     last=$(tail -n 1 said)
     verdict 'README: no row fails' "$([[ $last =~ ^[0-9]+\ passed,\ 0\ failed, ]] || echo "the last line is: $last")"
-    verdict "README: at least $least tests run" "$([ "${last%% *}" -ge "$least" ] 2>&1 || echo "$last")"
+    verdict "README: at least $1 tests run" "$([ "${last%% *}" -ge "$1" ] 2>&1 || echo "$last")"
     verdict 'README: what is left out is said in one line' "$(tail -n 2 said | grep -E '^.{121}|^SKIPPED')"
     verdict 'README: nothing is written beside the sources' "$(beside_the_sources)"
+}
+readme() {
+    local screen drill answer least
+    screen=$(sed '/^## /,$d' "$root/README.md")
+    drill=$(sed -n 's/^    \$ \(\.\/keywrap drill [0-9a-f]*\) .*/\1/p' <<<"$screen")
+    answer=$(grep -A 1 -F "$drill" <<<"$screen" | sed -n '2s/^    //p')
+    # Of the two lines of `make test` the first is without the kit.
+    mapfile -t least < <(grep -oP '^ +(\$ )?make test .*at least \K[0-9,]+(?= tests)' "$root/README.md" | tr -d ,)
+    row 'README: its lines' test -n "$answer" -a "${#least[@]}" = 2
+    row 'README: a clone' eval 'cp -a "$fresh/minimal/." machine && prepare "$workdir/machine"' || return
+    as_root "$workdir/machine" "$(lines README.md 'keywrap: AES Key Wrap, proved' | head -n 1)" >said 2>&1
+    verdict 'README: the packages' "$(problem $?)" || return
+
+    # On a quiet machine the time is less than that of the processor, since two compile side by side.
+    typed "$drill"
+    verdict 'README: the answer' "$(grep -qxF "$answer" said || echo "it is not $answer")"
+    verdict 'README: 20 seconds of a processor' "$([ $((spent)) -le 20 ] || echo "$spent")"
+    make_test "${least[0]}"
+
+    row 'README: with the kit' eval 'as_root "$workdir/machine" "apt-get install libssl-dev" &&
+        cp -a "$fresh/built/." machine/home/user/keywrap/crates && ln -s "$kit/bin/rt" machine/usr/local/bin' || return
+    make_test "${least[1]}"
     [ "$fresh" = "$workdir/fresh" ] ||
         (
             cd machine/home/user/keywrap && cp out/passed "$fresh"

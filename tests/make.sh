@@ -45,7 +45,8 @@ does() {
 tests='pytest -n 4 --skipped=out/skipped --passed=out/passed'
 of_all="$tests tests/test_command.py tests/test_shell.py"
 fresh
-does 'make test, the first use' 0 '42 passed, 0 failed, 1 skipped' make test -- "${steps[@]}" "$of_all"
+does 'make test, the first use' 0 '42 passed, 0 failed, 1 skipped' make test -- compiled "$of_all"
+row 'it names the program' grep -qxF "testing $tree/dist/keywrap: in C, 1 words: --version" wrote
 does 'one file' 0 '42 passed, 0 failed, 1 skipped' scripts/tests.sh command -- "$tests tests/test_command.py"
 does 'one script' 0 '42 passed, 0 failed, 1 skipped' scripts/tests.sh tests/make.sh -- \
     "$tests tests/test_shell.py::test_rows[make]"
@@ -54,8 +55,12 @@ lacks=xdist does 'without pytest-xdist' 0 '42 passed, 0 failed, 1 skipped' scrip
 counts='41 passed, 1 failed, 0 skipped' test_status=1 does 'a row that fails' 2 '41 passed, 1 failed, 0 skipped' \
     make test -- "$of_all"
 fresh
-at=aes_block event='exit 1' does 'make test, where a crate is not proved' 2 '' make test -- "${steps[@]:0:3}"
-at=aes_block event='exit 1' does 'the tests, where a crate is not proved' 70 '' scripts/tests.sh -- "${steps[2]}"
+append crates/aes_block/src/lib.rt
+does 'make test, where dist/command is of other sources' 2 '' make test --
+does 'the tests, where dist/command is of other sources' 70 '' scripts/tests.sh --
+make -s build 2>row.log
+does 'make test after make build' 0 '42 passed, 0 failed, 1 skipped' make test -- "$of_all"
+row 'it names the program of the kit' grep -q "^testing $tree/$program: child of" wrote
 
 ### make gate, and what CI runs
 
@@ -66,7 +71,7 @@ fresh
 at='a tree' event=$ci does 'make gate' 0 '42 passed, 0 failed, 1 skipped' make gate -- "${in_gate[@]}"
 same 'the gate comes first' 'a tree: ci' "$(head -n 1 notes)"
 does 'the program after the gate' 5 '' ./keywrap --
-verdict 'the program is by the compiler of the first use' "$(tail -n 1 $program | grep -v 'by the other compiler$')"
+verdict 'the program is by the compiler of make build' "$(tail -n 1 $program | grep -v 'by the other compiler$')"
 counts='41 passed, 1 failed, 0 skipped' test_status=1 at='a tree' event=$ci does 'a gate whose tests fail' 2 \
     '41 passed, 1 failed, 0 skipped' make gate -- "${in_gate[@]}"
 fresh
@@ -155,6 +160,12 @@ for prefix in '/opt/R&D' '/opt/a|b' '/opt/a\1b' '/opt/a/b'; do
     same "PREFIX='$prefix'" "prefix=$prefix" "$(head -n 1 "stage/$prefix/lib/pkgconfig/keywrap.pc")"
 done
 
+mkdir plain && ln -s /usr/bin/* plain && rm -f plain/python3
+PATH=$tree/plain does 'make install-command without python3' 2 '' $make install-command DESTDIR=nothing/ --
+row 'it says what to install' grep -q 'no python3: apt-get install python3' err
+row 'it installs nothing' [ ! -e nothing ]
+rm -r plain
+
 ### For another machine
 
 arm=TARGET=aarch64-unknown-linux-gnu
@@ -221,7 +232,7 @@ does 'make js' 0 "$PWD/out/js" $make js --
 mkdir -p "${archive%/*}" && echo kept | tee kept.a >$archive
 # The module of the program needs the kit's LLVM: tests/test_command.py compares it with what is kept.
 echo ':' >generate/command_module.sh
-does 'make dist-sources' 0 '' $make dist-sources -- "${wasm[@]}"
+does 'make dist-sources' 0 '' $make dist-sources -- "${steps[@]}" "${wasm[@]}"
 verdict 'make dist-sources leaves the archive of the C library' "$(cmp $archive kept.a 2>&1)"
 rm $archive kept.a
 

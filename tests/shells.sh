@@ -7,10 +7,9 @@
 set -u
 # shellcheck source=tests/lib/workdir.sh
 . "${BASH_SOURCE[0]%/*}/lib/workdir.sh"
-# The built program starts faster than ./keywrap.
 [[ ${KEYWRAP:-/} = /* ]] || KEYWRAP=$OLDPWD/$KEYWRAP
-program=${KEYWRAP:-$root/crates/keywrap/out/keywrap}
-"${KEYWRAP:-$root/keywrap}" --version >/dev/null || {
+program=${KEYWRAP:-$root/$("$root/scripts/program.sh")}
+"$program" --version >/dev/null || {
     failed=1
     finish
     exit

@@ -129,6 +129,7 @@ def test_damaged_decryption(keywrap):
 
     Eight of the places of InvShiftRows are in the program, and only its decryption uses them.
     """
+    keywrap.need_kit()
     program, places = pathlib.Path(keywrap.path).read_bytes(), raw("000d0a0704010e0b")
     assert places in program
     pathlib.Path("damaged").write_bytes(program.replace(places, places[::-1]))

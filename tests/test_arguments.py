@@ -10,7 +10,7 @@ import unicodedata
 import pytest
 
 from commands import table
-from program import Ended, refused, words
+from program import IN_C, Ended, refused, words
 from vectors import IV, RESERVED_IV
 
 ROOT = pathlib.Path(__file__).resolve().parent.parent
@@ -192,9 +192,6 @@ def follows(keywrap, examples):
         text=True,
         timeout=600,
     ).stdout
-
-
-IN_C = "built from C (dist/command)\n"
 
 
 class TestHelp:

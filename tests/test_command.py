@@ -13,7 +13,7 @@ import pytest
 
 from builds import run
 from commands import ANSWERS, REFUSALS
-from program import SLOW, Ended, Program, all_of, evidence, slow
+from program import IN_C, SLOW, Ended, Program, all_of, evidence, slow
 from test_random_arguments import Lines, make_files, state
 from tools import need
 from vectors import VECTOR_LINES
@@ -121,6 +121,12 @@ def test_is_of_these_sources():
     )
 
 
+def test_checksum_by_sh():
+    """The launcher needs no Python: scripts/sources.sh prints the same checksum as generate/command.py."""
+    printed = run(ROOT / "scripts/sources.sh", "--of-translation")
+    assert printed == run(sys.executable, ROOT / "generate/command.py", "--sources")
+
+
 def test_drill(in_c):
     assert run(in_c, *DRILL.split()) == f"{DRILLED}\n"
 
@@ -128,9 +134,7 @@ def test_drill(in_c):
 def test_version(in_c, keywrap):
     """A second line says that this is the program in C."""
     one, other = keywrap("--version"), Program(in_c)("--version")
-    assert other == one._replace(
-        stdout=one.stdout.splitlines(True)[0] + "built from C (dist/command)\n"
-    )
+    assert other == one._replace(stdout=one.stdout.splitlines(True)[0] + IN_C)
     assert Program(in_c)("wrap --version").stdout == one.stdout.splitlines(True)[0]
 
 

@@ -113,7 +113,7 @@ def test_installed_in_use_and_removed(debs):
     )[0]
     lines = [line.removeprefix("    ") for line in example.splitlines()]
     typed = [
-        line[2:].replace("dist/keywrap", "keywrap")
+        line[2:].replace("./keywrap", "keywrap")
         for line in lines
         if line.startswith("$ ")
     ]

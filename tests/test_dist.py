@@ -87,14 +87,12 @@ class TestWhole:
         copy = shutil.copytree(dist, "copy")
         run("bash", "-ec", "\n".join(lines), cwd=copy)
 
-    def test_same_elsewhere(self, dist, built, python, pytestconfig):
+    def test_same_elsewhere(self, dist, built, python, program_path):
         """make dist in a copy of the tree, of another path, umask, time and -j, gives the same checksums."""
-        tree = copied_tree(
-            pathlib.Path("another"), pytestconfig.program, built("llvm.a")
-        )
+        tree = copied_tree(pathlib.Path("another"), program_path, built("llvm.a"))
         run("find", tree, "-exec", "touch", "-d", "2001-02-03", "{}", "+")
         words = [
-            f"PROGRAM={pytestconfig.program}",
+            f"PROGRAM={program_path}",
             f"ARCHIVE={built('llvm.a')}",
             "-o",
             "build",

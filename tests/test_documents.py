@@ -243,7 +243,7 @@ class TestRepeatedFacts:
         other file repeats it."""
         version = text_of("VERSION").strip()
         assert re.fullmatch(r"\d+\.\d+\.\d+(-dev)?", version)
-        assert keywrap("--version").stdout == f"keywrap {version}\n"
+        assert keywrap("--version").stdout.splitlines()[0] == f"keywrap {version}"
         newest, date = re.search(
             r"^## (\S+)(?: \((\d{4}-\d\d-\d\d)\))?$", text_of("CHANGELOG.md"), re.M
         ).groups()
@@ -280,20 +280,23 @@ class TestRepeatedFacts:
             assert answer in " ".join(page.split())
 
     def test_times(self):
-        """README has the launcher's time of the first build; the help of make has both, and that of `make test`."""
+        """README has the time of the launcher, of `make build` and of `make test`, as they say themselves."""
         readme = text_of("README.md")
+        (compiling,) = re.findall("# builds it by cc first: (.* seconds)", readme)
+        assert f"{compiling} the first time" in text_of("scripts/program.sh")
         (build,) = re.findall(
-            "# first proves and builds the program: (.* minutes)", readme
+            "# proves and builds the program, .*: (.* minutes)", readme
         )
-        (tests,) = re.findall(
-            r"make test +# (\d+) minutes on four processors: at least [0-9,]+ tests$",
+        assert f"program, {build} the first time" in text_of("scripts/prove.sh")
+        goals = text_of("Makefile")
+        assert re.search(rf"^make build  .* \({build}\)", goals, re.M)
+        without, with_kit = re.findall(
+            r"make test +# (?:.*, )?(\d+) minutes.*: at least [0-9,]+ tests$",
             readme,
             re.M,
         )
-        assert f"program, {build} the first time" in text_of("keywrap")
-        goals = text_of("Makefile")
-        assert re.search(rf"^make build  .* \({build}\)$", goals, re.M)
-        assert re.search(rf"^make test  .* \({tests} minutes\);", goals, re.M)
+        times = f"({without} minutes; with the kit {with_kit}, for their proofs)"
+        assert f"runs the tests of the program and the libraries {times}" in goals
 
     @pytest.mark.needs("rt")
     def test_kit(self):

@@ -143,6 +143,7 @@ def fields(request, name):
     }
 
 
+@pytest.mark.usefixtures("program_path")
 @pytest.mark.parametrize("name, field, value", rows("fields"))
 def test_field(request, name, field, value):
     assert fnmatch.fnmatchcase(fields(request, name).get(field, "(none)"), value)

@@ -129,6 +129,9 @@ class TestStreams:
     @each(ANSWERED)
     def test_output_that_takes_some_bytes(self, keywrap, command):
         """If the output accepts some bytes, this prefix of the answer is written, and the refusal counts it."""
+        if command.name == "version":
+            # The program in C writes a second line apart from the first.
+            keywrap.need_kit()
         size, whole = len(command.stdout), Ended(command.status, "", command.stderr)
         counts = {
             0,

@@ -22,8 +22,8 @@ from test_handed_out import expected
     "Python.h",
     "<openssl/evp.h>",
 )
-def test_packages(built, pytestconfig, tmp_path):
-    tree = copied_tree(tmp_path, pytestconfig.program, built("llvm.a"))
+def test_packages(built, program_path, tmp_path):
+    tree = copied_tree(tmp_path, program_path, built("llvm.a"))
     options = [
         "--define",
         f"of_rpm {NAMES['DEBIAN']}",

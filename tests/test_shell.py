@@ -20,7 +20,7 @@ HERE = pathlib.Path(__file__).resolve().parent
         sorted(path.stem for path in HERE.glob("*.sh")), ["fresh", "launcher", "shells"]
     ),
 )
-def test_rows(name, pytestconfig, record_property):
+def test_rows(name, program_path, record_property):
     env = {
         key: value for key, value in os.environ.items() if not key.startswith("PYTEST_")
     }
@@ -30,7 +30,7 @@ def test_rows(name, pytestconfig, record_property):
         stdout=subprocess.PIPE,
         text=True,
         stderr=subprocess.STDOUT,
-        env={**env, "KEYWRAP": str(pytestconfig.program)},
+        env={**env, "KEYWRAP": str(program_path)},
     )
     passed, failed, reasons = counting.of_script(ended.stdout, ended.returncode)
     record_property("passed", passed)

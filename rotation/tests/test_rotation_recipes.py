@@ -19,7 +19,7 @@ from rotation_help import KEK, wrapped_under
 ROOT = pathlib.Path(__file__).resolve().parents[2]
 PAGE = (ROOT / "docs/ROTATION.md").read_text(encoding="utf-8")
 SECTIONS = PAGE.split("\n## ")
-PROGRAM = os.environ.get("KEYWRAP") or str(ROOT / "crates/keywrap/out/keywrap")
+PROGRAM = os.environ.get("KEYWRAP") or str(ROOT / "keywrap")
 
 
 @pytest.fixture

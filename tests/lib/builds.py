@@ -219,12 +219,12 @@ def prefix(once, words):
 
 
 @pytest.fixture(scope="session")
-def dist(once, words, built, python, pytestconfig):
+def dist(once, words, built, python, program_path):
     """The directory of `make dist` for this machine."""
     need("rt", "musl-gcc")
 
     def build(directory):
-        made = [f"PROGRAM={pytestconfig.program}", f"JS={directory.parent}/dist.js"]
+        made = [f"PROGRAM={program_path}", f"JS={directory.parent}/dist.js"]
         run(
             "make",
             "-s",
@@ -275,7 +275,7 @@ def rotate_wheel(once, python):
 
 
 @pytest.fixture(scope="session")
-def debs(once, built, pytestconfig):
+def debs(once, built, program_path):
     """Debian's packages, built in tree/ over the program and the archive, and log."""
     need(
         "dpkg-buildpackage",
@@ -290,7 +290,7 @@ def debs(once, built, pytestconfig):
     )
 
     def build(directory):
-        tree = copied_tree(directory, pytestconfig.program, built("llvm.a"))
+        tree = copied_tree(directory, program_path, built("llvm.a"))
         shutil.copytree(tree / "packaging/debian", tree / "debian")
         path = f"{directory}/bin:/usr/sbin:/usr/bin:/sbin:/bin"
         log = run(
@@ -329,7 +329,7 @@ def unpacked(archive, directory):
 
 
 @pytest.fixture
-def thing(request, once):
+def thing(request, once, program_path):
     """thing("wheel") is the directory with all of its files, as a user has it. Each test has its own request: pytest
     fails if a request asks twice for a fixture that was skipped."""
 
@@ -344,7 +344,7 @@ def thing(request, once):
                 *request.getfixturevalue("words"),
                 f"DESTDIR={directory}",
                 "prefix=",
-                f"PROGRAM={request.config.program}",
+                f"PROGRAM={program_path}",
                 "-o",
                 "build",
                 *more,

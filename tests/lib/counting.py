@@ -43,6 +43,11 @@ def of_reports(passed, failed, skipped):
     return rows_passed, rows_failed, reasons
 
 
+def needs_kit(reason):
+    """Whether a skipped row needs the kit, or the program that it builds."""
+    return re.search(r"\bno (rt|program of the kit)\b", reason) is not None
+
+
 def summary(passed, failed, reasons):
     """The last lines of a run."""
     slow = reasons.count(SLOW)
@@ -53,6 +58,7 @@ def summary(passed, failed, reasons):
         later = "make evidence" if ALL else "KEYWRAP_ALL=1 make test"
         text += f", {slow} slow left to {later}"
     if skipped:
-        hint = "make packages installs what the others need, out/skipped names it"
-        text = f"{ran:,} of {ran + skipped:,} rows ran; {hint}\n{text}"
+        of_kit = sum(map(needs_kit, reasons))
+        hint = "make packages installs what the rest needs: out/skipped"
+        text = f"{ran:,} of {ran + skipped:,} rows ran; {of_kit} of the others need the kit, {hint}\n{text}"
     return text

@@ -2,6 +2,7 @@
 
 import concurrent.futures
 import contextlib
+import functools
 import os
 import pathlib
 import resource
@@ -41,6 +42,8 @@ class Ended(NamedTuple):
 
 # Instead of a standard stream: a closed one, and a pipe without a reader.
 CLOSED, UNREAD = object(), object()
+# The last line of --version, if the program is the one in C.
+IN_C = "built from C (dist/command)\n"
 # The options of a run with pipes.
 PIPES = dict.fromkeys(("stdin", "stdout", "stderr"), subprocess.PIPE)
 # The descriptors that each run inherits.
@@ -95,6 +98,15 @@ class Program:
 
     def __init__(self, path):
         self.path = str(path)
+
+    @functools.cached_property
+    def is_in_c(self):
+        return self("--version").stdout.endswith(IN_C)
+
+    def need_kit(self):
+        """Skips the test if this is the program in C."""
+        if self.is_in_c:
+            pytest.skip("no program of the kit: make build")
 
     def __call__(
         self, args=(), *more, stdin=None, stdout=None, stderr=None, text=True, **options

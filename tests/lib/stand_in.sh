@@ -1,6 +1,7 @@
 # shellcheck shell=bash disable=SC2034,SC2154
 # A small tree of this repository, which is also a fake kit: its rt and rattle prove nothing and record their calls.
-# Sourced, it goes to the tree, whose path holds a space, and whose rt is the first on the PATH.
+# Sourced, it goes to the tree, whose path holds a space, and whose rt is the first on the PATH. Its cc, the fake
+# compiler of the program in C, records its calls, too.
 #
 # SH=PATH has another shell than /bin/sh run the launcher.
 
@@ -14,7 +15,7 @@ rm -f dist/keywrap dist/keywrap.built_from
 cp "$root/tests/library/build.sh" tests/library
 # The completions are made of its tables.
 cp -R "$root/crates/keywrap_args" crates
-sed -i "1s|.*|#!${SH:-/bin/sh}|" keywrap
+sed -i "1s|.*|#!${SH:-/bin/sh}|" keywrap scripts/program.sh scripts/sources.sh
 # crates LINE..: writes crates.txt, and makes a directory for each crate that has none yet.
 crates() {
     local crate
@@ -28,6 +29,11 @@ crates() {
 crates block_pair: 'aes_block: block_pair byteorder' 'keywrap_c staticlib: block_pair aes_block' \
     'keywrap_wasm staticlib: block_pair aes_block' \
     'keywrap: block_pair aes_block clap'
+# translate: dist/command is the translation of these crates.
+translate() {
+    printf '/*\n * Of the sources %s.\n */\n' "$(python3 generate/command.py --sources)" >dist/command/program.c
+}
+translate
 echo 1.2.3-dev >VERSION
 program=crates/keywrap/out/keywrap archive=crates/keywrap_c/out/libkeywrap_c.a
 export tree=$PWD helpers=$root/tests/lib/expect.sh PATH=$PWD/bin:$PATH TMPDIR=$PWD/tmp TERM=xterm processors=4
@@ -35,9 +41,8 @@ unset MAKEFLAGS MAKELEVEL TESTS KEYWRAP KEYWRAP_ARCHIVES KEYWRAP_BUILT KEYWRAP_A
 exec 9<&-
 
 # The fake rt and rattle: in the crates that the pattern $at names they run $event, with $launcher as the process above
-# their make, and wait until the file $screen says that no other crate is being built. Each program and archive that
-# they build is another. The program prints its caller and its arguments, and the path of descriptor 9 if it is open.
-# The notes have two of rattle's words, and the file words.CRATE has all.
+# their make. Each program and archive that they build is another. The program prints its caller and its arguments, and
+# the path of descriptor 9 if it is open. The notes have two of rattle's words, and the file words.CRATE has all.
 install -m 755 /dev/stdin bin/rt <<'END_OF_RT'
 #!/bin/bash
 . "$helpers"
@@ -60,7 +65,6 @@ trap 'echo "ended $crate" >>"$tree/notes"; exit 143' INT TERM
 echo "$crate: $words" >>"$tree/notes"
 echo "the first line of $crate"
 echo 'the second line' >&2
-[ -z "${screen:-}" ] || until_true grep -q "at work: $crate" "$screen"
 [[ ! $crate =~ ^(${at:-})$ ]] || eval "$event"
 install -D -m 755 /dev/stdin "$output" <<END_OF_PROGRAM
 #!/bin/sh
@@ -79,6 +83,15 @@ printf '%s\n' "$@" >"$tree/words.link"
 while [ "$1" != -o ]; do shift; done
 install -m 755 "$3" "$2"
 END_OF_LINK
+# It fails if there is a file `broken`.
+install -m 755 /dev/stdin bin/cc <<'END_OF_CC'
+#!/bin/sh
+[ ! -e "$tree/broken" ] || { echo 'error: of the compiler' >&2 && exit 1; }
+while [ "$1" != -o ]; do shift; done
+[ "$2" != keywrap ] || echo compiled >>"$tree/notes"
+printf '#!/bin/sh\necho "in C, $# words: $*"; readlink /proc/$$/fd/9\n[ "$1" = --version ] || exit 5\n' >"$2"
+chmod +x "$2"
+END_OF_CC
 install -m 755 /dev/stdin bin/nproc <<'END_OF_NPROC'
 #!/bin/sh
 echo "$processors"

@@ -16,19 +16,7 @@ for name in llvm.a rattle.a; do [ -e "$1/$name" ] || archives+=("$name"); done
 ! is_asked hw.a hw.a || archives+=(hw.a)
 [ ${#archives[@]} -gt 0 ] || exit 0
 
-# The launcher locks the same directory, in which what is proved is kept.
-LOGS=$(mktemp -d) && export LOGS && trap 'rm -rf "$LOGS"' EXIT && exec 8<crates/keywrap && flock 8 || exit
-jobs=$(nproc) && [ "$jobs" -le 4 ] || jobs=4
-crates=$(sed -n 's/^keywrap_[a-z]* staticlib: *//p' crates.txt | tr ' ' '\n' | sort -u | paste -sd ' ')
-make -s -f scripts/first_use.mk -j "$((jobs + 2))" JOBS="$jobs" CRATES="$crates" ARCHIVES="${archives[*]}" \
-    "${archives[@]}" || {
-    cat "$LOGS"/*.log >&2
-    exit 1
-}
-for name in "${archives[@]}"; do
-    cp "crates/keywrap/out/kept/$name" "$1/new" && mv "$1/new" "$1/$name" || exit
-done
-exec 8<&-
+scripts/prove.sh "$1" "${archives[@]}" || exit
 
 [[ " ${archives[*]} " != *' arm64.a '* ]] || make -s library TARGET=aarch64-unknown-linux-gnu LIBRARY="$1/arm64" \
     ARCHIVE="$1/arm64.a" || rm -rf "$1/arm64"

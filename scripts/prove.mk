@@ -1,14 +1,14 @@
-# Proves crates side by side, each after the crates below it, and then builds the program, for the launcher, or archives
-# of the C library, for tests/library/build.sh. They call this from the top of the repository.
+# Proves crates side by side, each after the crates below it, and then builds the program or archives of the C library.
+# scripts/prove.sh calls this from the top of the repository.
 #
 # It calls the kit's compiler, rattle, as `rt ci` does. So a crate loads what the crates below it state, and not their
 # proofs: loading these takes long, and `rt lib` has no option to leave them out.
 #
 # A kit that refuses the options of `rattle` here proves and builds by `rt lib`: that takes longer.
 #
-# CRATES are the crates below the goals that have a directory here, ARCHIVES the goals of build.sh, and JOBS is the
-# greatest number of jobs of rattle. The directory LOGS, of the environment, gets the output for crates/NAME: NAME.log
-# while rattle works on it and if it fails, and NAME.proved afterwards.
+# CRATES are the crates below the goals that have a directory here, ARCHIVES the goals that are archives, and JOBS is
+# the greatest number of jobs of rattle. The directory LOGS, of the environment, gets the output for crates/NAME:
+# NAME.log while rattle works on it and if it fails, and NAME.proved afterwards.
 #
 # Rattle's own compiler compiles the program: clang takes a minute and a half, and the result is not faster. The gate
 # runs both.
