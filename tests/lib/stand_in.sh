@@ -10,7 +10,7 @@
 
 mkdir -p 'a tree'/{bin,tmp,tests/library,crates} && cd 'a tree' || exit
 cp -R "$root"/{.ci,keywrap,Makefile,c,command,packaging,generate,scripts,python,rotation,docs,java} .
-cp -R "$root"/{js,dist} "$root"/{SECURITY,CHANGELOG}.md .
+cp -R "$root"/{js,dist,theory} "$root"/{SECURITY,CHANGELOG}.md .
 rm -f dist/keywrap dist/keywrap.built_from
 cp "$root/tests/library/build.sh" tests/library
 # The completions are made of its tables.
