@@ -49,11 +49,15 @@ def calls_with_lanes():
 
 def with_lanes(text, call):
     """The exports, of which one makes its call with lanes. rt fmt wants an argument a line."""
-    (arguments,) = re.findall(rf"with_leaves!\({call}, (.*)\)", text)
+    ((macro, arguments),) = re.findall(
+        rf"with_(leaves|both_leaves)!\({call}, (.*)\)", text
+    )
     each = [f"{call}_lanes", call, *arguments.split(", ")]
     lines = ",\n        ".join(each)
+    with_lanes = macro.replace("leaves", "lanes")
     return text.replace(
-        f"with_leaves!({call}, {arguments})", f"with_lanes!(\n        {lines}\n    )"
+        f"with_{macro}!({call}, {arguments})",
+        f"with_{with_lanes}!(\n        {lines}\n    )",
     )
 
 

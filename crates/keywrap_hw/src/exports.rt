@@ -68,11 +68,18 @@ macro_rules! with_lanes {
 // Makes a call under two KEKs in the same way.
 macro_rules! with_both_leaves {
     ($call:ident, $($argument:expr),*) => {{
+        with_both_lanes!($call, $call, $($argument),*)
+    }};
+}
+
+// Does so for a call that works on many blocks at once by the leaves.
+macro_rules! with_both_lanes {
+    ($lanes:ident, $call:ident, $($argument:expr),*) => {{
         if available() {
             let mut old_room = KeyRoom::new();
             let mut new_room = KeyRoom::new();
             let rooms = (&mut old_room, &mut new_room);
-            let status = keywrap_calls::$call::<LeafAes>(rooms, $($argument),*);
+            let status = keywrap_calls::$lanes::<LeafAes>(rooms, $($argument),*);
             old_room.clear();
             new_room.clear();
             status
