@@ -2,3 +2,8 @@
 mod Legal
 pub mod Turns
 pub mod Finished
+pub mod Fronts
+pub mod Moves
+pub mod Placing
+pub mod Passing
+pub mod KindEnds

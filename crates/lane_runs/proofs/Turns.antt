@@ -21,7 +21,7 @@ pub none_done : (S : ℕ → List ℕ → List ℕ → Type 0) (n : ℕ) (xs : L
 none_done S n xs = record { done = λ j below. absurd (omega arith); left = λ j from. refl; size = refl }
 
 -- a part within the first bytes of a buffer
-part_before : (n i : ℕ) (xs ys : List ℕ) → n * i + n ≤ length xs → part_at n i (xs ++ ys) ≡ part_at n i xs
+pub part_before : (n i : ℕ) (xs ys : List ℕ) → n * i + n ≤ length xs → part_at n i (xs ++ ys) ≡ part_at n i xs
 part_before n i xs ys room =
     ap (take n) (drop-append-le (n * i) xs ys (omega arith))
     ∙ take-append-le n (drop (n * i) xs) ys (omega (arith, length-drop (n * i) xs))
@@ -32,7 +32,7 @@ part_behind n first i xs =
     ap (take n) (drop-drop (n * i) (n * first) xs ∙ ap (λ (k : ℕ). drop k xs) (sym (mul-add n first i)))
 
 -- the room for a part that is one of m
-within : (n i m : ℕ) → i < m → n * i + n ≤ n * m
+pub within : (n i m : ℕ) → i < m → n * i + n ≤ n * m
 within n i m below =
     let next : i + 1 ≤ m = omega arith in
     omega (arith, mul-le-mul_left n next)

@@ -1,2 +1,4 @@
 -- The definitions.
 pub mod Texts
+pub mod Kinds
+pub mod Rewraps

@@ -71,7 +71,12 @@ fn unwrap_turn<B: BlockLanes>(
 }
 
 // Undoes all steps of each text: no step is left, and its unwrapping has to be ended.
-fn undo_lanes<B: BlockLanes>(pair: &B, texts: &mut [u8], text_len: usize, blocks: &mut [u8])
+pub(crate) fn undo_lanes<B: BlockLanes>(
+    pair: &B,
+    texts: &mut [u8],
+    text_len: usize,
+    blocks: &mut [u8],
+)
     requires { AreLanes text_len texts.old blocks.old }
     ensures { (i : ℕ) → i < length blocks.old / 16
         → UnwrapState (B.encrypted pair.now) (part_at text_len i texts.old) 0
