@@ -10,3 +10,4 @@ pub mod Endings
 pub mod Slots
 pub mod RewrapCalls
 pub mod Lanes
+pub mod LaneKinds

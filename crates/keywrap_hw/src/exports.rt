@@ -287,7 +287,15 @@ pub extern "C" fn keywrap_rewrap_many(
     ensures { RewrapsMany (aes_of old_kek.now) (aes_of new_kek.now)
         old_kek.now new_kek.now flags texts.old texts.new statuses.old statuses.new result }
 {
-    with_both_leaves!(rewrap_many, old_kek, new_kek, texts, flags, statuses)
+    with_both_lanes!(
+        rewrap_many_lanes,
+        rewrap_many,
+        old_kek,
+        new_kek,
+        texts,
+        flags,
+        statuses
+    )
 }
 
 /// Finds the form of the wrapped key in each slot of a buffer, and the length of its key.
@@ -304,7 +312,16 @@ pub extern "C" fn keywrap_kind_many(
         forms.old forms.new key_lens.old key_lens.new statuses.old statuses.new result }
     ensures cleared { IsDone result → All (λ byte. byte ≡ 0) scratch.new }
 {
-    with_leaves!(kind_many, kek, texts, scratch, forms, key_lens, statuses)
+    with_lanes!(
+        kind_many_lanes,
+        kind_many,
+        kek,
+        texts,
+        scratch,
+        forms,
+        key_lens,
+        statuses
+    )
 }
 
 /// Keeps a KEK for any number of calls.
