@@ -36,8 +36,8 @@ text { fill: #e6edf3 }
 .ours_bar { fill: #58a6ff; stroke: #58a6ff }
 }"""
 NAMES = {
-    "keywrap": "keywrap",
-    "hardware": "keywrap_hw",
+    "keywrap": "keywrap (kit)",
+    "hardware": "keywrap_hw (kit)",
     "openssl": "OpenSSL",
     "nettle": "nettle",
     "gcrypt": "libgcrypt",
@@ -51,11 +51,14 @@ DASHES = {
     "nettle": "8 3 2 3",
     "nettle, AES inst.": "1 3",
     "libgcrypt": "5 5",
-    "keywrap_hw": "14 3",
+    "keywrap (kit)": "5 2",
+    "keywrap_hw (kit)": "14 3",
     "portable C": "2 6",
     "portable C, AES inst.": "10 2 2 2",
 }
-LEFT, PLOT, HEIGHT = 44, 280, 190
+# What whoever reads README can build: in bold.
+WITHOUT_KIT = ("portable", "portable_hw")
+LEFT, PLOT, HEIGHT = 44, 266, 190
 
 
 class Drawing:
@@ -183,7 +186,7 @@ def label_of(row):
 def curve(drawing, row, points, label_y):
     """The curve of one library, and its label, with a line from its end."""
     name, label = NAMES[row["library"]], label_of(row)
-    is_ours = name.startswith("keywrap")
+    is_ours = row["library"] in WITHOUT_KIT
     dash = DASHES.get(label, DASHES.get(name))
     drawing.line("ours" if is_ours else "curve", *points, dash=dash)
     x, y = points[-1]
