@@ -35,6 +35,26 @@ def test_portable_package_takes_the_place_of_the_other():
     )
 
 
+@pytest.mark.needs("dh", "dpkg-buildpackage")
+def test_documents_of_portable_package():
+    """The changelog is Debian's, since CHANGELOG.md has another form, and a copyright file says what may be done."""
+    run("make", "-s", "-C", ROOT, "dist-deb", f"DIST={os.getcwd()}")
+    run("sh", "-c", "dpkg-source -x keywrap-portable_*.dsc package")
+    run("dh_installdocs", cwd="package")
+    run("debian/rules", "override_dh_installchangelogs", cwd="package")
+    documents = pathlib.Path(
+        "package/debian/keywrap-portable/usr/share/doc/keywrap-portable"
+    )
+    assert sorted(os.listdir(documents)) == [
+        "CHANGELOG.md",
+        "SECURITY.md",
+        "changelog",
+        "copyright",
+    ]
+    first, *_ = (documents / "changelog").read_text().splitlines()
+    assert re.fullmatch(r"keywrap-portable \(\S+\) unstable; urgency=\w+", first)
+
+
 def test_packages(debs):
     assert {*debs.glob("*.deb")} == {package_of(debs, name) for name in PACKAGES}
 

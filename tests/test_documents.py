@@ -175,13 +175,16 @@ def test_map():
 
 class TestRepeatedFacts:
     def test_no_licence(self):
-        """README says that there is no licence, and no file gives one."""
+        """README says that there is no licence, as does the copyright file of Debian's package, and no file gives one."""
         words = (
             "There is no release and no licence: you may not copy, change or share it."
         )
-        assert words in " ".join(text_of("README.md").split())
+        copyright_file = "packaging/debian-portable/copyright"
+        for name in "README.md", copyright_file:
+            assert words in " ".join(text_of(name).split()), name
         is_licence = re.compile(r"(?i)licen[cs]e|copying|copyright$").match
-        assert [name for name in tracked() if is_licence(name.split("/")[-1])] == []
+        found = [name for name in tracked() if is_licence(name.split("/")[-1])]
+        assert found == [copyright_file]
         for name in (
             "python/pyproject.toml",
             "python/setup.py",
