@@ -121,7 +121,7 @@ class Done:
         self.printed = printed.decode()
         self.said = said.decode("utf-8", "backslashreplace").splitlines()
         last = re.findall(
-            r"(\d+) (passes|keys|new|old|refused|rewrapped)", (self.said or [""])[-1]
+            r"(\d+) (pass|keys|new|old|refused|rewrapped)", (self.said or [""])[-1]
         )
         self.counts = {word: int(number) for number, word in last}
 

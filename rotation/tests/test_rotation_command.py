@@ -106,7 +106,7 @@ class TestStatus:
         again = rotate(*names(store))
         assert list(map(seen, sorted(store.iterdir()))) == before
         assert again.status == 0
-        assert again.counts["passes"] == 1
+        assert again.counts["pass"] == 1
         assert again.counts["rewrapped"] == 0
         assert again.has(
             "no key was under the KEK: this rotation ran before, or the KEKs are swapped"

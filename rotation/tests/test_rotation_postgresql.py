@@ -585,7 +585,7 @@ class TestSessions:
         assert time.monotonic() - began < 5
         done = end(running)
         assert done == 0, done
-        assert done.counts["passes"] == 2, done
+        assert done.counts["pass"] == 2, done
         assert done.said[:-1] == [
             "keywrap-rotate: keys: another session waits for its lock: the pass ends"
         ]

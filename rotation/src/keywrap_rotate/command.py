@@ -173,7 +173,7 @@ def _counts(passes: Passes, options: argparse.Namespace) -> str:
     numbers.append(f"{last.refused} refused")
     parts = [
         f"{passes.store.noun}: {passes.units}",
-        f"{passes.number} passes",
+        "1 pass" if passes.number == 1 else f"{passes.number} passes",
         ", ".join(numbers),
     ]
     if passes.may_write:
