@@ -108,7 +108,7 @@ readme() {
     mapfile -t least < <(grep -oP '^ +(\$ )?make test .*at least \K[0-9,]+(?= tests)' "$root/README.md" | tr -d ,)
     row 'README: its lines' test -n "$answer" -a "${#least[@]}" = 2
     row 'README: a clone' eval 'cp -a "$fresh/minimal/." machine && prepare "$workdir/machine"' || return
-    as_root "$workdir/machine" "$(lines README.md 'keywrap: AES Key Wrap, proved' | head -n 1)" >said 2>&1
+    as_root "$workdir/machine" "$(lines README.md 'keywrap: AES Key Wrap, proved' | sed -n 1p)" >said 2>&1
     verdict 'README: the packages' "$(problem $?)" || return
 
     # On a quiet machine the time is less than that of the processor, since two compile side by side.
