@@ -247,7 +247,11 @@ u64 host_lseek(u32 file, u64 offset, u32 whence) {
     return (u64)(s64)lseek((int)file, (off_t)offset, SEEK_CUR);
 }
 
+/* On macOS fsync leaves bytes in the disk's own memory. Not every file system there has the call that does not. */
 u32 host_fsync(u32 file) {
+#ifdef F_FULLFSYNC
+    if (fcntl((int)file, F_FULLFSYNC) != -1) return 0;
+#endif
     return (u32)fsync((int)file);
 }
 
