@@ -858,3 +858,28 @@ pool._serve = lambda *words, real=pool._serve: time.sleep(1) or real(*words)"""
                             child, (signal.SIGKILL, signal.SIGTERM)[number // 2 % 2]
                         )
                 assert end(running) == 0
+
+
+WITHOUT_POSIX = """import os, sys
+os.name = "nt"
+for name in "fcntl", "grp", "pwd", "resource", "termios":
+    sys.modules[name] = None
+import keywrap_rotate
+sys.exit(keywrap_rotate.main())
+"""
+
+
+@pytest.mark.parametrize("words", [[], ["--help"]])
+def test_system_without_posix(words):
+    """No module of POSIX is loaded, and the command refuses with one line."""
+    command = [sys.executable, "-c", WITHOUT_POSIX, *words]
+    ended = subprocess.run(command, capture_output=True, text=True)
+    refused = (
+        "keywrap-rotate: it needs the locks and renames of POSIX: run it on Linux\n"
+    )
+    assert (ended.returncode, ended.stdout, ended.stderr) == (2, "", refused)
+
+
+def test_processors_of_other_systems(monkeypatch):
+    monkeypatch.delattr(os, "sched_getaffinity")
+    assert options._processors() == os.cpu_count()

@@ -370,7 +370,12 @@ class TestSystem:
         assert later(file.parent) == (["file"], [], [NEW if number == 2 else OLD])
 
     @pytest.mark.parametrize(
-        "libc", [types.SimpleNamespace(), types.SimpleNamespace(renameat2=failing_call)]
+        "libc",
+        [
+            types.SimpleNamespace(),
+            types.SimpleNamespace(renameat2=failing_call),
+            types.SimpleNamespace(renamex_np=failing_call),
+        ],
     )
     def test_without_an_exchange(self, file, monkeypatch, libc):
         monkeypatch.setattr(replacing, "_libc", libc)

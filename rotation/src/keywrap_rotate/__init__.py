@@ -6,11 +6,16 @@ changed it. Each machine reads the KEKs from its own files. No KEK, key or wrapp
 result, an exception or a report. `rewrap_all` and `replace` are for stores of any other kind.
 """
 
-from .api import challenges, rewrap_all
-from .command import main
-from .files import replace
-from .found import EqualKeks, Refused, WrongKeks
-from .keks import Keks
+import os
+
+if os.name == "posix":
+    from .api import challenges, rewrap_all
+    from .command import main
+    from .files import replace
+    from .found import EqualKeks, Refused, WrongKeks
+    from .keks import Keks
+else:
+    from .elsewhere import main
 
 __all__ = [
     "EqualKeks",

@@ -1,7 +1,6 @@
 """The KEKs of a rotation. Each process reads them from its own machine's files, and compares them by a challenge."""
 
 import binascii
-import ctypes
 import errno
 import hashlib
 import hmac
@@ -16,8 +15,8 @@ from typing import Any, Dict, Iterator, List, Mapping, NamedTuple, Optional, Tup
 import keywrap
 
 from .found import EqualKeks, WrongKeks
+from .linux import DUMPABLE, set_process
 
-_PR_SET_DUMPABLE = 4
 #: The most bytes that a KEK file has.
 _KEK_FILE = 4096
 #: The most bytes that a table of KEKs has.
@@ -31,7 +30,7 @@ _held: Dict[str, bytes] = {}
 def protect_process() -> None:
     """No core file, and no other process of the user reads the memory of this one, nor of those that it forks."""
     resource.setrlimit(resource.RLIMIT_CORE, (0, 0))
-    ctypes.CDLL(None).prctl(_PR_SET_DUMPABLE, 0, 0, 0, 0)
+    set_process(DUMPABLE, 0)
 
 
 class Ring(NamedTuple):

@@ -35,6 +35,13 @@ GONE = {
 }
 
 
+def _processors() -> int:
+    """How many processors this process may use, or the system has if it does not tell."""
+    if hasattr(os, "sched_getaffinity"):
+        return len(os.sched_getaffinity(0))
+    return os.cpu_count() or 1
+
+
 def _positive(text: str) -> int:
     if not text.isdecimal() or int(text) < 1:
         raise argparse.ArgumentTypeError("must be a positive integer")
@@ -174,7 +181,7 @@ def _parser() -> argparse.ArgumentParser:
         "--jobs",
         metavar="N",
         type=_positive,
-        default=min(4, len(os.sched_getaffinity(0))),
+        default=min(4, _processors()),
         help="processes (default: one for each processor, at most 4)",
     )
     add(

@@ -6,7 +6,6 @@ ends all its processes if one is killed: then it is not known which unit killed 
 
 import collections
 import contextlib
-import ctypes
 import functools
 import importlib
 import itertools
@@ -20,6 +19,7 @@ from typing import Any, Callable, Counter, Dict, Iterator, List, Optional, Tuple
 
 from . import signs
 from .found import Found, Unanswered, WrongKeks
+from .linux import PDEATHSIG, set_process
 from .listing import Unit
 
 #: How often a unit is tried whose process died.
@@ -29,7 +29,6 @@ LARGEST = 16
 #: How many batches a thread of Dask has at most.
 WINDOW = 3
 _SIGNALS = (signal.SIGINT, signal.SIGTERM)
-_PR_SET_PDEATHSIG = 1
 
 Work = Callable[[List[Unit]], List[Found]]
 #: What was found in the units of a batch, or why nothing more may be done; `None` if the process died.
@@ -48,7 +47,7 @@ def _answer(work: Work, units: List[Unit]) -> Answer:
 def _serve(work: Work, batches: socket.socket, parent: int) -> None:
     """Does batches until its parent ends. It leaves interrupts to the parent: the end of a unit is soon."""
     try:
-        ctypes.CDLL(None).prctl(_PR_SET_PDEATHSIG, signal.SIGKILL, 0, 0, 0)
+        set_process(PDEATHSIG, signal.SIGKILL)
         if os.getppid() != parent:
             return  # It ended before this call.
         signal.signal(signal.SIGINT, signal.SIG_IGN)

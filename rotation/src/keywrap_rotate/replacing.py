@@ -36,26 +36,31 @@ _NAME = re.compile(
 )
 _AT_FDCWD = -100
 _RENAME_EXCHANGE = 2
+_RENAME_SWAP = 2
 _libc = ctypes.CDLL(None, use_errno=True)
+
+
+def _exchange_names(one: bytes, other: bytes) -> int:
+    """Returns 0, or the number of an error. Linux and macOS have a call each; that of macOS never ran."""
+    if hasattr(_libc, "renameat2"):
+        failed = _libc.renameat2(_AT_FDCWD, one, _AT_FDCWD, other, _RENAME_EXCHANGE)
+    elif hasattr(_libc, "renamex_np"):
+        failed = _libc.renamex_np(one, other, _RENAME_SWAP)
+    else:
+        return errno.ENOSYS
+    return ctypes.get_errno() if failed else 0
 
 
 def exchange(one: bytes, other: bytes) -> None:
     """Exchanges two names in one step."""
-    call = getattr(_libc, "renameat2", None)
-    if (
-        call is not None
-        and call(_AT_FDCWD, one, _AT_FDCWD, other, _RENAME_EXCHANGE) == 0
-    ):
+    error = _exchange_names(one, other)
+    if error == 0:
         return
-    if call is None or ctypes.get_errno() in (
-        errno.ENOSYS,
-        errno.EINVAL,
-        errno.EOPNOTSUPP,
-    ):
+    if error in (errno.ENOSYS, errno.EINVAL, errno.EOPNOTSUPP):
         raise Refused(
             "this file system cannot exchange two files: stop all writers, then use --quiesced"
         )
-    raise OSError(ctypes.get_errno(), os.strerror(ctypes.get_errno()))
+    raise OSError(error, os.strerror(error))
 
 
 def at_once(path: Any, flags: int) -> int:
