@@ -61,9 +61,9 @@ def exhaustive_with_bugs(once):
 def test_no_command_is_wrong(exhaustive, words, least):
     """Each command writes what is due, on both streams, and ends with the right status."""
     said = run(exhaustive, *words)
-    totals = r"(\d+) commands, (\d+) wrong; (\d+) freed blocks had the KEK"
-    commands, wrong, freed = re.match(totals, said).groups()
-    assert int(commands) >= least and wrong == "0"
+    totals = r"(\d+) commands are right; (\d+) freed blocks had the KEK"
+    commands, freed = re.match(totals, said).groups()
+    assert int(commands) >= least
     # SECURITY.md says how many. Faults are not counted.
     assert words == ["faults"] or freed == commands
 
@@ -79,4 +79,4 @@ def test_bug_is_found(exhaustive_with_bugs, number):
         capture_output=True,
         text=True,
     )
-    assert ended.returncode == 1 and ", 0 wrong" not in ended.stdout
+    assert ended.returncode == 1 and "the last one is wrong" in ended.stdout

@@ -27,9 +27,9 @@ static const struct mode modes[] = {
     {"base64", "--base64", BASE64, 0},
     {"lines", "--lines", HEX, 1},
 };
-enum { MODES = sizeof modes / sizeof *modes, MOST_SHOWN = 20 };
+enum { MODES = sizeof modes / sizeof *modes };
 
-static unsigned long runs, faults, freed_with_kek;
+static unsigned long runs, freed_with_kek;
 
 /*** What is due ***/
 
@@ -121,23 +121,15 @@ static struct command wrapping(const struct mode *mode) {
     return command;
 }
 
-static void print_totals(void) {
-    printf("%lu commands, %lu wrong; %lu freed blocks had the KEK\n", runs, faults, freed_with_kek);
-}
-
-/* Shows a command that is wrong. After MOST_SHOWN of them the program ends. */
-static void show(const struct mode *mode, const struct command *command,
+/* Shows a command that is wrong, and ends. */
+static void fail(const struct mode *mode, const struct command *command,
                  const struct outcome *outcome) {
-    faults++;
-    printf("%s:", mode->name);
+    printf("%lu commands, the last one is wrong: %s:", runs, mode->name);
     for (size_t i = 0; i < command->input.len; i++) printf(" %02x", command->input.bytes[i]);
     printf(": status %d, %.*s%.*s\n", outcome->status, (int)outcome->output.len,
            (const char *)outcome->output.bytes, (int)outcome->errors.len,
            (const char *)outcome->errors.bytes);
-    if (faults == MOST_SHOWN) {
-        print_totals();
-        exit(1);
-    }
+    exit(1);
 }
 
 static void try_text(const struct mode *mode, const void *text, size_t len) {
@@ -153,7 +145,7 @@ static void try_text(const struct mode *mode, const void *text, size_t len) {
     freed_with_kek += outcome.freed_with_kek;
     if (outcome.status != due.status || !says(&outcome.output, due.output)
         || (!says(&outcome.errors, due.message) && !says(&outcome.errors, due.message2)))
-        show(mode, &command, &outcome);
+        fail(mode, &command, &outcome);
 }
 
 /*** Which texts ***/
@@ -221,7 +213,7 @@ static void try_fault(const struct mode *mode, struct command *command,
     int is_good = outcome.status == 0 && outcome.output.len == good->output.len
                   && memcmp(outcome.output.bytes, good->output.bytes, good->output.len) == 0;
     /* An allocation may be refused without harm. A read or write that failed may not. */
-    if (!is_refused && !(is_good && command->failing == ALLOCATE)) show(mode, command, &outcome);
+    if (!is_refused && !(is_good && command->failing == ALLOCATE)) fail(mode, command, &outcome);
 }
 
 static void try_all_faults(const struct mode *mode) {
@@ -239,7 +231,7 @@ static void try_all_faults(const struct mode *mode) {
         runs++;
         if (outcome.status != 0 || outcome.output.len != good.output.len
             || memcmp(outcome.output.bytes, good.output.bytes, good.output.len) != 0)
-            show(mode, &command, &outcome);
+            fail(mode, &command, &outcome);
     }
     command.most_read = 0;
     for (command.failing = 0; command.failing < CALLS; command.failing++) {
@@ -273,6 +265,6 @@ int main(int count, char **words) {
             return 2;
         }
     }
-    print_totals();
-    return faults > 0;
+    printf("%lu commands are right; %lu freed blocks had the KEK\n", runs, freed_with_kek);
+    return 0;
 }
