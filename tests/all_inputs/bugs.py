@@ -32,8 +32,10 @@ def rows(name):
     return found
 
 
-BUGS, AT_SOME_LENGTHS = rows("bugs.txt"), rows("lengths.txt")
-MODULES, HARMLESS = rows("modules.txt"), rows("harmless.txt")
+BUGS = rows("bugs.txt")
+AT_SOME_LENGTHS = rows("lengths.txt")
+MODULES = rows("modules.txt")
+HARMLESS = rows("harmless.txt")
 S_BOX = bytes.fromhex("637c777bf26b6fc53001672bfed7ab76")
 FUNCTION = re.compile(
     r"  \(func \(;(\d+);\)((?:.*\n)*?)(?=  \((?:func|table|memory|global|export) )"
@@ -46,7 +48,8 @@ class Text:
     def __init__(self, file):
         said = subprocess.run(["wasm2wat", file], capture_output=True, check=True)
         self.text = said.stdout.decode()
-        self.functions, self.exports = {}, {}
+        self.functions = {}
+        self.exports = {}
         for number, body in FUNCTION.findall(self.text):
             self.functions[int(number)] = on_one_line(body)
         exports = re.findall(r'\(export "(\w+)" \(func (\d+)\)', self.text)
@@ -62,7 +65,8 @@ class Text:
         return map(int, re.findall(r"\bcall (\d+)", self.functions[number]))
 
     def reached(self, export):
-        waiting, found = [self.exports[f"keywrap_{export}"]], set()
+        waiting = [self.exports[f"keywrap_{export}"]]
+        found = set()
         while waiting:
             number = waiting.pop()
             if number not in found:

@@ -11,7 +11,9 @@ import tomllib
 import zlib
 
 HEADER, PAGE = "<IIQQQQQQ", 4096
-LOAD, EXECUTABLE, RELATIVE = 1, 1, 8
+LOAD = 1
+EXECUTABLE = 1
+RELATIVE = 8
 HERE = pathlib.Path(__file__).resolve().parent
 DIST = HERE.parent.parent / "dist"
 USUAL = (

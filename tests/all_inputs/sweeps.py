@@ -67,7 +67,9 @@ class Sweep:
 
     def followed(self, call):
         """Returns the seconds of a call, the call, and the instructions and constants that it uses."""
-        module, met, cells = self.module, set(), Machine.cells
+        module = self.module
+        met = set()
+        cells = Machine.cells
         code, constants = module.code, module.constants
 
         def noting(run, path, at, n):
@@ -88,7 +90,9 @@ class Sweep:
         try:
             self.steps = max(self.steps, calls.perform(module, call[0], call[1:]).steps)
         finally:
-            module.code, module.constants, Machine.cells = code, constants, cells
+            module.code = code
+            module.constants = constants
+            Machine.cells = cells
         return time.process_time() - begun, call, met
 
     def place(self, how, place):
@@ -159,12 +163,10 @@ class Numbers:
     """The bytes of a call's buffers, as numbers. For seed 0 a text is wrapped under the KEK, for seed 1 padded."""
 
     def __init__(self, seed):
-        self.random, self.seed, self.kek, self.iv = (
-            random.Random(seed),
-            seed,
-            None,
-            standard.DEFAULT_IV,
-        )
+        self.random = random.Random(seed)
+        self.seed = seed
+        self.kek = None
+        self.iv = standard.DEFAULT_IV
 
     def any_kek(self, name, n):
         kek = (

@@ -13,22 +13,24 @@ from terms import Known, Refused, and_, input_byte, shl, xor
 from turns import Turns
 
 STACK = 40960
-OK, ALREADY_NEW, BAD_IV, BAD_KEK, BAD_LENGTH, INTEGRITY, NO_MEMORY, KEY_NOT_PLAIN = (
-    0,
-    1,
-    2,
-    3,
-    4,
-    5,
-    7,
-    8,
-)
+OK = 0
+ALREADY_NEW = 1
+BAD_IV = 2
+BAD_KEK = 3
+BAD_LENGTH = 4
+INTEGRITY = 5
+NO_MEMORY = 7
+KEY_NOT_PLAIN = 8
 KNOWN_STATUSES = OK, BAD_IV, BAD_KEK, BAD_LENGTH, INTEGRITY, NO_MEMORY, KEY_NOT_PLAIN
 NO_STATUS = 6
-OLD_PADDED, NEW_PADDED, KEEP_FORM, PASS_NEW = 1, 2, 4, 8
+OLD_PADDED = 1
+NEW_PADDED = 2
+KEEP_FORM = 4
+PASS_NEW = 8
 LONGEST = 1048576
 PLAIN, PADDED = 0, 1
-KEPT_KEKS, MARK = (184, 216, 248), list(b"kept KEK")
+KEPT_KEKS = (184, 216, 248)
+MARK = list(b"kept KEK")
 HEADER = Path(__file__).resolve().parents[2] / "keywrap.h"
 
 
@@ -50,14 +52,12 @@ class Result:
     """What a call did: its paths, as (status, places of the branches), counts, and the variables it left."""
 
     def __init__(self):
-        (
-            self.paths,
-            self.steps,
-            self.lookups,
-            self.shuffles,
-            self.stack,
-            self.variables,
-        ) = ([], 0, 0, 0, 0, None)
+        self.paths = []
+        self.steps = 0
+        self.lookups = 0
+        self.shuffles = 0
+        self.stack = 0
+        self.variables = None
 
 
 class Call:
@@ -66,14 +66,14 @@ class Call:
     """
 
     def __init__(self, given, name):
-        self.module, self.gap, self.result = given.module, given.gap, given.result
-        self.name, self.args, self.inputs, self.writes, self.result_bits = (
-            name,
-            [],
-            {},
-            {},
-            32,
-        )
+        self.module = given.module
+        self.gap = given.gap
+        self.result = given.result
+        self.name = name
+        self.args = []
+        self.inputs = {}
+        self.writes = {}
+        self.result_bits = 32
         self.at = place(self.module.heap, 65536) if self.gap else self.module.heap
 
     def place(self, content, to, *numbers):
@@ -169,7 +169,10 @@ class Given:
     """An object, and how the buffers of its calls are placed."""
 
     def __init__(self, module, gap):
-        self.module, self.gap, self.result, self.turns = module, gap, Result(), None
+        self.module = module
+        self.gap = gap
+        self.result = Result()
+        self.turns = None
 
     def standard(self, function, kek, text, *more):
         """Returns a function that returns what this function of standard.py computes."""
@@ -727,7 +730,8 @@ class RewrapSteps:
         registers, steps, block = self.made(phase, now[8:], steps, numbers[12:])
         call = self.next_call(now[:8] + registers, phase, steps, block)
         for path, status, got in call.ends(path):
-            after, numbers = got[: len(now)], got[len(now) :]
+            after = got[: len(now)]
+            numbers = got[len(now) :]
             self.follow(call, path, status, after, numbers)
 
     def check_end(self, call, path, status, now):
@@ -820,7 +824,8 @@ def forks_of(count, only):
 
 
 def wrap_many(given, kek_len, key_len, flags, count, only=None):
-    kek, text_len = kek_of("kek", kek_len, only), room_of(key_len) + 8
+    kek = kek_of("kek", kek_len, only)
+    text_len = room_of(key_len) + 8
     texts = texts_of("old", text_len, count, only, 0, kek)
     one = standard.wrapped_padded if flags else standard.wrapped
     is_legal = 1 <= key_len if flags else is_plain_key(key_len)
@@ -854,7 +859,9 @@ def unwrap_many(given, kek_len, text_len, flags, count, only=None):
     def expected(is_zero):
         if not legal:
             return BAD_LENGTH if is_kek(kek_len) else BAD_KEK, None
-        after, lengths, statuses = [], [], []
+        after = []
+        lengths = []
+        statuses = []
         for a, key in opened:
             found = form_of(a, key, is_zero, forms)
             after += [0] * 8 + key if found else [0] * text_len
@@ -873,7 +880,8 @@ def unwrap_many(given, kek_len, text_len, flags, count, only=None):
 
 
 def rewrap_many(given, old_len, new_len, text_len, flags, count, only=None):
-    old_kek, new_kek = kek_of("kek", old_len, only), kek_of("new", new_len, only)
+    old_kek = kek_of("kek", old_len, only)
+    new_kek = kek_of("new", new_len, only)
     texts = texts_of("text", text_len, count, only, flags, old_kek, new_kek)
     each = [Rewrap(old_kek, new_kek, text, flags) for text in texts]
 
@@ -922,9 +930,8 @@ def kind_many(given, kek_len, text_len, count, only=None):
 
 def uneven_many(name, given, texts_len, lens, count, forms=None):
     """A call for many keys of 16 bytes, whose numbers of bytes, lengths and statuses do not fit each other."""
-    call, texts = Call(given, f"keywrap_{name}").reads(any_kek("kek", 16)), any_bytes(
-        "text", texts_len
-    )
+    call = Call(given, f"keywrap_{name}").reads(any_kek("kek", 16))
+    texts = any_bytes("text", texts_len)
     if name == "rewrap_many":
         call.reads(any_kek("new", 16))
     if name == "kind_many":
@@ -1038,7 +1045,8 @@ def are_registers(n, least=8):
 
 def stepped(r, t, block, undo=False):
     """Returns registers, number of steps and block after step t, or after step t is undone."""
-    count, n = steps_of(len(r)), len(r) // 8
+    count = steps_of(len(r))
+    n = len(r) // 8
     if n == 1:
         return block[8:], 0 if undo else 1, block
     if not 1 <= t <= count:

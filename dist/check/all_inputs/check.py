@@ -157,7 +157,8 @@ class Checked:
         is_wasm = Path(path).read_bytes()[:4] == b"\0asm"
         self.module = (wasm if is_wasm else x86).Module(path)
         self.of_every_length = lengths.Module(path) if is_wasm else None
-        loaded, self.refusal = self.module.variables, None
+        loaded = self.module.variables
+        self.refusal = None
         used = self.after_a_wrap(loaded, has_aes=True) if loaded else loaded
         without = self.after_a_wrap(loaded, has_aes=False) if loaded else loaded
         self.before = {
@@ -250,9 +251,13 @@ class Report:
     """Prints a line for each call, and keeps what the summary needs."""
 
     def __init__(self, count, may_look_up):
-        self.count, self.may_look_up = count, may_look_up
+        self.count = count
+        self.may_look_up = may_look_up
         self.done = self.bad = self.paths = 0
-        self.seconds, self.places, self.passed, self.looking = 0, {}, {}, set()
+        self.seconds = 0
+        self.places = {}
+        self.passed = {}
+        self.looking = set()
 
     def add(self, todo, result, took):
         self.done += 1
@@ -264,7 +269,8 @@ class Report:
             self.bad += 1
             print(f"{line}: REFUSED: {result}", flush=True)
             return
-        statuses, forks = set(), set()
+        statuses = set()
+        forks = set()
         for status, places_of_path in result.paths:
             statuses.add(status)
             forks.update(places_of_path)
@@ -362,7 +368,8 @@ def main(words):
         return 2
     path, which, numbers, may_look_up, seed = arguments
     try:
-        module, refusal = load(path, seed).module, checked.refusal
+        module = load(path, seed).module
+        refusal = checked.refusal
     except Exception as error:  # not an object that this program can read
         print(f"{path}: {error}", file=sys.stderr)
         return 2

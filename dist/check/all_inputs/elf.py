@@ -102,12 +102,17 @@ class Image:
         is_elf = self.data[:6] == b"\x7fELF\2\1"
         if not is_elf or self.header("<HH", 16) != (SHARED_OBJECT, X86_64):
             raise Refused("not a shared object for x86-64")
-        self.base, self.imports_at, self.imports = base, imports_at, {}
-        self.content, self.page_flags, self.protected = {}, {}, range(0)
+        self.base = base
+        self.imports_at = imports_at
+        self.imports = {}
+        self.content = {}
+        self.page_flags = {}
+        self.protected = range(0)
         self.load()
         self.exports = self.exported()
         self.relocate()
-        self.constants, self.variables = {}, {}
+        self.constants = {}
+        self.variables = {}
         for at, byte in self.content.items():
             (self.variables if self.is_variable(at) else self.constants)[at] = byte
         self.starts = self.starting()
@@ -155,9 +160,11 @@ class Image:
     # The dynamic section
 
     def read_dynamic(self, first, size):
-        self.dynamic, self.needed = {}, []
+        self.dynamic = {}
+        self.needed = []
         for at in range(first, first + size, 16):
-            tag, v = self.number(at, 8), self.number(at + 8, 8)
+            tag = self.number(at, 8)
+            v = self.number(at + 8, 8)
             if tag == 0:
                 break
             if tag == Tag.NEEDED:
@@ -182,7 +189,8 @@ class Image:
     def symbol(self, index):
         at = self.place(Tag.SYMTAB) + 24 * index
         name = self.text(self.place(Tag.STRTAB) + self.number(at, 4))
-        info, section = self.number(at + 4, 1), self.number(at + 6, 2)
+        info = self.number(at + 4, 1)
+        section = self.number(at + 6, 2)
         address = self.base + self.number(at + 8, 8)
         return Symbol(name, info & 15, info >> 4, section, address)
 
@@ -195,7 +203,8 @@ class Image:
         if Tag.GNU_HASH not in self.dynamic:
             raise Refused("no hash table of the GNU form")
         table = self.place(Tag.GNU_HASH)
-        bucket_count, first = self.number(table, 4), self.number(table + 4, 4)
+        bucket_count = self.number(table, 4)
+        first = self.number(table + 4, 4)
         buckets = table + 16 + 8 * self.number(table + 8, 4)
         hashes = buckets + 4 * bucket_count
         found = {}

@@ -29,7 +29,8 @@ MEMORY = 2**32
 MOST_CASES = 400
 n = lengths.N_REGISTERS
 LEGAL = [n - 2, lengths.MOST_REGISTERS - n]
-key, text = unknown("key"), unknown("text")
+key = unknown("key")
+text = unknown("text")
 z = unknown("z")
 TEXT_FIRST = [key - text - 8 * n - 8]
 ORDERS = [text - key - 8 * n], TEXT_FIRST
@@ -41,7 +42,10 @@ class LongCall(Call):
 
     def __init__(self, given, name):
         super().__init__(given, name)
-        self.arrays, self.processes, self.facts, self.iv = [], [], [], None
+        self.arrays = []
+        self.processes = []
+        self.facts = []
+        self.iv = None
 
     def array(self, name, size, may_change):
         self.arrays.append(Array(name, size, may_change))
@@ -112,7 +116,9 @@ def for_all(given, facts, build):
     """Proves a call for all numbers for which these facts hold. `build` returns the call, and a function that checks a
     path at its end. If the code asks something that the facts do not answer, the call runs again for each answer.
     """
-    loops, waiting, count = set(), [Facts(facts)], 0
+    loops = set()
+    waiting = [Facts(facts)]
+    count = 0
     while waiting:
         facts = waiting.pop()
         if not facts.are_possible():
@@ -122,7 +128,8 @@ def for_all(given, facts, build):
             raise Refused("so many cases of lengths that it may not end")
         terms.forget()
         lengths.forget()
-        Known.now, Facts.now = Known(), facts
+        Known.now = Known()
+        Facts.now = facts
         call, check = build()
         Facts.now = facts = facts.with_(*call.facts)
         run, paths = None, []
@@ -218,7 +225,8 @@ def wrap(given, kek_len, iv_len=None):
     """With any initial value of 8 bytes if its length is given."""
 
     def legal():
-        kek, iv = any_kek("kek", kek_len), standard.DEFAULT_IV
+        kek = any_kek("kek", kek_len)
+        iv = standard.DEFAULT_IV
         call = LongCall(
             given, "keywrap_wrap" if iv_len is None else "keywrap_wrap_with"
         )
@@ -246,7 +254,8 @@ def wrap(given, kek_len, iv_len=None):
 
 def unwrap(given, kek_len, iv_len=None):
     def legal():
-        kek, iv = any_kek("kek", kek_len), standard.DEFAULT_IV
+        kek = any_kek("kek", kek_len)
+        iv = standard.DEFAULT_IV
         call = LongCall(
             given, "keywrap_unwrap" if iv_len is None else "keywrap_unwrap_with"
         )
@@ -331,10 +340,12 @@ def wrap_padded(given, kek_len, in_place=False):
         )
         if in_place:
             call.array("text", 8 * n + 8, True).number(8 * n - z)
-            key, offset = Content("text"), 8
+            key = Content("text")
+            offset = 8
         else:
             call.array("key", 8 * n - z, False).array("text", 8 * n + 8, True)
-            key, offset = Content("key"), 0
+            key = Content("key")
+            offset = 0
         padded = zeros(8 * n).with_copy(0, 8 * n - z, key, offset)
         call.wraps(kek, lambda: aiv(8 * n - z), padded, 0)
 
@@ -497,7 +508,9 @@ class Refusal:
     """A call with any lengths of key and wrapped key. `begin` returns it with its KEK."""
 
     def __init__(self, given, name, begin):
-        self.given, self.name, self.begin = given, name, begin
+        self.given = given
+        self.name = name
+        self.begin = begin
 
     def begun(self):
         call = self.begin()

@@ -91,7 +91,8 @@ def add(a, b, w):
 
 
 def subtract(a, b, w):
-    x, y = as_number(a), as_number(b)
+    x = as_number(a)
+    y = as_number(b)
     if x is None or y is None:
         return N("sub", a, b, w, top=2**w - 1)
     return modulo(plus(near_zero(x, w), times(near_zero(y, w), -1)), w)
@@ -181,7 +182,8 @@ def divided(a, b):
 
 
 def equal(a, b):
-    x, y = as_number(a), as_number(b)
+    x = as_number(a)
+    y = as_number(b)
     if x is None or y is None:
         return terms.eq(as_bytes(a), as_bytes(b))
     difference = plus(x, times(y, -1))
@@ -191,7 +193,8 @@ def equal(a, b):
 
 
 def less(a, b):
-    x, y = as_number(a), as_number(b)
+    x = as_number(a)
+    y = as_number(b)
     if x is None or y is None:
         return terms.ltu(as_bytes(a), as_bytes(b))
     return int(Facts.now.decides(plus(plus(y, times(x, -1)), -1)))
@@ -329,7 +332,8 @@ class Content:
     """The bytes of an array: writes over the bytes that it had before, which may have any value."""
 
     def __init__(self, origin, writes=()):
-        self.origin, self.writes = origin, writes
+        self.origin = origin
+        self.writes = writes
 
     def with_(self, write):
         return Content(self.origin, (*self.writes, write))
@@ -417,7 +421,8 @@ def first_difference(a, b, size):
 
 def difference_between(a, b, low, high):
     """Returns where two contents differ between two places, or None."""
-    width, before = plus(high, times(low, -1)), Facts.now
+    width = plus(high, times(low, -1))
+    before = Facts.now
     if isinstance(width, int):
         waiting = [(before, plus(low, k)) for k in range(width)]
     else:
@@ -454,7 +459,8 @@ class State(wasm.State):
 
     def __init__(self, frames, globals_, contents, done=()):
         super().__init__(frames, globals_)
-        self.contents, self.done = contents, done
+        self.contents = contents
+        self.done = done
 
     def copy(self):
         other = super().copy()
@@ -468,7 +474,9 @@ class Run(wasm.Run):
     def __init__(self, module, inputs, stack, arrays, loops, processes):
         super().__init__(module, inputs, stack)
         self.arrays = {array.name: array for array in arrays}
-        self.loops, self.processes, self.turns = loops, processes, {}
+        self.loops = loops
+        self.processes = processes
+        self.turns = {}
         self.path = None
 
     # Memory
@@ -608,13 +616,11 @@ class Process:
     """The steps of a key wrap by the standard, from A and the registers of a content on."""
 
     def __init__(self, words, a, content, offset, undo):
-        self.words, self.a, self.content, self.offset, self.undo = (
-            words,
-            a,
-            content,
-            offset,
-            undo,
-        )
+        self.words = words
+        self.a = a
+        self.content = content
+        self.offset = offset
+        self.undo = undo
 
     def begin(self, registers, q, i):
         """Returns the first step, over these registers."""
@@ -657,13 +663,11 @@ class Step:
     steps are undone, to come; i is the register."""
 
     def __init__(self, process, a, registers, q, i):
-        self.process, self.a, self.registers, self.q, self.i = (
-            process,
-            a,
-            registers,
-            q,
-            i,
-        )
+        self.process = process
+        self.a = a
+        self.registers = registers
+        self.q = q
+        self.i = i
         # Steps that are done or, if they are undone, left.
         self.t = plus(plus(q, i), int(process.undo))
 
@@ -731,7 +735,8 @@ class Loop:
     known = {}  # (function, place, undo): the Invariant that was found last
 
     def __init__(self, run, path):
-        self.run, self.path = run, path
+        self.run = run
+        self.path = path
         self.function, self.pc = path.stopped
         done = len(path.state.done)
         if done == len(run.processes):
@@ -879,7 +884,8 @@ class Loop:
 
     def values(self, invariant, step):
         """Returns what the locals have to be before a step, or ANY."""
-        words, made = step.words(), []
+        words = step.words()
+        made = []
         for role, v in zip(invariant.roles, self.local):
             if role.kind == "any":
                 v = ANY
@@ -913,7 +919,9 @@ class Loop:
 
     def cases(self):
         """Yields (facts, the place of any step but the last one, the place of the next)."""
-        n, q, i = N_REGISTERS, unknown("q"), unknown("i")
+        n = N_REGISTERS
+        q = unknown("q")
+        i = unknown("i")
         rounds = [q, 5 * n - q]
         if self.process.undo:
             yield [*rounds, i - 1, n - 1 - i], (q, i), (q, i - 1)
@@ -937,7 +945,8 @@ class Loop:
 
     def check_one(self, invariant, place, next_place):
         path, step = self.path_at(invariant, *place)
-        memory, state = dict(path.memory), path.state.copy()
+        memory = dict(path.memory)
+        state = path.state.copy()
         after = self.turn(path)
         following = step.following(*next_place)
         self.check_locals(invariant, following, after.state.frames[-1][4])

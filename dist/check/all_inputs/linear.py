@@ -22,7 +22,8 @@ class Lin:
     __slots__ = ("constant", "factors")
 
     def __init__(self, constant, factors=()):
-        self.constant, self.factors = constant, tuple(sorted(factors))
+        self.constant = constant
+        self.factors = tuple(sorted(factors))
 
     def __eq__(self, other):
         if not isinstance(other, Lin):
@@ -97,7 +98,8 @@ class Facts:
     now = None  # what holds on the run that is followed now
 
     def __init__(self, sums=()):
-        self.sums, self.memo = tuple(sums), {}
+        self.sums = tuple(sums)
+        self.memo = {}
 
     def with_(self, *sums):
         return Facts(dict.fromkeys([*self.sums, *sums]))
@@ -181,7 +183,8 @@ def cheapest(rows):
 
 def added_without(name, a, b):
     """Returns the sum of multiples of two rows in which the unknown is not left. Its factor is positive in a."""
-    k, m = -b[1][name], a[1][name]
+    k = -b[1][name]
+    m = a[1][name]
     total = plus(
         times(Lin(a[0], a[1].items()), k),
         times(Lin(b[0], b[1].items()), m),

@@ -14,9 +14,8 @@ class Nibbles:
     """One or two nibbles, and their sums: (which of them, form)."""
 
     def __init__(self, *items):
-        self.items, self.sums = items, [
-            (1 + i, nibble) for i, nibble in enumerate(items)
-        ]
+        self.items = items
+        self.sums = [(1 + i, nibble) for i, nibble in enumerate(items)]
         if len(items) == 2:
             self.sums.append((3, xor(*items)))
 
@@ -39,7 +38,9 @@ class F:
     __slots__ = ("nibbles", "table", "rest")
 
     def __init__(self, nibbles, table, rest=0):
-        self.nibbles, self.table, self.rest = nibbles, table, rest
+        self.nibbles = nibbles
+        self.table = table
+        self.rest = rest
 
 
 def look(table, at):

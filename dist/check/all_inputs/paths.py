@@ -57,7 +57,8 @@ def joined(cells):
             pass
     parts, i = [], 0
     while i < len(cells):
-        cell, n = cells[i], 1
+        cell = cells[i]
+        n = 1
         if isinstance(cell, int):
             part = cell
         else:
@@ -101,7 +102,9 @@ class Path:
     the call before, if there is one."""
 
     def __init__(self, memory, state, before=None):
-        self.memory, self.state, self.stopped = memory, state, None
+        self.memory = memory
+        self.state = state
+        self.stopped = None
         self.known, self.excluded, self.forks = (
             (before.known, before.excluded, before.forks)
             if before
@@ -155,18 +158,17 @@ class Machine:
     call. `module` has constants and variables: dictionaries from addresses to bytes."""
 
     def __init__(self, module, inputs, stack):
-        self.module, self.stack = module, stack
+        self.module = module
+        self.stack = stack
         self.unwritten = module.variables | inputs
         self.steps = self.lookups = self.shuffles = 0
         self.tables = {}
 
     def keep_apart(self, memory):
         """Refuses places that have two meanings: of what is only read, what is written, variables, constants, stack."""
-        constants, stack, variables = (
-            self.module.constants,
-            self.stack,
-            self.module.variables,
-        )
+        constants = self.module.constants
+        stack = self.stack
+        variables = self.module.variables
         places = [
             *self.unwritten,
             *(at for at in memory if at not in stack and at not in variables),
@@ -177,12 +179,10 @@ class Machine:
             raise Refused("places with two meanings")
 
     def cells(self, path, at, n):
-        memory, unwritten, constants, found = (
-            path.memory,
-            self.unwritten,
-            self.module.constants,
-            [],
-        )
+        memory = path.memory
+        unwritten = self.unwritten
+        constants = self.module.constants
+        found = []
         for i in range(at, at + n):
             cell = memory.get(i)
             if cell is None:
@@ -226,9 +226,8 @@ class Machine:
             return None
         entries = self.tables.get((base, shift, n))
         if entries is None:
-            constants, places = self.module.constants, [
-                base + (x << shift) for x in range(256)
-            ]
+            constants = self.module.constants
+            places = [base + (x << shift) for x in range(256)]
             if not all(at + i in constants for at in places for i in range(n)):
                 return None
             entries = self.tables[base, shift, n] = table_of(

@@ -125,9 +125,8 @@ def inverse_cipher(key, block):
 
 def wrap(kek, initial_value, key):
     """2.2.1: A[s] | R[s][1] | ... | R[s][n]."""
-    a, registers = list(initial_value), [
-        list(key[i : i + 8]) for i in range(0, len(key), 8)
-    ]
+    a = list(initial_value)
+    registers = [list(key[i : i + 8]) for i in range(0, len(key), 8)]
     for t in range(1, 6 * len(registers) + 1):
         block = cipher(kek, a + registers[0])
         a = xor_all(block[:8], number(t, 8))
@@ -137,9 +136,8 @@ def wrap(kek, initial_value, key):
 
 def unwrap(kek, text):
     """2.2.2: A[0], and R[0][1] | ... | R[0][n]."""
-    a, registers = list(text[:8]), [
-        list(text[i : i + 8]) for i in range(8, len(text), 8)
-    ]
+    a = list(text[:8])
+    registers = [list(text[i : i + 8]) for i in range(8, len(text), 8)]
     for t in range(6 * len(registers), 0, -1):
         block = inverse_cipher(kek, xor_all(a, number(t, 8)) + registers[-1])
         a, registers = block[:8], [block[8:]] + registers[:-1]

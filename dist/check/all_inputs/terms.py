@@ -43,7 +43,10 @@ class N:
     __slots__ = ("op", "args", "top", "h")
 
     def __init__(self, op, *args, top):
-        self.op, self.args, self.top, self.h = op, args, top, None
+        self.op = op
+        self.args = args
+        self.top = top
+        self.h = None
 
     def __eq__(self, other):
         return (
@@ -198,7 +201,8 @@ class Table:
         self.entries = entries
         for self.kind, order in kinds:
             f = [entries[x] for x in order]
-            self.c, columns = f[0], [f[1 << i] ^ f[0] for i in range(8)]
+            self.c = f[0]
+            columns = [f[1 << i] ^ f[0] for i in range(8)]
             self.linear = [0] * 256
             for x in range(1, 256):
                 low = x & -x
@@ -501,7 +505,9 @@ class Known:
         self.pivots = {}
         for atom, i in self.rows:
             self.pivots.setdefault(atom, []).append(i)
-        self.memo, self.arguments, self.images = {}, None, {}
+        self.memo = {}
+        self.arguments = None
+        self.images = {}
 
     def closed(self):
         """Returns the equations with those that follow for existing atoms: if T(x) = v, then S(v) = x."""
@@ -538,7 +544,8 @@ class Known:
         hit = [atom for atom in v.t if atom in self.pivots]
         if not hit:
             return v
-        c, t = v.c, dict(v.t)
+        c = v.c
+        t = dict(v.t)
         for atom in hit:
             for i in self.pivots[atom]:
                 column = v.t[atom] >> 64 * i & M64
@@ -554,7 +561,8 @@ class Known:
         """Returns the value with arguments of S and T that are reduced, too. An atom that is older than an equation has
         its argument as it was before. This is what is known now, and `self` is Known.now.
         """
-        waiting, met = list(v.t) if isinstance(v, V) else [], {}
+        waiting = list(v.t) if isinstance(v, V) else []
+        met = {}
         while waiting:
             atom = waiting.pop()
             if atom not in self.images and atom not in met:

@@ -132,7 +132,8 @@ def systems(count):
         terms.forget()
         pool = [fresh("x", i) for i in range(2)]
         for _ in range(8):
-            a, b = random.choice(pool), random.choice(pool)
+            a = random.choice(pool)
+            b = random.choice(pool)
             pool.append(
                 random.choice(
                     [
@@ -144,7 +145,8 @@ def systems(count):
                     ]
                 )
             )
-        known, zeros = terms.Known(), []
+        known = terms.Known()
+        zeros = []
         for _ in range(2):
             zero = terms.and_(random.choice(pool), random.choice([1, 3, 0x81]))
             more = known.with_zero(zero)
@@ -162,7 +164,8 @@ def systems(count):
                 assert not holds
                 break
             known = more
-            Known.now, some = known, holds[::25]
+            Known.now = known
+            some = holds[::25]
             for v in pool:
                 assert all(
                     value(w, p) == value(v, p)
@@ -206,15 +209,14 @@ def decisions(count):
     decided = 0
     for _ in range(count):
         terms.forget()
-        x, y = fresh("x"), fresh("y")
+        x = fresh("x")
+        y = fresh("y")
         wide = terms.or_(x, terms.shl(y, 8, 64))
         pool = [x, y, wide, terms.xor(x, y), terms.substituted("S", x)]
         for _ in range(4):
-            a, b, k = (
-                random.choice(pool),
-                random.choice(pool),
-                random.choice([0, 1, 7, 8, 255, 256, 2**32 - 8]),
-            )
+            a = random.choice(pool)
+            b = random.choice(pool)
+            k = random.choice([0, 1, 7, 8, 255, 256, 2**32 - 8])
             w = random.choice([32, 64])
             pool.append(
                 random.choice(
@@ -324,15 +326,16 @@ def older_atoms():
     )
     Known.now = Known()
     # Two equations imply each of them, and one does not imply both.
-    one, both = Known().with_zero(x), Known().with_zero(
-        terms.or_(x, terms.shl(y, 8, 64))
-    )
+    one = Known().with_zero(x)
+    both = Known().with_zero(terms.or_(x, terms.shl(y, 8, 64)))
     assert both.implies(one) and not one.implies(both)
 
 
 def inequalities(count):
     """What follows from inequalities is true for all small numbers for which they hold, and little more is."""
-    rng, found, possible = random.Random(6), 0, 0
+    rng = random.Random(6)
+    found = 0
+    possible = 0
     for _ in range(count):
         sums = [
             linear.settled(
@@ -477,12 +480,10 @@ def instructions(module, file, directory):
         ["ld", "-shared", "-o", f"{directory}/test.so", f"{directory}/test.o"],
         check=True,
     )
-    library, rng, done, refused = (
-        ctypes.CDLL(f"{directory}/test.so"),
-        random.Random(5),
-        set(),
-        0,
-    )
+    library = ctypes.CDLL(f"{directory}/test.so")
+    rng = random.Random(5)
+    done = set()
+    refused = 0
     room = (ctypes.c_uint8 * 512)()
     middle = ctypes.addressof(room) // 64 * 64 + 256
     for i, (text, op, operands, _) in enumerate(cases):
@@ -559,14 +560,13 @@ def whole_calls(module):
         for name in ("kek", "key", "old", "stack", "register", "below")
         for i in range(STACK)
     }
-    machine, lengths = wasm if isinstance(module, wasm.Module) else x86, (24, 21, 32)
+    machine = wasm if isinstance(module, wasm.Module) else x86
+    lengths = (24, 21, 32)
 
     def written(bytes_of):
-        buffers, place, args = (
-            [bytes_of(name, n) for name, n in zip(("kek", "key", "old"), lengths)],
-            module.heap,
-            [],
-        )
+        buffers = [bytes_of(name, n) for name, n in zip(("kek", "key", "old"), lengths)]
+        place = module.heap
+        args = []
         memory = {}
         for buffer in buffers:
             memory |= enumerate(map(cell_of, buffer), place)

@@ -14,7 +14,8 @@ class Turns:
         self.code_front = self.standard_front = self.forgotten = 0
         self.has_ended = self.is_given_up = False
         self.answer = self.fault = None
-        self.to_code, self.to_standard = threading.Semaphore(0), threading.Semaphore(0)
+        self.to_code = threading.Semaphore(0)
+        self.to_standard = threading.Semaphore(0)
         self.standard = threading.Thread(
             target=self.run, args=(function, *args), daemon=True
         )
@@ -72,5 +73,6 @@ class Turns:
         return self.answer
 
     def give_up(self):
-        terms.turns, self.is_given_up = None, True
+        terms.turns = None
+        self.is_given_up = True
         self.to_standard.release()

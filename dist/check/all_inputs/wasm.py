@@ -34,7 +34,8 @@ STORES = {0x36: 4, 0x37: 8, 0x3A: 1, 0x3B: 2, 0x3C: 1, 0x3D: 2, 0x3E: 4}
 
 class Reader:
     def __init__(self, data, at=0):
-        self.data, self.at = data, at
+        self.data = data
+        self.at = at
 
     def byte(self):
         self.at += 1
@@ -70,22 +71,19 @@ class Module:
         if data[:8] != b"\0asm\1\0\0\0":
             raise Refused("not a WebAssembly module")
         r = Reader(data, 8)
-        self.types, self.exports, self.globals, self.constants, self.variables = (
-            [],
-            {},
-            [],
-            {},
-            {},
-        )
-        self.functions, self.code, self.table, self.names, self.memory_bytes = (
-            [],
-            [],
-            {},
-            {},
-            0,
-        )
+        self.types = []
+        self.exports = {}
+        self.globals = []
+        self.constants = {}
+        self.variables = {}
+        self.functions = []
+        self.code = []
+        self.table = {}
+        self.names = {}
+        self.memory_bytes = 0
         while r.at < len(data):
-            kind, size = r.byte(), r.u()
+            kind = r.byte()
+            size = r.u()
             end = r.at + size
             if kind == 0 and r.take(r.u()) == b"name":
                 self.read_names(r, end)
@@ -140,14 +138,16 @@ class Module:
     @staticmethod
     def least_of(r):
         """Returns the pages of a memory at the beginning."""
-        has_most, least = r.byte(), r.u()
+        has_most = r.byte()
+        least = r.u()
         if has_most:
             r.u()
         return least
 
     def read_names(self, r, end):
         while r.at < end:
-            kind, after = r.byte(), r.u() + r.at
+            kind = r.byte()
+            after = r.u() + r.at
             if kind == 1:
                 self.names = dict(r.list(lambda: (r.u(), r.take(r.u()).decode())))
             r.at = after
@@ -262,7 +262,8 @@ for start, w in (0x48, 32), (0x53, 64):
     BINARY[start + 6] = lambda a, b, w=w: int(signed(a, w) >= signed(b, w))
 
 
-Module.unary, Module.binary = UNARY, BINARY
+Module.unary = UNARY
+Module.binary = BINARY
 
 
 class State:
@@ -270,7 +271,8 @@ class State:
     is the next instruction, if the frame is not the one that runs."""
 
     def __init__(self, frames, globals_):
-        self.frames, self.globals = frames, globals_
+        self.frames = frames
+        self.globals = globals_
 
     def copy(self):
         return State(
@@ -345,7 +347,9 @@ class Run(Machine):
                 stack[0],
                 None,
             )  # a frame that is not on top keeps its place there
-            push, pop, steps = stack.append, stack.pop, 0
+            push = stack.append
+            pop = stack.pop
+            steps = 0
             while True:
                 instruction = code[pc]
                 op = instruction[0]
@@ -368,7 +372,8 @@ class Run(Machine):
                         path, stack[-1], instruction[1], instruction[2]
                     )
                 elif op == 0x36:
-                    v, n = pop(), instruction[2]
+                    v = pop()
+                    n = instruction[2]
                     at = self.place(path, pop()) + instruction[1]
                     self.store(path, at, self.low_cells(v, n))
                 elif op in (2, 3):
@@ -449,7 +454,8 @@ class Run(Machine):
                     self.enter(path, callee, args)
                     break
                 elif op == 0x1B:
-                    c, b = pop(), pop()
+                    c = pop()
+                    b = pop()
                     stack[-1] = ite(nz(c) if isinstance(c, V) else c, stack[-1], b)
                 elif op == 0x1A:
                     pop()
@@ -461,7 +467,9 @@ class Run(Machine):
                     n, source, to = (self.place(path, pop()) for _ in range(3))
                     self.copy(path, to, source, n)
                 elif op == 0xFC0B:
-                    n, v, to = self.place(path, pop()), pop(), self.place(path, pop())
+                    n = self.place(path, pop())
+                    v = pop()
+                    to = self.place(path, pop())
                     self.fill(path, to, and_(v, 255), n)
                 elif op == 0:
                     raise Refused("unreachable")

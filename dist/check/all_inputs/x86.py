@@ -35,11 +35,9 @@ from terms import (
 
 STEPS = 100_000_000  # more instructions than any call needs
 # Where Linux puts objects, stack and heap. The ranges do not overlap.
-OBJECTS, LIBRARIES, CALLERS = (
-    (0x7E00_0000_0000, 1 << 38),
-    (0x7D00_0000_0000, 1 << 38),
-    (0x7F00_0000_0000, 1 << 38),
-)
+OBJECTS = (0x7E00_0000_0000, 1 << 38)
+LIBRARIES = (0x7D00_0000_0000, 1 << 38)
+CALLERS = (0x7F00_0000_0000, 1 << 38)
 STACKS, HEAPS = (0x7FFE_0000_0000, 1 << 32), (0x5500_0000_0000, 1 << 40)
 NAMES = "rax rcx rdx rbx rsp rbp rsi rdi".split()
 ARGUMENTS = ["rdi", "rsi", "rdx", "rcx", "r8", "r9"]
@@ -65,15 +63,23 @@ class Operand:
     """A register of w bits, the second byte of one (h), a constant, or memory of w bits (0: unknown)."""
 
     def __init__(self, text, note):
-        self.kind, self.w, self.text = "i", 0, text
+        self.kind = "i"
+        self.w = 0
+        self.text = text
         if text in REGISTERS:
             self.kind, (self.name, self.w) = "r", REGISTERS[text]
         elif re.fullmatch("[abcd]h", text):
-            self.kind, self.name, self.w = "h", f"r{text[0]}x", 8
+            self.kind = "h"
+            self.name = f"r{text[0]}x"
+            self.w = 8
         elif re.fullmatch(r"xmm\d+", text):
-            self.kind, self.name, self.w = "x", int(text[3:]), 128
+            self.kind = "x"
+            self.name = int(text[3:])
+            self.w = 128
         elif "[" in text:
-            self.kind, self.parts, self.offset = "m", [], 0
+            self.kind = "m"
+            self.parts = []
+            self.offset = 0
             size, inside = re.fullmatch(r"(?:(\w+) PTR )?\[(.*)\]", text).groups()
             self.w = SIZES.get(size, 0)
             if inside.startswith("rip"):
@@ -108,8 +114,10 @@ class Module:
     def __init__(self, path):
         self.base = base = place(*OBJECTS, 4096)
         image = Image(path, base, place(*LIBRARIES, 64))
-        self.exports, self.imports = image.exports, image.imports
-        self.constants, self.variables = image.constants, image.variables
+        self.exports = image.exports
+        self.imports = image.imports
+        self.constants = image.constants
+        self.variables = image.variables
         self.returned, self.stack_top, self.heap = (
             place(*CALLERS),
             place(*STACKS, 16),
@@ -132,7 +140,8 @@ class Module:
             if label := re.fullmatch(r"([0-9a-f]{16}) <(.*)>:", line):
                 self.names.setdefault(self.base + int(label[1], 16), label[2])
             elif found := LINE.fullmatch(line):
-                at, content = self.base + int(found[1], 16), bytes.fromhex(found[2])
+                at = self.base + int(found[1], 16)
+                content = bytes.fromhex(found[2])
                 for i, b in enumerate(content, at):
                     if image.constants.get(i) != b or not image.is_code(i):
                         raise Refused(
@@ -191,7 +200,10 @@ class State:
     the lowest of the value. A register xmm is 16 cells. `flags` are what made them."""
 
     def __init__(self, registers, xmm, at=0):
-        self.registers, self.xmm, self.at, self.flags = registers, xmm, at, None
+        self.registers = registers
+        self.xmm = xmm
+        self.at = at
+        self.flags = None
 
     def copy(self):
         other = State(
@@ -430,7 +442,8 @@ class Run(Machine):
         path.state.registers |= {name: None for name in [*ARGUMENTS, *OTHERS]} | {
             "rax": to
         }
-        path.state.xmm, path.state.flags = {}, None
+        path.state.xmm = {}
+        path.state.flags = None
         for at in path.memory:
             if at in self.stack and at < rsp:
                 path.memory[at] = fresh("below"), 0
@@ -538,7 +551,8 @@ def arithmetic(kind, function, keeps=True):
         ):
             a = b = 0
         else:
-            a, b = run.get(path, to, w), run.get(path, source, w)
+            a = run.get(path, to, w)
+            b = run.get(path, source, w)
         r = function(a, b, w) if kind != "logic" else function(a, b)
         path.state.flags = kind, a, b, r, w, None
         if keeps:
@@ -559,11 +573,9 @@ def one_more(kind, function):
 
 def with_carry(function):
     def do(run, path, to, source, w):
-        a, b, c = (
-            run.get(path, to, w),
-            run.get(path, source, w),
-            carry(path.state.flags),
-        )
+        a = run.get(path, to, w)
+        b = run.get(path, source, w)
+        c = carry(path.state.flags)
         run.put(path, to, function(function(a, b, w), c, w), w)
         path.state.flags = None
 
@@ -637,7 +649,8 @@ def shrd(run, path, to, source, count, w):
 
 
 def xchg(run, path, a, b, w):
-    x, y = run.get(path, a, w), run.get(path, b, w)
+    x = run.get(path, a, w)
+    y = run.get(path, b, w)
     run.put(path, a, y, w)
     run.put(path, b, x, w)
 
@@ -810,7 +823,8 @@ def each(function, of_numbers):
         if function is xor_bytes and to.text == source.text:
             path.state.xmm[to.name] = [0] * 16
             return
-        a, b = run.vector(path, to), run.vector(path, source)
+        a = run.vector(path, to)
+        b = run.vector(path, source)
         try:
             path.state.xmm[to.name] = list(map(of_numbers, a, b))
         except TypeError:
@@ -839,7 +853,8 @@ def equal_bytes(a, b):
 
 
 def pshufb(run, path, to, source):
-    table, places = run.vector(path, to), run.vector(path, source)
+    table = run.vector(path, to)
+    places = run.vector(path, source)
     constants = bytes(table) if all(isinstance(c, int) for c in table) else None
     made = []
     for c in places:
@@ -934,10 +949,12 @@ def each_word(function):
 
 def paddd(run, path, to, source):
     """Sums of words. A word that is added to itself is shifted, so that it stays an affine form."""
-    a, b = run.vector(path, to), run.vector(path, source)
+    a = run.vector(path, to)
+    b = run.vector(path, source)
     made = []
     for i in range(0, 16, 4):
-        x, y = joined(a[i : i + 4]), joined(b[i : i + 4])
+        x = joined(a[i : i + 4])
+        y = joined(b[i : i + 4])
         made += cells_of(shl(x, 1, 32) if x == y else add(x, y, 32), 4)
     path.state.xmm[to.name] = made
 
