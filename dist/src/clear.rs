@@ -2,6 +2,8 @@
 
 #![allow(unsafe_code)]
 
+#[cfg(not(feature = "c"))]
+use core::mem::MaybeUninit;
 use core::sync::atomic::{compiler_fence, Ordering};
 
 /// Writes zeros.
@@ -21,27 +23,26 @@ pub(crate) fn overwrite<T>(place: &mut T, value: T) {
     compiler_fence(Ordering::SeqCst);
 }
 
-/// The words of a part of the stack that is cleared at once.
-#[cfg(not(feature = "c"))]
-const PART: usize = 16;
+/// What is cleared of the stack at once: the largest number that the processor writes at once.
+#[cfg(all(not(feature = "c"), target_arch = "x86_64"))]
+type Part = core::arch::x86_64::__m128i;
+#[cfg(all(not(feature = "c"), not(target_arch = "x86_64")))]
+type Part = u64;
 
 /// How many parts there are: a call uses less than these 2,048 bytes below the frame that has the round
 /// keys.
 #[cfg(not(feature = "c"))]
-const PARTS: usize = 16;
+const PARTS: usize = 2048 / core::mem::size_of::<Part>();
 
 /// Writes zeros over the stack below the caller's frame, where the calls that it made before left what
 /// they had moved or spilled.
 #[cfg(not(feature = "c"))]
 #[inline(never)]
 pub(crate) fn clear_stack() {
-    let mut frame = core::mem::MaybeUninit::<[[u64; PART]; PARTS]>::uninit();
-    for part in 0..PARTS {
-        // SAFETY: the pointer is to one of the parts.
-        unsafe {
-            let first = frame.as_mut_ptr().cast::<[u64; PART]>();
-            core::ptr::write_volatile(first.add(part), [0; PART]);
-        }
+    let mut frame = [MaybeUninit::<Part>::uninit(); PARTS];
+    for part in &mut frame {
+        // SAFETY: the pointer comes from a reference, and zeros are a value of each type of numbers.
+        unsafe { core::ptr::write_volatile(part, MaybeUninit::zeroed()) };
     }
     compiler_fence(Ordering::SeqCst);
 }

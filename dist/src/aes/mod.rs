@@ -3,7 +3,6 @@
 
 mod instructions;
 
-use crate::byteorder::{BigEndian, ByteOrder};
 use crate::clear::overwrite;
 use crate::proved::aes_block::Aes;
 use crate::proved::block_pair::BlockPair;
@@ -19,60 +18,40 @@ const MAX_BYTES: usize = 4 * MAX_WORDS;
 
 /// The round keys of one KEK, in the memory of a call. They are cleared when they are dropped.
 pub(crate) struct Room {
-    /// For the instructions.
-    keys: RoundKeys,
+    /// The key schedule of FIPS 197, for the instructions.
+    schedule: Schedule,
     /// For the tables.
     tables: Option<Aes>,
 }
 
-#[derive(Clone, Copy)]
-pub(crate) struct RoundKeys {
-    /// The key schedule of FIPS 197.
-    encrypt: [u8; MAX_BYTES],
-    /// The same round keys for the equivalent inverse cipher: all but the outer two are mixed.
-    decrypt: [u8; MAX_BYTES],
-    /// The key schedule in words.
-    words: [u32; MAX_WORDS],
-}
-
-impl RoundKeys {
-    const ZEROS: Self = Self {
-        encrypt: [0; MAX_BYTES],
-        decrypt: [0; MAX_BYTES],
-        words: [0; MAX_WORDS],
-    };
-}
+type Schedule = [u8; MAX_BYTES];
 
 impl Room {
     #[inline(always)]
     pub(crate) fn new() -> Self {
         Self {
-            keys: RoundKeys::ZEROS,
+            schedule: [0; MAX_BYTES],
             tables: None,
         }
     }
 
     /// Writes the key schedule of a KEK, and returns its length in bytes.
     fn expand(&mut self, by: Instructions, kek: &[u8]) -> Option<usize> {
-        let keys = &mut self.keys;
-        // The number of words is a constant each time, so that the compiler needs no division.
-        match kek.len() {
-            16 => by.expand(kek, 4, &mut keys.words),
-            24 => by.expand(kek, 6, &mut keys.words),
-            32 => by.expand(kek, 8, &mut keys.words),
-            _ => return None,
+        if !matches!(kek.len(), 16 | 24 | 32) {
+            return None;
         }
-        let count = kek.len() + 28;
-        let len = 4 * count;
-        BigEndian::write_u32_into(&keys.words[..count], &mut keys.encrypt[..len]);
-        Some(len)
+        by.expand(kek, &mut self.schedule);
+        Some(4 * kek.len() + 112)
     }
 
-    /// AES by the key schedule of this length that `encrypt` has.
-    fn lend(&mut self, by: Instructions, len: usize) -> LentAes<'_> {
-        let (keys, rounds) = (&mut self.keys, len / 16 - 1);
-        by.invert(&keys.encrypt, rounds, &mut keys.decrypt);
-        LentAes::Instructions { by, keys, rounds }
+    /// AES by the key schedule of this length.
+    fn lend(&self, by: Instructions, len: usize) -> LentAes<'_> {
+        let (schedule, rounds) = (&self.schedule, len / 16 - 1);
+        LentAes::Instructions {
+            by,
+            schedule,
+            rounds,
+        }
     }
 
     /// AES by the tables.
@@ -83,7 +62,7 @@ impl Room {
 
 impl Drop for Room {
     fn drop(&mut self) {
-        overwrite(&mut self.keys, RoundKeys::ZEROS);
+        overwrite(&mut self.schedule, [0; MAX_BYTES]);
         if self.tables.is_some() {
             overwrite(&mut self.tables, Aes::from_schedule(&[0; MAX_BYTES]));
         }
@@ -95,7 +74,7 @@ pub(crate) enum LentAes<'a> {
     /// By the instructions of the processor.
     Instructions {
         by: Instructions,
-        keys: &'a RoundKeys,
+        schedule: &'a Schedule,
         rounds: usize,
     },
     /// By the proved tables.
@@ -120,9 +99,11 @@ impl BlockPair for LentAes<'_> {
     #[inline(always)]
     fn enc(&self, b: [u8; 16]) -> [u8; 16] {
         match self {
-            LentAes::Instructions { by, keys, rounds } => {
-                joined(by.encrypt(&keys.encrypt, *rounds, halves(b)))
-            }
+            LentAes::Instructions {
+                by,
+                schedule,
+                rounds,
+            } => joined(by.encrypt(schedule, *rounds, halves(b))),
             LentAes::Tables(aes) => aes.enc(b),
         }
     }
@@ -130,9 +111,11 @@ impl BlockPair for LentAes<'_> {
     #[inline(always)]
     fn dec(&self, b: [u8; 16]) -> [u8; 16] {
         match self {
-            LentAes::Instructions { by, keys, rounds } => {
-                joined(by.decrypt(&keys.decrypt, *rounds, halves(b)))
-            }
+            LentAes::Instructions {
+                by,
+                schedule,
+                rounds,
+            } => joined(by.decrypt(schedule, *rounds, halves(b))),
             LentAes::Tables(aes) => aes.dec(b),
         }
     }
@@ -157,7 +140,7 @@ impl<'a> KeyInit for LentAes<'a> {
         if schedule.len() != len {
             return Err(ScheduleFault::BadLength);
         }
-        schedule.copy_from_slice(&room.keys.encrypt[..len]);
+        schedule.copy_from_slice(&room.schedule[..len]);
         Ok(())
     }
 
@@ -169,7 +152,7 @@ impl<'a> KeyInit for LentAes<'a> {
         if !matches!(schedule.len(), 176 | 208 | 240) {
             return None;
         }
-        room.keys.encrypt[..schedule.len()].copy_from_slice(schedule);
+        room.schedule[..schedule.len()].copy_from_slice(schedule);
         Some(room.lend(by, schedule.len()))
     }
 }

@@ -1,11 +1,14 @@
 //! The Arm cryptographic extension. AESE and AESD add the round key first, so the last round key needs
-//! an addition of its own.
+//! an addition of its own. The intrinsics of these instructions are newer than Rust 1.63, so they are
+//! written out.
 
 // Which intrinsics are unsafe depends on the compiler's version, so no block says it.
 #![allow(unsafe_code, unsafe_op_in_unsafe_fn)]
 
+use crate::byteorder::{BigEndian, ByteOrder};
 use crate::proved::fips197::{expand_key, SubWord, MAX_WORDS};
 use core::arch::aarch64::*;
+use core::arch::asm;
 
 /// That the processor has the instructions: [`find`](Self::find) alone makes it.
 #[derive(Clone, Copy)]
@@ -26,17 +29,11 @@ impl Instructions {
         }
     }
 
-    /// The proved key expansion.
+    /// Writes the key schedule of a KEK of a legal length.
     #[inline(always)]
-    pub(crate) fn expand(self, kek: &[u8], key_words: usize, words: &mut [u32; MAX_WORDS]) {
-        expand_key::<ByInstruction>(kek, key_words, words);
-    }
-
-    /// The round keys of the equivalent inverse cipher, in the order of the cipher's.
-    #[inline(always)]
-    pub(crate) fn invert(self, keys: &[u8; 240], rounds: usize, inverse: &mut [u8; 240]) {
+    pub(crate) fn expand(self, kek: &[u8], schedule: &mut [u8; 240]) {
         // SAFETY: the processor has the instructions.
-        unsafe { invert(keys, rounds, inverse) }
+        unsafe { expand(kek, schedule) }
     }
 
     #[inline(always)]
@@ -62,7 +59,7 @@ impl Instructions {
     }
 }
 
-/// SubWord by the instruction. Only [`Instructions::expand`] uses it.
+/// SubWord by the instruction. Only [`expand`] uses it.
 struct ByInstruction;
 
 impl SubWord for ByInstruction {
@@ -73,14 +70,93 @@ impl SubWord for ByInstruction {
     }
 }
 
+/// AddRoundKey, SubBytes and ShiftRows.
+#[inline]
+#[target_feature(enable = "neon,aes")]
+unsafe fn aese(mut state: uint8x16_t, key: uint8x16_t) -> uint8x16_t {
+    asm!(
+        "aese {0:v}.16b, {1:v}.16b",
+        inout(vreg) state,
+        in(vreg) key,
+        options(pure, nomem, nostack, preserves_flags)
+    );
+    state
+}
+
+/// The same and MixColumns. Processors run the two side by side as one.
+#[inline]
+#[target_feature(enable = "neon,aes")]
+unsafe fn aese_aesmc(mut state: uint8x16_t, key: uint8x16_t) -> uint8x16_t {
+    asm!(
+        "aese {0:v}.16b, {1:v}.16b",
+        "aesmc {0:v}.16b, {0:v}.16b",
+        inout(vreg) state,
+        in(vreg) key,
+        options(pure, nomem, nostack, preserves_flags)
+    );
+    state
+}
+
+/// AddRoundKey, InvSubBytes and InvShiftRows.
+#[inline]
+#[target_feature(enable = "neon,aes")]
+unsafe fn aesd(mut state: uint8x16_t, key: uint8x16_t) -> uint8x16_t {
+    asm!(
+        "aesd {0:v}.16b, {1:v}.16b",
+        inout(vreg) state,
+        in(vreg) key,
+        options(pure, nomem, nostack, preserves_flags)
+    );
+    state
+}
+
+/// The same and InvMixColumns.
+#[inline]
+#[target_feature(enable = "neon,aes")]
+unsafe fn aesd_aesimc(mut state: uint8x16_t, key: uint8x16_t) -> uint8x16_t {
+    asm!(
+        "aesd {0:v}.16b, {1:v}.16b",
+        "aesimc {0:v}.16b, {0:v}.16b",
+        inout(vreg) state,
+        in(vreg) key,
+        options(pure, nomem, nostack, preserves_flags)
+    );
+    state
+}
+
+/// InvMixColumns.
+#[inline]
+#[target_feature(enable = "neon,aes")]
+unsafe fn aesimc(mut state: uint8x16_t) -> uint8x16_t {
+    asm!(
+        "aesimc {0:v}.16b, {0:v}.16b",
+        inout(vreg) state,
+        options(pure, nomem, nostack, preserves_flags)
+    );
+    state
+}
+
 /// The first half of a round in four equal columns, in which ShiftRows changes nothing, with no round
 /// key.
 #[inline]
 #[target_feature(enable = "neon,aes")]
 unsafe fn sub_word(word: u32) -> u32 {
     let columns = vreinterpretq_u8_u32(vdupq_n_u32(word));
-    let made = vaeseq_u8(columns, vdupq_n_u8(0));
+    let made = aese(columns, vdupq_n_u8(0));
     vgetq_lane_u32::<0>(vreinterpretq_u32_u8(made))
+}
+
+/// The proved key expansion, by a number of words that is known when it is compiled: so it takes no
+/// division, and the instruction is inlined.
+#[target_feature(enable = "neon,aes")]
+unsafe fn expand(kek: &[u8], schedule: &mut [u8; 240]) {
+    let mut words = [0; MAX_WORDS];
+    match kek.len() {
+        16 => expand_key::<ByInstruction>(kek, 4, &mut words),
+        24 => expand_key::<ByInstruction>(kek, 6, &mut words),
+        _ => expand_key::<ByInstruction>(kek, 8, &mut words),
+    }
+    BigEndian::write_u32_into(&words, schedule);
 }
 
 /// Round key `k`.
@@ -89,23 +165,6 @@ unsafe fn sub_word(word: u32) -> u32 {
 unsafe fn round_key(keys: &[u8; 240], k: usize) -> uint8x16_t {
     debug_assert!(k < 15);
     vld1q_u8(keys.as_ptr().add(16 * k))
-}
-
-#[inline]
-#[target_feature(enable = "neon")]
-unsafe fn set_round_key(keys: &mut [u8; 240], k: usize, key: uint8x16_t) {
-    debug_assert!(k < 15);
-    vst1q_u8(keys.as_mut_ptr().add(16 * k), key);
-}
-
-#[target_feature(enable = "neon,aes")]
-unsafe fn invert(keys: &[u8; 240], rounds: usize, inverse: &mut [u8; 240]) {
-    assert!(rounds < 15);
-    set_round_key(inverse, 0, round_key(keys, 0));
-    for k in 1..rounds {
-        set_round_key(inverse, k, vaesimcq_u8(round_key(keys, k)));
-    }
-    set_round_key(inverse, rounds, round_key(keys, rounds));
 }
 
 #[inline]
@@ -126,19 +185,23 @@ unsafe fn encrypt(keys: &[u8; 240], rounds: usize, low: u64, high: u64) -> (u64,
     assert!((1..15).contains(&rounds));
     let mut state = loaded(low, high);
     for k in 0..rounds - 1 {
-        state = vaesmcq_u8(vaeseq_u8(state, round_key(keys, k)));
+        state = aese_aesmc(state, round_key(keys, k));
     }
-    state = vaeseq_u8(state, round_key(keys, rounds - 1));
+    state = aese(state, round_key(keys, rounds - 1));
     stored(veorq_u8(state, round_key(keys, rounds)))
 }
 
+/// The equivalent inverse cipher (FIPS 197, section 5.3.5). Its round keys are mixed here: no block waits
+/// for that, and no call needs memory for a second schedule.
 #[target_feature(enable = "neon,aes")]
 unsafe fn decrypt(keys: &[u8; 240], rounds: usize, low: u64, high: u64) -> (u64, u64) {
     assert!((1..15).contains(&rounds));
     let mut state = loaded(low, high);
-    for k in (2..=rounds).rev() {
-        state = vaesimcq_u8(vaesdq_u8(state, round_key(keys, k)));
+    let mut key = round_key(keys, rounds);
+    for k in (1..rounds).rev() {
+        state = aesd_aesimc(state, key);
+        key = aesimc(round_key(keys, k));
     }
-    state = vaesdq_u8(state, round_key(keys, 1));
+    state = aesd(state, key);
     stored(veorq_u8(state, round_key(keys, 0)))
 }

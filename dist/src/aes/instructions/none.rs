@@ -1,7 +1,5 @@
 //! For processors without AES instructions: there is no value of the type.
 
-use crate::proved::fips197::MAX_WORDS;
-
 #[derive(Clone, Copy)]
 pub(crate) enum Instructions {}
 
@@ -10,11 +8,7 @@ impl Instructions {
         None
     }
 
-    pub(crate) fn expand(self, _: &[u8], _: usize, _: &mut [u32; MAX_WORDS]) {
-        match self {}
-    }
-
-    pub(crate) fn invert(self, _: &[u8; 240], _: usize, _: &mut [u8; 240]) {
+    pub(crate) fn expand(self, _: &[u8], _: &mut [u8; 240]) {
         match self {}
     }
 

@@ -4,6 +4,7 @@
 // Which intrinsics are unsafe depends on the compiler's version, so no block says it.
 #![allow(unsafe_code, unsafe_op_in_unsafe_fn)]
 
+use crate::byteorder::{BigEndian, ByteOrder};
 use crate::proved::fips197::{expand_key, SubWord, MAX_WORDS};
 use core::arch::x86_64::*;
 
@@ -26,17 +27,11 @@ impl Instructions {
         }
     }
 
-    /// The proved key expansion.
+    /// Writes the key schedule of a KEK of a legal length.
     #[inline(always)]
-    pub(crate) fn expand(self, kek: &[u8], key_words: usize, words: &mut [u32; MAX_WORDS]) {
-        expand_key::<ByInstruction>(kek, key_words, words);
-    }
-
-    /// The round keys of the equivalent inverse cipher, in the order of the cipher's.
-    #[inline(always)]
-    pub(crate) fn invert(self, keys: &[u8; 240], rounds: usize, inverse: &mut [u8; 240]) {
+    pub(crate) fn expand(self, kek: &[u8], schedule: &mut [u8; 240]) {
         // SAFETY: the processor has the instructions.
-        unsafe { invert(keys, rounds, inverse) }
+        unsafe { expand(kek, schedule) }
     }
 
     #[inline(always)]
@@ -62,7 +57,7 @@ impl Instructions {
     }
 }
 
-/// SubWord by the instruction. Only [`Instructions::expand`] uses it.
+/// SubWord by the instruction. Only [`expand`] uses it.
 struct ByInstruction;
 
 impl SubWord for ByInstruction {
@@ -81,29 +76,25 @@ unsafe fn sub_word(word: u32) -> u32 {
     _mm_cvtsi128_si32(_mm_aesenclast_si128(columns, _mm_setzero_si128())) as u32
 }
 
+/// The proved key expansion, by a number of words that is known when it is compiled: so it takes no
+/// division, and the instruction is inlined.
+#[target_feature(enable = "aes,sse2")]
+unsafe fn expand(kek: &[u8], schedule: &mut [u8; 240]) {
+    let mut words = [0; MAX_WORDS];
+    match kek.len() {
+        16 => expand_key::<ByInstruction>(kek, 4, &mut words),
+        24 => expand_key::<ByInstruction>(kek, 6, &mut words),
+        _ => expand_key::<ByInstruction>(kek, 8, &mut words),
+    }
+    BigEndian::write_u32_into(&words, schedule);
+}
+
 /// Round key `k`.
 #[inline]
 #[target_feature(enable = "sse2")]
 unsafe fn round_key(keys: &[u8; 240], k: usize) -> __m128i {
     debug_assert!(k < 15);
     _mm_loadu_si128(keys.as_ptr().cast::<__m128i>().add(k))
-}
-
-#[inline]
-#[target_feature(enable = "sse2")]
-unsafe fn set_round_key(keys: &mut [u8; 240], k: usize, key: __m128i) {
-    debug_assert!(k < 15);
-    _mm_storeu_si128(keys.as_mut_ptr().cast::<__m128i>().add(k), key);
-}
-
-#[target_feature(enable = "aes,sse2")]
-unsafe fn invert(keys: &[u8; 240], rounds: usize, inverse: &mut [u8; 240]) {
-    assert!(rounds < 15);
-    set_round_key(inverse, 0, round_key(keys, 0));
-    for k in 1..rounds {
-        set_round_key(inverse, k, _mm_aesimc_si128(round_key(keys, k)));
-    }
-    set_round_key(inverse, rounds, round_key(keys, rounds));
 }
 
 #[inline]
@@ -132,12 +123,14 @@ unsafe fn encrypt(keys: &[u8; 240], rounds: usize, low: u64, high: u64) -> (u64,
     stored(_mm_aesenclast_si128(state, round_key(keys, rounds)))
 }
 
+/// The equivalent inverse cipher (FIPS 197, section 5.3.5). Its round keys are mixed here: no block waits
+/// for that, and no call needs memory for a second schedule.
 #[target_feature(enable = "aes,sse2")]
 unsafe fn decrypt(keys: &[u8; 240], rounds: usize, low: u64, high: u64) -> (u64, u64) {
     assert!(rounds < 15);
     let mut state = _mm_xor_si128(loaded(low, high), round_key(keys, rounds));
     for k in (1..rounds).rev() {
-        state = _mm_aesdec_si128(state, round_key(keys, k));
+        state = _mm_aesdec_si128(state, _mm_aesimc_si128(round_key(keys, k)));
     }
     stored(_mm_aesdeclast_si128(state, round_key(keys, 0)))
 }
