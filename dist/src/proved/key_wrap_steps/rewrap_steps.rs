@@ -164,9 +164,9 @@ fn put_first(text: &mut [u8], block: &[u8; 16]) {
     text[..WORD].copy_from_slice(&block[..WORD]);
 }
 
-// What was found under the old pair is wrapped under the new one if it is a key that fits, or else
-// under the old one again.
-fn turn_old(forms: &RewrapForms, text: &[u8], block: &mut [u8; 16]) -> RewrapPhase {
+/// Returns what follows the unwrapping under the old pair: what was found is wrapped under the new one if
+/// it is a key that fits, or else under the old one again. The block becomes the first one of that run.
+pub fn turn_old(forms: &RewrapForms, text: &[u8], block: &mut [u8; 16]) -> RewrapPhase {
     let found = BigEndian::read_u64(&block[..]);
     let registers = &text[WORD..];
     let difference = old_difference(forms, found, registers);
@@ -201,9 +201,10 @@ fn after_old(
     RewrapNext::Run(RewrapPhase::UnwrapNew(fault))
 }
 
-// What was found under the new pair is wrapped under it again, with this outcome. The text is new if
-// it is a key. Where the text is restored in another way, that is the end.
-fn turn_new(
+/// Returns the outcome after the unwrapping under the new pair of a text that has this fault: the text is
+/// new if a key was found. The block becomes the first one of a run that restores the text under the new
+/// pair. A text that is restored in another way needs no run.
+pub fn turn_new(
     forms: &RewrapForms,
     fault: Refusal,
     text: &[u8],

@@ -58,7 +58,7 @@ pub(crate) fn are_kind_slots(
 
 // Finds the form and the length in each slot.
 #[inline(never)]
-fn kind_slots<B: BlockPair>(
+pub(crate) fn kind_slots<B: BlockPair>(
     pair: &B,
     texts: &[u8],
     scratch: &mut [u8],

@@ -3,12 +3,15 @@
 //! The calls for many keys over an AES of many blocks at once: the keys are wrapped side by side.
 
 use crate::proved::keywrap_calls::keks::aes_of;
+use crate::proved::keywrap_calls::many_kinds::{are_kind_slots, kind_slots};
+use crate::proved::keywrap_calls::many_rewraps::{rewrap_slots, rewrap_slots_of};
 use crate::proved::keywrap_calls::many_wraps::{unwrap_slots, unwrap_slots_of, wrap_slots, wrap_slots_of};
 use crate::proved::keywrap_calls::status::{BAD_KEK, BAD_LENGTH, DONE};
 use crate::proved::block_lanes::BlockLanes;
 use crate::proved::fips197::KeyInit;
 use crate::proved::key_wrap_core::Form;
-use crate::proved::lane_runs::{unwrap_texts, wrap_texts};
+use crate::proved::key_wrap_steps::RewrapRequest;
+use crate::proved::lane_runs::{MAX_COPIED, kind_texts, rewrap_texts, unwrap_texts, wrap_texts};
 
 // The length of a padded wrapped key of one word, which is one block. It is not wrapped side by side.
 const ONE_WORD_TEXT: usize = 16;
@@ -85,4 +88,89 @@ fn unwrap_side_by_side<B: BlockLanes>(
     statuses: &mut [u8],
 ) {
     unwrap_texts(pair, form, texts, len, key_lens, statuses);
+}
+
+/// Does what `kind_many` does, the wrapped keys side by side.
+pub fn kind_many_lanes<A: KeyInit + BlockLanes>(
+    schedule: A::Schedule,
+    kek: &[u8],
+    texts: &[u8],
+    scratch: &mut [u8],
+    forms: &mut [u8],
+    key_lens: &mut [usize],
+    statuses: &mut [u8],
+) -> i32 {
+    let aes = if let Some(aes) = aes_of::<A>(kek, schedule) { aes } else {
+        return BAD_KEK;
+    };
+    if !are_kind_slots(
+        texts.len(),
+        scratch.len(),
+        forms.len(),
+        key_lens.len(),
+        statuses.len(),
+    ) {
+        return BAD_LENGTH;
+    }
+    let len = scratch.len() + 8;
+    if len == ONE_WORD_TEXT || len > MAX_COPIED {
+        kind_slots(&aes, texts, scratch, forms, key_lens, statuses);
+    } else {
+        kind_side_by_side(&aes, texts, scratch, forms, key_lens, statuses);
+    }
+    DONE
+}
+
+// Finds the form and the length in each slot.
+#[inline(never)]
+fn kind_side_by_side<B: BlockLanes>(
+    pair: &B,
+    texts: &[u8],
+    scratch: &mut [u8],
+    forms: &mut [u8],
+    key_lens: &mut [usize],
+    statuses: &mut [u8],
+) {
+    kind_texts(pair, texts, scratch.len() + 8, forms, key_lens, statuses);
+    scratch.fill(0);
+}
+
+/// Does what `rewrap_many` does, the wrapped keys side by side.
+pub fn rewrap_many_lanes<A: KeyInit + BlockLanes>(
+    schedules: (A::Schedule, A::Schedule),
+    old_kek: &[u8],
+    new_kek: &[u8],
+    texts: &mut [u8],
+    flags: u32,
+    statuses: &mut [u8],
+) -> i32 {
+    let old = if let Some(old) = aes_of::<A>(old_kek, schedules.0) { old } else {
+        return BAD_KEK;
+    };
+    let new = if let Some(new) = aes_of::<A>(new_kek, schedules.1) { new } else {
+        return BAD_KEK;
+    };
+    let (request, len) = if let Some((request, len)) = rewrap_slots_of(flags, texts.len(), statuses.len()) { (request, len) } else {
+        return BAD_LENGTH;
+    };
+    if len == ONE_WORD_TEXT || len > MAX_COPIED {
+        rewrap_slots(&old, &new, &request, len, texts, statuses);
+    } else {
+        rewrap_side_by_side(&old, &new, &request, len, texts, statuses);
+    }
+    DONE
+}
+
+// Rewraps each slot of `len` bytes. Not inlined, its frame lies over what the making of the key
+// schedules left on the stack.
+#[inline(never)]
+fn rewrap_side_by_side<O: BlockLanes, N: BlockLanes>(
+    old: &O,
+    new: &N,
+    request: &RewrapRequest,
+    len: usize,
+    texts: &mut [u8],
+    statuses: &mut [u8],
+) {
+    rewrap_texts(old, new, request, texts, len, statuses);
 }

@@ -56,7 +56,7 @@ pub(crate) fn rewrap_slots_of(
 // Rewraps each slot of `len` bytes. Not inlined, its frame lies over what the making of the key
 // schedules left on the stack.
 #[inline(never)]
-fn rewrap_slots<O: BlockPair, N: BlockPair>(
+pub(crate) fn rewrap_slots<O: BlockPair, N: BlockPair>(
     old: &O,
     new: &N,
     request: &RewrapRequest,

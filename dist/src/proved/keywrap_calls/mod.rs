@@ -40,7 +40,7 @@ pub use crate::proved::key_wrap_core::step_count;
 pub use kinds::kind;
 pub use known_answers::{TestedCalls, self_test};
 pub use many_kinds::kind_many;
-pub use many_lanes::{unwrap_many_lanes, wrap_many_lanes};
+pub use many_lanes::{kind_many_lanes, rewrap_many_lanes, unwrap_many_lanes, wrap_many_lanes};
 pub use many_rewraps::rewrap_many;
 pub use many_wraps::{unwrap_many, wrap_many};
 pub use padded::{unwrap_padded, wrap_padded};

@@ -7,10 +7,10 @@ use crate::proved::key_wrap_core::{Form, InPlaceFault, InitialValue, WORD};
 use crate::proved::key_wrap_steps::{end_unwrap, end_unwrap_padded};
 
 // The status of a text whose key was found.
-const DONE: u8 = 0;
+pub(crate) const DONE: u8 = 0;
 
 // The status of a text that is no wrapped key.
-const INTEGRITY: u8 = 5;
+pub(crate) const INTEGRITY: u8 = 5;
 
 // Ends each unwrapping of a turn.
 pub(crate) fn end_turn(

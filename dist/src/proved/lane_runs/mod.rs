@@ -6,12 +6,19 @@
 //! a plain wrapping: a text of 16 bytes, of a padded key of up to 8 bytes, is for the calls for one text.
 
 mod ends;
+mod kinds;
+mod rewraps;
 mod steps;
 mod unwraps;
 mod wraps;
 
+pub use kinds::kind_texts;
+pub use rewraps::rewrap_texts;
 pub use unwraps::unwrap_texts;
 pub use wraps::wrap_texts;
+
+/// The length of the longest texts that `kind_texts` and `rewrap_texts` take, which copy them.
+pub const MAX_COPIED: usize = 264;
 
 // The texts of one turn: six groups of 8 blocks, for an AES that works on 8 at once.
 const LANES: usize = 48;

@@ -53,7 +53,12 @@ fn unwrap_turn<B: BlockLanes>(
 }
 
 // Undoes all steps of each text: no step is left, and its unwrapping has to be ended.
-fn undo_lanes<B: BlockLanes>(pair: &B, texts: &mut [u8], text_len: usize, blocks: &mut [u8]) {
+pub(crate) fn undo_lanes<B: BlockLanes>(
+    pair: &B,
+    texts: &mut [u8],
+    text_len: usize,
+    blocks: &mut [u8],
+) {
     let mut left = 0;
     let _begun = begin_unwrap_many(texts, text_len, &mut left, blocks);
     undo_steps(pair, texts, text_len, blocks);
