@@ -1,17 +1,21 @@
 """The program in C over every short text and every fault of the system, in one process: tests/command has host.c over
 files in memory, what a text denotes, and the texts. Expected answers are OpenSSL's."""
 
+import importlib.util
 import re
 import subprocess
 
 import pytest
 
 from builds import ROOT, run
-from command import planted
 from program import evidence, slow
 from tools import need
 
 HERE = ROOT / "tests/command"
+# By its path: other tests put generate/ on Python's path, where command.py is another module.
+SPEC = importlib.util.spec_from_file_location("planted", HERE / "planted.py")
+planted = importlib.util.module_from_spec(SPEC)
+SPEC.loader.exec_module(planted)
 PROGRAM = ROOT / "dist/command"
 
 
