@@ -122,6 +122,9 @@ def facts(once, request):
         )
 
     def find(machine):
+        # pytest fails if a request asks again for a fixture that was skipped.
+        if machine != "portable C on 32-bit Arm":
+            need("rt")
         if machine == "x86-64":
             need("cc")
             return Library(machine, request.getfixturevalue("library") / "libkeywrap.a")
