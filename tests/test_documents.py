@@ -175,7 +175,7 @@ def test_map():
 
 class TestRepeatedFacts:
     def test_no_licence(self):
-        """README says that there is no licence, as does the copyright file of Debian's package, and no file gives one."""
+        """README and the copyright file of Debian's package say that there is no licence, and no file gives one."""
         words = (
             "There is no release and no licence: you may not copy, change or share it."
         )
