@@ -26,6 +26,7 @@ SOURCES = [*sorted(DIST.glob("*.go")), DIST / "go.mod"]
 MACHINES = {
     "arm64": ({"GOARCH": "arm64", "CC": "aarch64-linux-gnu-gcc"}, "qemu-aarch64"),
     "s390x": ({"GOARCH": "s390x", "CC": "s390x-linux-gnu-gcc"}, "qemu-s390x"),
+    "musl": ({"CC": "musl-gcc"}, None),
 }
 
 
@@ -163,14 +164,15 @@ def test_rows(module, env, names):
 def test_other_machine(module, env, name):
     """The module's tests and the rows, as a static program."""
     variables, emulator = MACHINES[name]
-    need(variables["CC"], emulator)
+    runs = [emulator] if emulator else []
+    need(variables["CC"], *runs)
     there = {**env, **variables, "CGO_ENABLED": "1"}
     static = ["-ldflags", "-linkmode external -extldflags -static"]
     shutil.copy(PROGRAMS / "rows_test.go", module)
     run("go", "test", *static, "-c", "-o", "tests", ".", cwd=module, env=there)
     faces.check(
         "go",
-        runner([emulator, "./tests", "-test.short", "-test.v"], module, env),
+        runner([*runs, "./tests", "-test.short", "-test.v"], module, env),
         "rows",
         "foreign",
     )

@@ -34,6 +34,13 @@ MACHINES = {
     "clang, tables": (["clang", TABLES], []),
     "an old x86-64": (["gcc", "-static"], ["qemu-x86_64", "-cpu", "Nehalem"]),
     "aarch64": (["aarch64-linux-gnu-gcc", "-static"], ["qemu-aarch64"]),
+    # As for Apple's processors: the compiler knows that they have AES.
+    "aarch64 with AES": (
+        ["aarch64-linux-gnu-gcc", "-static", "-march=armv8-a+crypto"],
+        ["qemu-aarch64"],
+    ),
+    "i686": (["i686-linux-gnu-gcc", "-static"], ["qemu-i386"]),
+    "musl": (["musl-gcc", "-static"], []),
     "riscv64": (["riscv64-linux-gnu-gcc", "-static"], ["qemu-riscv64"]),
     "arm": (["arm-linux-gnueabihf-gcc", "-static"], ["qemu-arm"]),
     "s390x": (["s390x-linux-gnu-gcc", "-static"], ["qemu-s390x"]),
@@ -610,27 +617,6 @@ def test_cmake(portable):
         "-Wl,--whole-archive",
         "built/libkeywrap.a",
         "-Wl,--no-whole-archive",
-    )
-
-
-@slow
-def test_windows(portable):
-    """Compiles with mingw; the vectors run under wine."""
-    need("x86_64-w64-mingw32-gcc", "wine")
-    run(
-        "x86_64-w64-mingw32-gcc",
-        *STRICT,
-        "-O2",
-        f"-I{portable}",
-        portable / "check/vectors.c",
-        portable / "keywrap.c",
-        "-o",
-        "vectors.exe",
-    )
-    run(
-        "wine",
-        "./vectors.exe",
-        env={**os.environ, "WINEPREFIX": f"{os.getcwd()}/wine", "WINEDEBUG": "-all"},
     )
 
 

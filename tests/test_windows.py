@@ -3,14 +3,18 @@ kills at each step of replacing a file, the rows of the program, and planted bug
 
 import os
 import pathlib
+import re
+import shutil
 import stat
 import subprocess
+from typing import Callable, NamedTuple
 
 import pytest
 
 from builds import ROOT, run
-from commands import ANSWERS, INTO_FILES, REFUSALS
-from program import Ended, Program, finish, refused, slow, wait_for
+from commands import INTO_FILES
+from machines import EXPORTS, shown
+from program import Ended, Program, evidence, finish, refused, slow, wait_for
 from test_command import DRILL, DRILLED, works
 from test_random_arguments import Lines, make_files, state
 from tools import need
@@ -18,6 +22,7 @@ from vectors import KEK16, KEY16, WRAPPED16
 from windows import COMPILER, STRICT, linked
 
 HERE = ROOT / "tests/command"
+TOOLS = "x86_64-w64-mingw32-"
 
 
 @pytest.fixture(scope="session")
@@ -196,6 +201,7 @@ class TestAccess:
         with program.started("wrap --kek kek16.hex -o out", stdin=pipe) as waiting:
             wait_for(pathlib.Path("out.part0").exists)
             windows.run("cmd", "/c", "echo.>>kek16.hex")
+            assert pathlib.Path("kek16.hex").read_bytes().endswith(b"\r\n")
             windows.run("cmd", "/c", "ren kek16.hex moved.hex")
             assert finish(waiting, KEY16.encode()).status == 0
         assert pathlib.Path("moved.hex").exists()
@@ -259,6 +265,7 @@ def check_kills(program):
             seen.add("new")
         else:
             seen.add("old")
+            assert pathlib.Path("f").exists()
             assert pathlib.Path("f").read_text() == f"{WRAPPED16}\n"
         if ended.status == 0:
             break
@@ -317,3 +324,280 @@ def test_random_command_lines(program, in_c):
             expected = ended(Program(in_c), words, given)
             assert ended(program, words, given) == expected, (words, given)
             compared += 1
+
+
+class TestLibrary:
+    """keywrap.c for Windows, as `make` builds it."""
+
+    @slow
+    def test_check_and_shared(self, windows):
+        """The vectors are right, and the DLL has the calls of the archive and no other name."""
+        shutil.copytree(ROOT / "dist", "dist")
+        words = [f"CC={COMPILER}", "CFLAGS=-O1", "RUN=wine"]
+        said = run(
+            "make", "-s", "-C", "dist", "check", "shared", *words, env=windows.env
+        )
+        assert "8 vectors and the self test: right" in said
+        headers = run(f"{TOOLS}objdump", "-p", "dist/keywrap.dll")
+        table = headers.partition("[Ordinal/Name Pointer] Table")[2]
+        exported = re.findall(r"^\t\[ *\d+\] (\S+)$", table, re.M)
+        assert exported == shown("dist/libkeywrap.a", "-g", tools=TOOLS)
+        assert {*EXPORTS} <= {*exported}
+        # A program that is linked with the DLL.
+        here = ["-Idist", "dist/check/vectors.c", "dist/libkeywrap.dll.a"]
+        run(COMPILER, *here, "-o", "dist/linked.exe")
+        said = windows.run("./linked.exe", cwd="dist")
+        assert "8 vectors and the self test: right" in said
+
+    @slow
+    def test_go(self, windows, tmp_path):
+        """The tests of the module. Go's cache is of this test only."""
+        need("go")
+        shutil.copytree(ROOT / "dist", "module")
+        of_target = {"GOOS": "windows", "CGO_ENABLED": "1", "CC": COMPILER}
+        places = {"HOME": str(tmp_path), "GOFLAGS": "-mod=mod", "CGO_CFLAGS": "-O1"}
+        env = {**windows.env, **places, **of_target}
+        command = ["go", "test", "-exec", "wine", "-v", "./..."]
+        said = run(*command, cwd="module", env=env)
+        assert len(re.findall(r"^--- PASS: ", said, re.M)) >= 10
+
+
+class Planted(NamedTuple):
+    """A bug of host_windows.c: old and new texts, and a function of the fixtures that fails over it."""
+
+    name: str
+    edits: list
+    finds: Callable
+
+
+def found_by(row, *values):
+    """The row finds it over the program."""
+    return lambda made: row(made.program, *values)
+
+
+def host_prints(expected, *words):
+    """tests/command/windows.c prints something else."""
+
+    def check(made):
+        assert made.host(*words) == expected
+
+    return check
+
+
+def names_are_right(made):
+    TestUse().test_letters_of_names(made.program, "kö→😀.hex")
+
+
+def pipes_are_right(made):
+    key = b"\x0a\x0d\x1a\x0d\x0a\x1a\x1a\x00\x0d\x0d\x0a\x0a\x1a\x0a\x0d\x00"
+    TestUse().test_pipes_of_bytes(made.program, made.keywrap, key)
+
+
+def files_are_shared(made):
+    TestAccess().test_open_files_are_shared(made.windows, made.program)
+
+
+def kills_are_survived(made):
+    check_kills(made.program)
+
+
+def sizes_are_right(made):
+    with open("large", "wb") as file:
+        file.truncate((5 << 30) + 3)
+    host_prints(str((5 << 30) + 3), "size", "large")(made)
+
+
+# The last text of a call that both conversions of a name have.
+NAME_IN_UTF8 = "MultiByteToWideChar(CP_UTF8, MB_ERR_INVALID_CHARS, text, -1, "
+ARGUMENT_IN_UTF8 = "WideCharToMultiByte(CP_UTF8, WC_ERR_INVALID_CHARS, wide, -1, "
+BUGS = [
+    Planted(
+        "standard output is a text",
+        [
+            (
+                "    if (!WriteFile(handle, AT(from)",
+                "    if (file == 1) {\n"
+                "        count = (DWORD)fwrite(AT(from), 1, (size_t)len, stdout);\n"
+                "        fflush(stdout);\n"
+                "        return count;\n"
+                "    }\n"
+                "    if (!WriteFile(handle, AT(from)",
+            )
+        ],
+        pipes_are_right,
+    ),
+    Planted(
+        "standard input is a text",
+        [
+            (
+                "    do {\n        if (!ReadFile(handle",
+                "    if (file == 0) return fread(AT(to), 1, (size_t)len, stdin);\n"
+                "    do {\n        if (!ReadFile(handle",
+            )
+        ],
+        pipes_are_right,
+    ),
+    Planted(
+        "open files cannot be written",
+        [
+            (
+                "shared = FILE_SHARE_READ | FILE_SHARE_WRITE | FILE_SHARE_DELETE",
+                "shared = FILE_SHARE_READ | FILE_SHARE_DELETE",
+            )
+        ],
+        files_are_shared,
+    ),
+    Planted(
+        "open files cannot be renamed",
+        [
+            (
+                "shared = FILE_SHARE_READ | FILE_SHARE_WRITE | FILE_SHARE_DELETE",
+                "shared = FILE_SHARE_READ | FILE_SHARE_WRITE",
+            )
+        ],
+        files_are_shared,
+    ),
+    Planted(
+        "a new file is for everybody",
+        [
+            (
+                "SetSecurityDescriptorDacl(made, TRUE, &only.list, FALSE)",
+                "SetSecurityDescriptorDacl(made, TRUE, NULL, FALSE)",
+            ),
+            (
+                "if (list == NULL || user() == NULL) return 0;",
+                "if (list == NULL || user() == NULL) return 1;",
+            ),
+            (
+                "if (!EqualSid(who, user()) && !EqualSid(who, system)) return 0;",
+                "(void)who;",
+            ),
+        ],
+        found_by(TestAccess().test_new_file),
+    ),
+    Planted(
+        "rights of the old file are lost",
+        [
+            (
+                "if (!SetKernelObjectSecurity(handle, DACL_SECURITY_INFORMATION, groups[group])) "
+                "return fail();",
+                "",
+            )
+        ],
+        found_by(TestAccess().test_replaced_file),
+    ),
+    Planted(
+        "a rename deletes first",
+        [
+            *KILLABLE,
+            (
+                "        done = rename_as_posix(old_name",
+                "        DeleteFileW(new_name);\n        done = rename_as_posix(old_name",
+            ),
+        ],
+        kills_are_survived,
+    ),
+    Planted(
+        "a name is cut",
+        [
+            (
+                "full + 1 : full);",
+                "full + 1 : full);\n        if (wcslen(whole) > 260) whole[260] = 0;",
+            )
+        ],
+        found_by(TestUse().test_long_name),
+    ),
+    Planted(
+        "names of files are in another code page",
+        [
+            (
+                f"{NAME_IN_UTF8}{rest}",
+                f"{NAME_IN_UTF8}{rest}".replace("CP_UTF8", "1252"),
+            )
+            for rest in ("NULL", "wide")
+        ],
+        names_are_right,
+    ),
+    Planted(
+        "arguments are in another code page",
+        [
+            (
+                f"{ARGUMENT_IN_UTF8}{rest}",
+                f"{ARGUMENT_IN_UTF8}{rest}".replace(
+                    "CP_UTF8, WC_ERR_INVALID_CHARS", "1252, 0"
+                ),
+            )
+            for rest in ("NULL", "text")
+        ],
+        names_are_right,
+    ),
+    Planted(
+        "a size has 32 bits",
+        [
+            (
+                "(u64)found.nFileSizeHigh << 32 | found.nFileSizeLow",
+                "found.nFileSizeLow",
+            )
+        ],
+        sizes_are_right,
+    ),
+    Planted(
+        "an error of a read is the end",
+        [("number == ERROR_BROKEN_PIPE)", "number != ERROR_SUCCESS)")],
+        found_by(TestUse().test_directory_is_no_empty_file),
+    ),
+    Planted(
+        "an empty write is the end",
+        [("while (count == 0 && len > 0 && is_pipe_with_writer(handle))", "while (0)")],
+        host_prints("3 abc", "empty-write"),
+    ),
+    Planted(
+        "all files are one",
+        [("status->inode = halves[0];", "status->inode = 0;")],
+        found_by(TestAccess().test_replaced_private_file),
+    ),
+    Planted(
+        "a file is another one each time it is opened",
+        [("status->inode = halves[0];", "status->inode = (u64)(uintptr_t)handle;")],
+        found_by(TestUse().test_kek_is_not_replaced),
+    ),
+    Planted(
+        "a temporary file of another is overwritten",
+        [("access, CREATE_NEW", "access, CREATE_ALWAYS")],
+        found_by(TestUse().test_temporary_name_of_another),
+    ),
+    Planted(
+        "the run's own input stays open",
+        [("            close_files_named(AT(to));\n", "")],
+        found_by(TestUse().test_input_and_output_are_one_file),
+    ),
+    Planted(
+        "a missing file is denied",
+        [("{ERROR_FILE_NOT_FOUND, NO_FILE}", "{ERROR_FILE_NOT_FOUND, DENIED}")],
+        names_are_right,
+    ),
+]
+
+
+class Made(NamedTuple):
+    """What a row has to find a bug with."""
+
+    windows: object
+    keywrap: Program
+    program: Program
+    directory: pathlib.Path
+
+    def host(self, *words):
+        """As the fixture of this name, over the host with the bug."""
+        link_driver(self.directory, self.directory / "host_windows.c")
+        return self.windows.run(self.directory / "windows.exe", *words).strip()
+
+
+@evidence
+@pytest.mark.parametrize("bug", BUGS)
+def test_bug_is_caught(windows, windows_objects, keywrap, bug):
+    here = pathlib.Path("here").absolute()
+    path = linked(here, windows_objects, *bug.edits)
+    program = Program(windows.script(path))
+    with pytest.raises(AssertionError):
+        bug.finds(Made(windows, keywrap, program, here))
