@@ -399,7 +399,8 @@ class StoreTests:
         assert done.counts["rewrapped"] == len(keys), done
         assert store.held() == under(NEW_KEK, keys)
         os.unlink("kek.hex")
-        assert (done := self.rotated("--verify")) == 0, done
+        done = self.rotated("--verify")
+        assert done == 0, done
         assert store.held() == under(NEW_KEK, keys)
 
     def test_a_dry_run_writes_nothing(self, store, keys):
@@ -427,7 +428,8 @@ class StoreTests:
             assert store.held() == under(NEW_KEK, keys)
         else:
             assert done == 6, done
-        assert (done := self.ended()) == 0, done
+        done = self.ended()
+        assert done == 0, done
         assert store.held() == under(NEW_KEK, keys)
 
     def test_a_kill(self, store, keys):
@@ -440,13 +442,15 @@ class StoreTests:
             place: key_and_kek(wrapped)[0] for place, wrapped in store.held().items()
         }
         assert held == keys
-        assert (done := self.ended()) == 0, done
+        done = self.ended()
+        assert done == 0, done
         assert store.held() == under(NEW_KEK, keys)
 
     def test_two_rotations(self, store, keys):
         ends = [end(running) for running in [self.begun(), self.begun()]]
         assert {done.status for done in ends} <= {0, 6}, ends
-        assert (done := self.ended()) == 0, done
+        done = self.ended()
+        assert done == 0, done
         assert store.held() == under(NEW_KEK, keys)
 
     def test_a_refused_key(self, store, keys):
@@ -479,7 +483,8 @@ class StoreTests:
         done = end(running)
         assert took < 5, (took, done)
         assert done.status in (0, 6), (took, done)
-        assert (done := self.ended()) == 0, done
+        done = self.ended()
+        assert done == 0, done
         assert store.held() == under(NEW_KEK, keys)
 
     def test_a_hot_row(self, store, keys):
@@ -502,11 +507,13 @@ class StoreTests:
 
     def test_an_empty_store_is_no_success(self, store):
         store.empty()
-        assert (done := self.rotated()) == 5, done
+        done = self.rotated()
+        assert done == 5, done
 
     def test_a_store_that_is_not_there_is_no_success(self, store):
         store.remove()
-        assert (done := self.rotated()) == 5, done
+        done = self.rotated()
+        assert done == 5, done
 
 
 def under(kek, keys):

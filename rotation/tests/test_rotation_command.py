@@ -136,9 +136,8 @@ class TestStatus:
         assert rotate("--verify", str(store)) == 0
 
     def test_refused_and_new_are_told_apart(self, store):
-        (store / "3").write_bytes(
-            lines_under(bytes(16), KEYS[3][:2]) + lines_under(KEK, KEYS[3][2:])
-        )
+        foreign = lines_under(bytes(16), KEYS[3][:2])
+        (store / "3").write_bytes(foreign + lines_under(KEK, KEYS[3][2:]))
         (store / "5").write_bytes(b"")
         done = rotate("--report", "report", *names(store), str(store / "none"))
         assert done == 5
@@ -151,13 +150,9 @@ class TestStatus:
                 "none: No such file or directory",
             )
         ]
-        assert [file for file, end in enumerate(found_in(store)) if end != "new"] == [
-            3,
-            5,
-        ]
-        expected = lines_under(bytes(16), KEYS[3][:2]) + lines_under(
-            NEW_KEK, KEYS[3][2:]
-        )
+        not_new = [file for file, end in enumerate(found_in(store)) if end != "new"]
+        assert not_new == [3, 5]
+        expected = foreign + lines_under(NEW_KEK, KEYS[3][2:])
         assert (store / "3").read_bytes() == expected
         named = [
             line["named"]
@@ -359,10 +354,9 @@ class TestOutput:
         """It is no file of keys, and replaces none."""
         assert rotate("--report", store / "0", store).has("--report")
         assert found_in(store) == ["old"] * FILES
-        assert (
-            (done := rotate("--report", store / "report", store)).status,
-            found_in(store),
-        ) == (5, ALL_NEW)
+        done = rotate("--report", store / "report", store)
+        assert done.status == 5
+        assert found_in(store) == ALL_NEW
         assert report_of(store / "report")[-1]["status"] == 5
 
     def test_a_report_or_record_that_cannot_be_written(self, store):
@@ -558,10 +552,9 @@ class TestNames:
     def test_the_same_file_twice(self, store, monkeypatch):
         monkeypatch.chdir(store)
         (store.parent / "link").symlink_to(store)
-        assert (
-            (done := rotate("0", "./0", str(store / "0"), "../link/0")).status,
-            done.counts["keys"],
-        ) == (0, 30)
+        done = rotate("0", "./0", str(store / "0"), "../link/0")
+        assert done.status == 0
+        assert done.counts["keys"] == 30
         done = rotate(str(store), "1", ".", "../link")
         assert done.status == 0
         assert done.counts["keys"] == 240
@@ -579,7 +572,9 @@ class TestNames:
         ]
         for number, name in enumerate(more):
             (store / name).write_bytes(lines_under(KEK, KEYS[number]))
-        assert ((done := rotate(str(store))).status, done.counts["keys"]) == (0, 420)
+        done = rotate(str(store))
+        assert done.status == 0
+        assert done.counts["keys"] == 420
         for number, name in enumerate(more):
             assert (store / name).read_bytes() == lines_under(NEW_KEK, KEYS[number])
 
@@ -736,10 +731,9 @@ pool._serve = lambda *words, real=pool._serve: time.sleep(1) or real(*words)"""
             time.sleep(
                 0.1
             )  # Apart, so that both arrive. A process with the handler of the parent ends at the second.
-        assert ((done := ended(running)).status, done.said[-1]) == (
-            130,
-            "keywrap-rotate: interrupted: run it again",
-        )
+        done = ended(running)
+        assert done.status == 130
+        assert done.said[-1] == "keywrap-rotate: interrupted: run it again"
         found = found_in(store)
         assert "neither" not in found
         assert "old" in found
@@ -757,10 +751,9 @@ pool._serve = lambda *words, real=pool._serve: time.sleep(1) or real(*words)"""
         for _ in range(2):
             running.send_signal(signal.SIGINT)
             time.sleep(0.5)
-        assert ((done := end(running)).status, done.said) == (
-            130,
-            ["keywrap-rotate: interrupted: run it again"],
-        )
+        done = end(running)
+        assert done.status == 130
+        assert done.said == ["keywrap-rotate: interrupted: run it again"]
         assert found_in(store) == ["old"] * FILES
         assert rotate(store) == 0
         assert left_over(store) == []

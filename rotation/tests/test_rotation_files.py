@@ -347,13 +347,11 @@ class TestKeys:
         ],
     )
     def test_rotates_base64(self, file, notation, write, read):
-        file.write_bytes(
-            b"".join(read(wrapped_under(KEK, key)) + b"\n" for key in KEYS)
-        )
+        old = [read(wrapped_under(KEK, key)) for key in KEYS]
+        new = [write(wrapped_under(NEW_KEK, key)) for key in KEYS]
+        file.write_bytes(b"\n".join([*old, b""]))
         assert rotated(file, Lines(Notation(notation))).refused == 0
-        assert file.read_bytes() == b"".join(
-            write(wrapped_under(NEW_KEK, key)) + b"\n" for key in KEYS
-        )
+        assert file.read_bytes() == b"\n".join([*new, b""])
 
     @pytest.mark.parametrize(
         "text",
@@ -378,12 +376,14 @@ class TestKeys:
 
     @pytest.mark.parametrize("notation", ["hex", "base64"])
     def test_rotates_one_key_on_several_lines(self, file, notation):
-        encode = {
-            "hex": bytes.hex,
-            "base64": lambda key: base64.b64encode(key).decode(),
-        }[notation]
+        def encode(key):
+            if notation == "hex":
+                return key.hex()
+            return base64.b64encode(key).decode()
+
         text = encode(wrapped_under(KEK, KEYS[1]))
-        file.write_text("\n".join(text[at : at + 20] for at in range(0, len(text), 20)))
+        parts = [text[at : at + 20] for at in range(0, len(text), 20)]
+        file.write_text("\n".join(parts))
         assert rotated(file, OneKey(Notation(notation))).keys == 1
         assert file.read_text() == encode(wrapped_under(NEW_KEK, KEYS[1])) + "\n"
         file.write_text(" \n")
@@ -478,20 +478,15 @@ class TestRecords:
             "line 6: bad length",
             f"line 8: {no_json}",
         ]
-        assert (
-            json.loads(file.read_text().splitlines()[6])["key"]
-            == wrapped_under(NEW_KEK, KEYS[0]).hex()
-        )
+        rotated_line = file.read_text().splitlines()[6]
+        new = wrapped_under(NEW_KEK, KEYS[0]).hex()
+        assert json.loads(rotated_line) == {"key": new}
 
     def test_a_key_written_with_escapes_is_refused(self, file):
-        text = base64.b64encode(
-            next(
-                key
-                for seed in range(99)
-                if b"/"
-                in base64.b64encode(key := wrapped_under(KEK, make_keys(1, seed)[0]))
-            )
-        ).decode()
+        text = ""
+        while "/" not in text:
+            key = os.urandom(32)
+            text = base64.b64encode(wrapped_under(KEK, key)).decode()
         file.write_text('{"key": "' + text.replace("/", "\\/") + '"}\n')
         assert refusal(file, Json("key", BASE64)).startswith(
             "line 1: the key is written with escapes"

@@ -133,9 +133,9 @@ class TestKeks:
             "store",
         ]
         for words in (swapped, ["--verify", *swapped], ["--dry-run", *swapped]):
-            assert (done := rotated(*words)) == 3 and done.has(
-                "the new KEK is not that of --new-challenge"
-            )
+            done = rotated(*words)
+            assert done == 3
+            assert done.has("the new KEK is not that of --new-challenge")
         assert read("store") == hexes(NEW_KEK)
         assert rotated("--verify", "--new-challenge", "new-kek.challenge", "store") == 0
 
@@ -146,7 +146,9 @@ class TestKeks:
         """As an earlier rotation leaves one, and a killed process an empty file."""
         assert rotated("--make-challenges") == 0
         write_lines(changed, lines)
-        assert (done := rotated("--make-challenges")) == 3 and done.printed == ""
+        done = rotated("--make-challenges")
+        assert done == 3
+        assert done.printed == ""
         assert done.has(
             f"kek.challenge is not a challenge of {keks}/kek.hex: remove it"
         )

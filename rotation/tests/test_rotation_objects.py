@@ -147,7 +147,8 @@ class TestObjects:
         )
         is_lost = call == "put" or "did not" in said
         assert done.status == (6 if is_lost else 5), done
-        assert done.has(f"b b: {call} ") and done.has(said), done
+        assert done.has(f"b b: {call} "), done
+        assert done.has(said), done
         assert held() == {**under(NEW_KEK), "b b": under(KEK)["b b"]}
         assert rotated() == 0
         assert held() == under(NEW_KEK)
@@ -159,10 +160,9 @@ ADDED, NEW_ADDED = (hexes(kek, bytes(32))[0] for kek in (KEK, NEW_KEK))
 class TestChanges:
     def test_an_object_that_changes_each_time_is_kept(self):
         change = f'if call == "put" and name == "a": open(path, "w").write({ADDED!r} + " " * (time.time_ns() % 1000))'
-        assert ((done := rotated(meanwhile=change)).status, held()["a"].strip()) == (
-            6,
-            ADDED.strip(),
-        )
+        done = rotated(meanwhile=change)
+        assert done.status == 6
+        assert held()["a"].strip() == ADDED.strip()
         assert done.has(
             "a: put ended with status 3: somebody else may have written it, in each of 4 attempts"
         )
@@ -219,10 +219,9 @@ class TestChanges:
         ],
     )
     def test_refuses_arguments(self, words, status, said):
-        assert ((done := rotated(commands=words)).status, done.has(said)) == (
-            status,
-            True,
-        ), done
+        done = rotated(commands=words)
+        assert done.status == status, done
+        assert done.has(said), done
         assert held() == under(KEK)
 
 

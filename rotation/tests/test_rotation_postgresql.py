@@ -97,17 +97,15 @@ class TestTable:
         ],
     )
     def test_no_column_has_to_order_the_rows(self, server, columns):
-        server.sql(
-            f"DROP TABLE IF EXISTS other; CREATE TABLE other ({columns}, key bytea);"
-            + "".join(
-                f"INSERT INTO other (key) VALUES (decode('{key.hex()}', 'hex'));"
-                for key in OLD.values()
-            )
-        )
-        assert ((done := rotated(table="other")).status, done.counts["rewrapped"]) == (
-            0,
-            60,
-        ), done
+        statements = ["DROP TABLE IF EXISTS other"]
+        statements.append(f"CREATE TABLE other ({columns}, key bytea)")
+        for key in OLD.values():
+            value = f"decode('{key.hex()}', 'hex')"
+            statements.append(f"INSERT INTO other (key) VALUES ({value})")
+        server.sql("; ".join(statements))
+        done = rotated(table="other")
+        assert done.status == 0, done
+        assert done.counts["rewrapped"] == 60, done
         found = server.sql("SELECT encode(key, 'hex') FROM other").split()
         assert sorted(found) == sorted(key.hex() for key in NEW.values())
 
@@ -122,10 +120,9 @@ class TestTable:
         server.sql(
             f"INSERT INTO parts SELECT n, decode('{same}', 'hex') FROM generate_series(1, 1500) n; ANALYZE"
         )
-        assert ((done := rotated(table="parts")).status, done.counts["keys"]) == (
-            0,
-            1500,
-        ), done
+        done = rotated(table="parts")
+        assert done.status == 0, done
+        assert done.counts["keys"] == 1500, done
         assert server.sql("SELECT DISTINCT encode(key, 'hex') FROM parts").split() == [
             NEW[10].hex()
         ]
@@ -177,10 +174,9 @@ class TestTable:
     def test_an_unreachable_server(self, server, monkeypatch):
         """The server's words are shown: nobody has read a key."""
         monkeypatch.setenv("PGHOST", "/nonexistent")
-        assert (
-            (done := rotated()).status,
-            "No such file or directory" in done.said[0],
-        ) == (6, True), done
+        done = rotated()
+        assert done.status == 6, done
+        assert "No such file or directory" in done.said[0], done
 
     def test_dry_run_and_verify(self, server):
         before = server.sql("SELECT ctid, xmin, * FROM keys")
@@ -268,10 +264,9 @@ class TestTable:
         try:
             monkeypatch.setenv("PGUSER", "app")
             for words in ([], ["--verify"]):
-                assert (
-                    (done := rotated(*words)).status,
-                    done.has("row-level security"),
-                ) == (5, True), done
+                done = rotated(*words)
+                assert done.status == 5, done
+                assert done.has("row-level security"), done
         finally:
             server.sql("DROP TABLE keys; DROP ROLE app")
 

@@ -100,7 +100,8 @@ def test_no_rename_hides_an_old_key_behind_status_0(run, how, rate):
     assert done.status in (0, 6), done
     has_old_key = set(contents()) != {NEW}
     assert not has_old_key or done == 6 and done.has("store/"), done
-    assert (done := rotate("store")) == 0, done
+    done = rotate("store")
+    assert done == 0, done
     assert set(contents()) == {NEW}
 
 
