@@ -480,6 +480,7 @@ def test_machines(keywrap, name):
 @slow
 def test_random_command_lines_as_native(in_c, keywrap):
     """The same bytes, statuses and files. KEYWRAP_RANDOM='N SEED' tries N command lines of this seed."""
+    keywrap.need_kit()
     count, seed = (
         int(word) for word in os.environ.get("KEYWRAP_RANDOM", "1000 5649").split()
     )
