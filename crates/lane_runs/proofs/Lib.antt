@@ -7,3 +7,4 @@ pub mod Moves
 pub mod Placing
 pub mod Passing
 pub mod KindEnds
+pub mod Gathering

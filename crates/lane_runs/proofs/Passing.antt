@@ -7,7 +7,7 @@ use Rattle.key_wrap_core.specs.declared.rewrapping.RewrapForms.{RewrapForms}
 use Rattle.key_wrap_core.specs.Lengths.{IsPlainTextLength}
 use Rattle.key_wrap_core.specs.Rewrap.{HasFault}
 use Rattle.key_wrap_core.specs.Steps.{UnwrapState}
-use Rattle.lane_runs.specs.Rewraps.{EndsPassing, RewrapsText, rewrap_status}
+use Rattle.lane_runs.specs.Rewraps.{PassesLane, RewrapsText, rewrap_status}
 use Rattle.lane_runs.proofs.Fronts.{old_legal, itself_legal}
 
 -- it is not looked at under the new pair
@@ -15,21 +15,22 @@ pub not_passed : {E F : List ℕ → List ℕ} {forms : RewrapForms} {text : Lis
     → HasFault forms E text fault → RewrapsText false forms E F text text status
 not_passed fault is has = record { result = Err fault; rewraps = ((has, λ pass. absurd (let wrong = pass in cc)), refl); status_is = is }
 
--- it is
-pub passed : {E D F G : List ℕ → List ℕ} {pass_new : Bool} {forms : RewrapForms} {text lane block : List ℕ} {place status status' : ℕ} → AreInverse E D → AreInverse F G
-    → IsPlainTextLength (length text) → pass_new ≡ true → EndsPassing forms lane block place status status' → UnwrapState F text 0 (drop 8 lane) block
-    → place ≡ 48 → (fault : Refusal) → status ≡ rewrap_status (Err fault) → HasFault forms E text fault → RewrapsText pass_new forms E F text text status'
-passed {forms = forms} {text = text} inv inv' legal pass ended state gone BadLength is has = absurd (has (old_legal forms (length text) legal))
-passed inv inv' legal pass ended state gone KeyNotPlain is has = record {
+-- it is: unless its key does not fit, its lane was unwrapped under the new pair
+pub passed : {E D F G : List ℕ → List ℕ} {pass_new : Bool} {forms : RewrapForms} {text : List ℕ} {status' : ℕ} (status : ℕ) → AreInverse E D → AreInverse F G
+    → IsPlainTextLength (length text) → pass_new ≡ true → (status ≡ 8 → status' ≡ status)
+    → (¬ (status ≡ 8) → (lane : List ℕ) × (block : List ℕ) × PassesLane forms lane block status' × UnwrapState F text 0 (drop 8 lane) block)
+    → (fault : Refusal) → status ≡ rewrap_status (Err fault) → HasFault forms E text fault → RewrapsText pass_new forms E F text text status'
+passed {forms = forms} {text = text} status inv inv' legal pass unfit passes BadLength is has = absurd (has (old_legal forms (length text) legal))
+passed status inv inv' legal pass unfit passes KeyNotPlain is has = record {
   result = Err KeyNotPlain;
   rewraps = ((has, λ pass new. new.no_old has.0 has.2.from has.1 has.2.wrapping), refl);
-  status_is = ended.unfit is ∙ is;
+  status_is = unfit is ∙ is;
 }
-passed {E = E} {D = D} {F = F} {G = G} {pass_new = pass_new} {forms = forms} {text = text} inv inv' legal pass ended state gone Integrity is has =
-    let other : ¬ (_ ≡ 8) = λ e. absurd (let wrong = sym is ∙ e in omega (arith, wrong)) in
-    let lane = ended.passes gone other in
+passed {E = E} {D = D} {F = F} {G = G} {pass_new = pass_new} {forms = forms} {text = text} status inv inv' legal pass unfit passes Integrity is has =
+    let other : ¬ (status ≡ 8) = λ e. absurd (omega (arith, e, is)) in
+    let lane = passes other in
     record {
-      result = lane.outcome;
-      rewraps = lane.turns pass_new text E D F G inv inv' (has, λ e. absurd (let wrong = e in cc), pass, itself_legal forms (length text) legal, state);
-      status_is = lane.status_is;
+      result = lane.2.outcome;
+      rewraps = lane.2.turns pass_new text E D F G inv inv' (has, λ e. absurd (let wrong = e in cc), pass, itself_legal forms (length text) legal, lane.3);
+      status_is = lane.2.status_is;
     }

@@ -63,11 +63,16 @@ pub record PutsLane (n : ℕ) (lanes blocks : List ℕ) (place wrapped : ℕ) (t
   pub put : place < wrapped → text' ≡ take 8 (block_at place blocks) ++ drop 8 (part_at n place lanes)
   pub kept : ¬ (place < wrapped) → text' ≡ text
 
--- The status of a lane that was unwrapped under the new pair, if its text was refused for its integrity.
-pub record EndsPassing (forms : RewrapForms) (lane block : List ℕ) (place status status' : ℕ) : Type 0 where
-  pub passes : place ≡ 48 → ¬ (status ≡ 8) → PassesLane forms lane block status'
-  pub placed : ¬ (place ≡ 48) → status' ≡ status
-  pub unfit : status ≡ 8 → status' ≡ status
+-- A text that may be new already is at a place among the lanes. No other text has a place.
+pub record GathersText (n : ℕ) (text lanes : List ℕ) (old_place place status tried : ℕ) : Type 0 where
+  pub gathered : old_place ≡ 48 → ¬ (status ≡ 8) → (place < tried) × (part_at n place lanes ≡ text)
+  pub placed : ¬ (old_place ≡ 48) → place ≡ 48
+  pub unfit : status ≡ 8 → place ≡ 48
+
+-- The status of a text by its place among the lanes that were unwrapped under the new pair.
+pub record EndsPassing (forms : RewrapForms) (n : ℕ) (lanes blocks : List ℕ) (place tried status status' : ℕ) : Type 0 where
+  pub passes : place < tried → PassesLane forms (part_at n place lanes) (block_at place blocks) status'
+  pub kept : ¬ (place < tried) → status' ≡ status
 
 -- The status of a text: a refused text has the outcome of its rewrapping, which leaves it as it is.
 pub record PassesText (pass_new : Bool) (forms : RewrapForms) (F : List ℕ → List ℕ) (text : List ℕ) (place status status' : ℕ) : Type 0 where

@@ -1,10 +1,10 @@
 //! Whole rewrappings of many texts. Each text is unwrapped under the old pair, over a copy. The keys that
 //! fit are then wrapped side by side under the new pair, and only their texts are written.
 
-ghost use Rattle.std.specs.Prelude.{◌≡◌, ℕ, ◌+◌, ◌*◌, ◌/◌, ◌≤◌, ◌<◌, ◌++◌, length, take, drop, slice_index};
+ghost use Rattle.std.specs.Prelude.{◌≡◌, ℕ, ◌+◌, ◌*◌, ◌/◌, ◌≤◌, ◌<◌, ◌++◌, ◌↔◌, length, take, drop, slice_index, IsTrue};
 ghost use Rattle.key_wrap_core.specs.Lengths.{IsPlainTextLength};
 ghost use Rattle.key_wrap_lanes.specs.Lanes.{AreLanes, block_at, part_at};
-ghost use Rattle.lane_runs.specs.Rewraps.{EndsPassing, PassesLane, PassesText, PlacedLane, PutsLane, RewrapsText, TurnsLane, rewrap_status};
+ghost use Rattle.lane_runs.specs.Rewraps.{EndsPassing, GathersText, PassesLane, PassesText, PlacedLane, PutsLane, RewrapsText, TurnsLane, rewrap_status};
 
 use crate::steps::make_steps;
 use crate::unwraps::undo_lanes;
@@ -235,19 +235,20 @@ fn pass_turn<B: BlockLanes>(
     text_len: usize,
     lanes: &mut [u8],
     blocks: &mut [u8],
-    places: &[usize],
+    places: &mut [usize],
     wrapped: usize,
     statuses: &mut [u8],
 )
     requires lanes { AreLanes text_len texts.now blocks.old }
     requires copies { length lanes.old ≡ length texts.now }
-    requires places { length places.now ≡ length blocks.old / 16 }
+    requires places { length places.old ≡ length blocks.old / 16 }
     requires statuses { length statuses.old ≡ length blocks.old / 16 }
-    requires missed { (i : ℕ) → i < length blocks.old / 16 → slice_index places.now i ≡ 48
+    requires few { length blocks.old ≤ 768 }
+    requires missed { (i : ℕ) → i < length blocks.old / 16 → slice_index places.old i ≡ 48
         → wrapped < length blocks.old / 16 }
     ensures { (i : ℕ) → i < length blocks.old / 16 → PassesText request.now.pass_new
         request.now.forms (B.encrypted new.now) (part_at text_len i texts.now)
-        (slice_index places.now i) (slice_index statuses.old i) (slice_index statuses.new i) }
+        (slice_index places.old i) (slice_index statuses.old i) (slice_index statuses.new i) }
 {
     if !request.pass_new {
         return;
@@ -255,35 +256,90 @@ fn pass_turn<B: BlockLanes>(
     if wrapped == statuses.len() {
         return;
     }
-    lanes.copy_from_slice(texts);
-    undo_lanes(new, lanes, text_len, blocks);
-    pass_lanes(&request.forms, lanes, text_len, blocks, places, statuses);
+    let tried = gather_lanes(texts, text_len, lanes, places, statuses);
+    undo_lanes(
+        new,
+        &mut lanes[..text_len * tried],
+        text_len,
+        &mut blocks[..BLOCK * tried],
+    );
+    pass_lanes(
+        &request.forms,
+        lanes,
+        text_len,
+        blocks,
+        places,
+        tried,
+        statuses,
+    );
 }
 
-// Ends the unwrapping of each lane under the new pair whose text was refused for its integrity.
+// Copies the texts that may be new already to the front of the lanes, each to its place. Returns how many
+// they are. No other text has a place.
+fn gather_lanes(
+    texts: &[u8],
+    text_len: usize,
+    lanes: &mut [u8],
+    places: &mut [usize],
+    statuses: &[u8],
+) -> usize
+    requires texts { length texts.now ≡ text_len * length statuses.now }
+    requires lanes { length lanes.old ≡ length texts.now }
+    requires places { length places.old ≡ length statuses.now }
+    requires few { length statuses.now ≤ 48 }
+    ensures count { result ≤ length statuses.now }
+    ensures gathered { (i : ℕ) → i < length statuses.now → GathersText text_len
+        (part_at text_len i texts.now) lanes.new (slice_index places.old i)
+        (slice_index places.new i) (slice_index statuses.now i) result }
+{
+    let mut tried = 0;
+    for from in 0..statuses.len() {
+        if may_be_new(places[from], statuses[from]) {
+            let start = text_len * from;
+            let to = text_len * tried;
+            lanes[to..to + text_len].copy_from_slice(&texts[start..start + text_len]);
+            places[from] = tried;
+            tried += 1;
+        } else {
+            places[from] = NOWHERE;
+        }
+    }
+    tried
+}
+
+// Whether a text was refused for its integrity under the old pair.
+fn may_be_new(place: usize, status: u8) -> bool
+    ensures { IsTrue result ↔ ((place ≡ 48) × ¬ (status ≡ 8)) }
+{
+    place == NOWHERE && status != KEY_NOT_PLAIN
+}
+
+// Ends the unwrapping of each text under the new pair that has a place among the lanes.
 fn pass_lanes(
     forms: &RewrapForms,
     lanes: &[u8],
     text_len: usize,
     blocks: &[u8],
     places: &[usize],
+    tried: usize,
     statuses: &mut [u8],
 )
     requires lanes { AreLanes text_len lanes.now blocks.now }
     requires places { length places.now ≡ length blocks.now / 16 }
     requires statuses { length statuses.old ≡ length blocks.now / 16 }
-    ensures { (i : ℕ) → i < length blocks.now / 16 → EndsPassing forms.now
-        (part_at text_len i lanes.now) (block_at i blocks.now)
-        (slice_index places.now i) (slice_index statuses.old i) (slice_index statuses.new i) }
+    requires few { tried ≤ length blocks.now / 16 }
+    ensures { (i : ℕ) → i < length blocks.now / 16 → EndsPassing forms.now text_len lanes.now
+        blocks.now (slice_index places.now i) tried
+        (slice_index statuses.old i) (slice_index statuses.new i) }
 {
     for lane in 0..statuses.len() {
-        if places[lane] == NOWHERE && statuses[lane] != KEY_NOT_PLAIN {
-            let start = text_len * lane;
-            let place = BLOCK * lane;
+        let place = places[lane];
+        if place < tried {
+            let start = text_len * place;
             statuses[lane] = pass_lane(
                 forms,
                 &lanes[start..start + text_len],
-                &blocks[place..place + BLOCK],
+                &blocks[BLOCK * place..BLOCK * place + BLOCK],
             );
         }
     }
