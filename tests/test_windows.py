@@ -291,13 +291,17 @@ NAMES_OF_LINUX = {
     "/proc/self/mem",
 }
 INPUTS_OF_LINUX = {"directory", "/dev/null", "/dev/zero"}
+# Windows starts no program with 32,768 characters of arguments.
+LONGEST_LINE = 32000
 
 
 def is_for_windows(words, given):
     """Whether a command line has only names and letters that Windows has, too."""
     values = {word.partition("=")[2] for word in words}
-    named = NAMES_OF_LINUX & ({*words} | values)
-    return not named and given not in INPUTS_OF_LINUX and "".join(words).isascii()
+    if NAMES_OF_LINUX & ({*words} | values) or given in INPUTS_OF_LINUX:
+        return False
+    line = " ".join(words)
+    return line.isascii() and len(line) < LONGEST_LINE
 
 
 @slow
