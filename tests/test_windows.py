@@ -301,6 +301,10 @@ def is_for_windows(words, given):
     if NAMES_OF_LINUX & ({*words} | values) or given in INPUTS_OF_LINUX:
         return False
     line = " ".join(words)
+    # Wine does not identify a file that is standard input, so an output that is there could be this file: refused.
+    is_protected = "/dev/stdin" in line or "--keep-going" in words
+    if is_protected and ("-o" in line or "--output" in line):
+        return False
     return line.isascii() and len(line) < LONGEST_LINE
 
 

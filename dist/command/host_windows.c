@@ -519,10 +519,14 @@ static u32 status_of_disk_file(HANDLE handle, struct status *status) {
     BY_HANDLE_FILE_INFORMATION found;
     PSECURITY_DESCRIPTOR access;
     if (!GetFileInformationByHandle(handle, &found)) return fail();
+    /* Standard input may be open without the right to read its list. Then it counts as everybody's, in no group. */
     access = read_access(handle);
-    if (access == NULL) return (u32)-1;
-    status->mode = kind_of_disk_file(handle, &found) | (is_private(list_of(access)) ? 0600 : 0666);
-    status->group = group_of(access);
+    status->mode = kind_of_disk_file(handle, &found) | 0666;
+    status->group = GROUPS;
+    if (access != NULL) {
+        if (is_private(list_of(access))) status->mode &= ~(u32)0066;
+        status->group = group_of(access);
+    }
     status->size = (u64)found.nFileSizeHigh << 32 | found.nFileSizeLow;
     put_identity(handle, &found, status);
     return 0;
