@@ -358,7 +358,7 @@ class TestLibrary:
         said = windows.run("./linked.exe", cwd="dist")
         assert "8 vectors and the self test: right" in said
 
-    @slow
+    @evidence
     def test_go(self, windows, tmp_path):
         """The tests of the module. Go's cache is of this test only."""
         need("go")
