@@ -110,6 +110,7 @@ def test_width():
         ":!*.edit",
         ":!dist/keywrap.c",
         ":!dist/command/program.c",
+        ":!dist/src/proved",
     ]
     wide = []
     for name in tracked(".", *data):
