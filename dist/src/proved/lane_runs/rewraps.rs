@@ -182,7 +182,7 @@ fn pass_turn<B: BlockLanes>(
     text_len: usize,
     lanes: &mut [u8],
     blocks: &mut [u8],
-    places: &[usize],
+    places: &mut [usize],
     wrapped: usize,
     statuses: &mut [u8],
 ) {
@@ -192,28 +192,71 @@ fn pass_turn<B: BlockLanes>(
     if wrapped == statuses.len() {
         return;
     }
-    lanes.copy_from_slice(texts);
-    undo_lanes(new, lanes, text_len, blocks);
-    pass_lanes(&request.forms, lanes, text_len, blocks, places, statuses);
+    let tried = gather_lanes(texts, text_len, lanes, places, statuses);
+    undo_lanes(
+        new,
+        &mut lanes[..text_len * tried],
+        text_len,
+        &mut blocks[..BLOCK * tried],
+    );
+    pass_lanes(
+        &request.forms,
+        lanes,
+        text_len,
+        blocks,
+        places,
+        tried,
+        statuses,
+    );
 }
 
-// Ends the unwrapping of each lane under the new pair whose text was refused for its integrity.
+// Copies the texts that may be new already to the front of the lanes, each to its place. Returns how many
+// they are. No other text has a place.
+fn gather_lanes(
+    texts: &[u8],
+    text_len: usize,
+    lanes: &mut [u8],
+    places: &mut [usize],
+    statuses: &[u8],
+) -> usize {
+    let mut tried = 0;
+    for from in 0..statuses.len() {
+        if may_be_new(places[from], statuses[from]) {
+            let start = text_len * from;
+            let to = text_len * tried;
+            lanes[to..to + text_len].copy_from_slice(&texts[start..start + text_len]);
+            places[from] = tried;
+            tried += 1;
+        } else {
+            places[from] = NOWHERE;
+        }
+    }
+    tried
+}
+
+// Whether a text was refused for its integrity under the old pair.
+fn may_be_new(place: usize, status: u8) -> bool {
+    place == NOWHERE && status != KEY_NOT_PLAIN
+}
+
+// Ends the unwrapping of each text under the new pair that has a place among the lanes.
 fn pass_lanes(
     forms: &RewrapForms,
     lanes: &[u8],
     text_len: usize,
     blocks: &[u8],
     places: &[usize],
+    tried: usize,
     statuses: &mut [u8],
 ) {
     for lane in 0..statuses.len() {
-        if places[lane] == NOWHERE && statuses[lane] != KEY_NOT_PLAIN {
-            let start = text_len * lane;
-            let place = BLOCK * lane;
+        let place = places[lane];
+        if place < tried {
+            let start = text_len * place;
             statuses[lane] = pass_lane(
                 forms,
                 &lanes[start..start + text_len],
-                &blocks[place..place + BLOCK],
+                &blocks[BLOCK * place..BLOCK * place + BLOCK],
             );
         }
     }
