@@ -240,7 +240,7 @@ class Comparison:
         return self.takes("", f"{{ {' , '.join(left)} }} ;")
 
     def lost_names(self, names, end):
-        """The laws among these names of a `use`, and those that occur nowhere else in the source, and not in the Rust."""
+        """The laws among these names of a `use`, and those that the rest of the source and the Rust do not have."""
         others = self.source[: self.s] + self.source[end:]
         return {
             name

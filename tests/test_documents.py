@@ -61,15 +61,15 @@ class TestEachDocument:
                 assert not anchor or anchor in anchors, target
 
     def test_paths(self, document):
-        """Files that are named with their directory are there: in the repository, or in the directory of a crate."""
+        """Files that are named with their directory are there: in the repository, in the directory of a crate, or next
+        to the document."""
+        in_directory = re.compile(f"(?:{DIRECTORIES})/[A-Za-z0-9_./*-]*")
+        places = ("", "crates/", "crates/*/", f"{document.parent}/")
         for path in re.findall(r"`([^` ]+)`", text_of(document)):
-            if re.fullmatch(
-                f"(?:{DIRECTORIES})/[A-Za-z0-9_./*-]*", path
-            ) and not re.search("NAME|MODULE|TOPIC", path):
-                assert any(
-                    any(ROOT.glob(place + path.rstrip("/")))
-                    for place in ("", "crates/", "crates/*/")
-                ), path
+            is_example = re.search("NAME|MODULE|TOPIC", path)
+            if in_directory.fullmatch(path) and not is_example:
+                pattern = path.rstrip("/")
+                assert any(any(ROOT.glob(place + pattern)) for place in places), path
 
 
 def test_lines_without_the_kit():
