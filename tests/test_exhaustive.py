@@ -75,7 +75,7 @@ def test_no_command_is_wrong(exhaustive, words, least):
 @evidence
 @pytest.mark.parametrize("number", range(1, len(planted.BUGS) + 1))
 def test_bug_is_found(exhaustive_with_bugs, number):
-    """Bugs that no row of the program sees."""
+    """Bugs of a class of bytes, of a place, or of a state between two lines, which are rare in rows."""
     words = planted.BUGS[number - 1].found_by.split()
     ended = subprocess.run(
         [exhaustive_with_bugs, *words],
