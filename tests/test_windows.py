@@ -25,11 +25,22 @@ HERE = ROOT / "tests/command"
 TOOLS = "x86_64-w64-mingw32-"
 
 
+class OnWine(Program):
+    """A program that wine starts. Of some hundreds of starts one ends with 1 before the program runs, and says nothing.
+    keywrap has no such status, so it is started again."""
+
+    def __call__(self, *words, **options):
+        ended = super().__call__(*words, **options)
+        if ended.status == 1 and not ended.stdout and not ended.stderr:
+            return super().__call__(*words, **options)
+        return ended
+
+
 @pytest.fixture(scope="session")
 def program(windows, windows_objects, once):
     """The program for Windows: it is called as `keywrap` is."""
     built = once("program for windows", lambda here: linked(here, windows_objects))
-    return Program(windows.script(built / "keywrap.exe"))
+    return OnWine(windows.script(built / "keywrap.exe"))
 
 
 @pytest.fixture(scope="session")
@@ -300,6 +311,9 @@ def is_for_windows(words, given):
     values = {word.partition("=")[2] for word in words}
     if NAMES_OF_LINUX & ({*words} | values) or given in INPUTS_OF_LINUX:
         return False
+    # Windows takes a blank or a dot from the end of a name.
+    if any(word.endswith((" ", ".")) for word in words):
+        return False
     line = " ".join(words)
     # Wine does not identify a file that is standard input, so an output that is there could be this file: refused.
     is_protected = "/dev/stdin" in line or "--keep-going" in words
@@ -308,7 +322,7 @@ def is_for_windows(words, given):
     return line.isascii() and len(line) < LONGEST_LINE
 
 
-@slow
+@evidence
 def test_random_command_lines(program, in_c):
     """The same bytes, statuses and files as the build for Linux."""
     count, seed = (
