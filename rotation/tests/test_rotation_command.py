@@ -80,7 +80,7 @@ class TestStatus:
         assert found_in(store) == ALL_NEW
         assert len(done.said) == 1
         assert done.counts == {
-            "passes": 2,
+            "pass": 2,
             "keys": 240,
             "new": 240,
             "old": 0,
