@@ -62,6 +62,8 @@ mod error;
 pub mod generic;
 mod kek;
 mod many;
+// Its documentation names registers as the standard does: R[1].
+#[allow(rustdoc::broken_intra_doc_links)]
 #[rustfmt::skip]
 mod proved;
 pub mod steps;
