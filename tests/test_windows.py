@@ -23,6 +23,8 @@ from windows import COMPILER, STRICT, linked
 
 HERE = ROOT / "tests/command"
 TOOLS = "x86_64-w64-mingw32-"
+# Not in the gate: of some hundreds of starts wine loses one, or what it prints, and more where several begin at once.
+pytestmark = evidence
 
 
 class OnWine(Program):
