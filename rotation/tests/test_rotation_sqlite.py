@@ -458,6 +458,21 @@ class TestWriters:
         answer = rotated(database, may_write=False)
         assert (sum(answer.old.values()), answer.moved) == seen
 
+    @pytest.mark.parametrize("conflict", ["ABORT", "REPLACE", "IGNORE", "FAIL"])
+    def test_a_unique_index_deletes_no_row(self, database, conflict):
+        """A new writer has the same key in another row already, and the table would replace that row."""
+        run_sql(database, "DROP TABLE keys")
+        run_sql(
+            database,
+            f"CREATE TABLE keys (id INTEGER PRIMARY KEY, key UNIQUE ON CONFLICT {conflict})",
+        )
+        old, new = rows_under(KEK)[0][1], rows_under(NEW_KEK)[0][1]
+        rows = [(1, old), (2, new)]
+        run_many(database, "INSERT INTO keys (id, key) VALUES (?, ?)", rows)
+        answer = rotated(database)
+        assert run_sql(database, "SELECT id, key FROM keys ORDER BY id") == rows
+        assert (answer.refused, answer.named[0][0]) == (1, "row 1")
+
     def test_nobody_waits_while_rows_are_rewrapped(self, database, meanwhile):
         """Another process writes in the middle, without waiting for the lock."""
         meanwhile(

@@ -85,9 +85,9 @@ class _Table:
         self.names["row"] = ", ".join(f"{name}.{row}" for row in rows)
         self.names["backwards"] = ", ".join(f"{name}.{row} DESC" for row in rows)
         self.names["places"] = ", ".join("?" * len(rows))
-        update = (
-            "UPDATE {table} SET {set} = ? WHERE ({row}) IS ({places}) AND {key} = ?"
-        )
+        # The ON CONFLICT of a table may delete another row. OR ABORT comes before it, but also before that of triggers.
+        update = "UPDATE " if self._triggers() else "UPDATE OR ABORT "
+        update += "{table} SET {set} = ? WHERE ({row}) IS ({places}) AND {key} = ?"
         self.update = update.format(**self.names)
         #: The place of the key in what identifies a row, if it is part of the primary key.
         self.key_place = None
