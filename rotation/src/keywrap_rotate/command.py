@@ -12,7 +12,7 @@ from typing import Any, Dict, Iterator, Optional, Sequence
 import keywrap
 
 from . import signs
-from .console import SHOWN, Console
+from .console import SHOWN, Console, shown
 from .found import ARGUMENTS, DONE, INTERRUPTED, REFUSED, UNFINISHED, Failure
 from .keks import Keks, protect_process
 from .options import keks_of, parse
@@ -38,9 +38,10 @@ def main(words: Optional[Sequence[str]] = None) -> int:
         status = INTERRUPTED
         why = "interrupted: run it again"
     except ImportError as error:
-        package = f"python3-{error.name}"
         status = ARGUMENTS
-        why = f"{error.name} is missing (apt-get install {package})"
+        why = "a module, or a library that it needs, cannot be loaded"
+        if error.name is not None:
+            why = f"{error.name} is missing (apt-get install python3-{error.name})"
     except Exception as error:
         # Of the system, of Dask, or a defect: its text may have anything in it.
         unexpected = f"unexpected {type(error).__name__}"
@@ -66,7 +67,7 @@ def _open_closed_streams() -> None:
 def _run(options: argparse.Namespace) -> int:
     keks = keks_of(options)
     if options.make_challenges:
-        print(*keks.make_challenges(), sep="\n")
+        print(*map(shown, keks.make_challenges()), sep="\n")
         return DONE
     keks = keks.challenged(options.new_challenge)
     store = open_store(options)

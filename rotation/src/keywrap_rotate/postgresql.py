@@ -108,11 +108,12 @@ _BLOCKS = (
     _TREE
     + " SELECT max(pg_relation_size(oid)) / current_setting('block_size')::int FROM tree"
 )
-#: The transactions that are open now. A prepared one has no session.
+#: The transactions that are open now. A prepared one has no session. The type of the sessions of other roles is hidden.
 _OPEN = """SELECT virtualtransaction FROM pg_locks
     WHERE locktype = 'virtualxid' AND granted AND pid <> pg_backend_pid() AND pid IN (
         SELECT pid FROM pg_stat_activity
-        WHERE datname = current_database() AND application_name <> 'keywrap-rotate' AND backend_type = 'client backend')
+        WHERE datname = current_database() AND application_name <> 'keywrap-rotate' AND usesysid IS NOT NULL
+        AND coalesce(backend_type, 'client backend') = 'client backend')
     UNION ALL SELECT gid FROM pg_prepared_xacts WHERE database = current_database()"""
 
 
