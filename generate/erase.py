@@ -639,10 +639,13 @@ def read_all(directory):
 
 
 def write_all(directory, erased):
-    """Writes the files, and deletes others."""
-    for path in read_all(directory):
-        if path not in erased:
-            (directory / path).unlink()
+    """Writes the files, and deletes others that it has written."""
+    others = [item for item in read_all(directory).items() if item[0] not in erased]
+    for path, text in others:
+        if not text.startswith("// Written by generate/erase.py"):
+            sys.exit(f"erase.py: {directory / path} is not of erase.py")
+    for path, _ in others:
+        (directory / path).unlink()
     for path, text in erased.items():
         (directory / path).parent.mkdir(parents=True, exist_ok=True)
         (directory / path).write_text(text)

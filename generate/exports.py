@@ -1,4 +1,4 @@
-"""The exports of the static libraries, which are those of keywrap_c over another AES. facts.py writes them.
+"""The exports of keywrap_wasm and keywrap_hw: those of keywrap_c over another AES. facts.py writes them.
 
 Each export stands once, with its contract, in crates/keywrap_c/src. In keywrap_c a call gets memory for its round keys,
 by the macros with_schedule! and with_schedules!, and clears it. Over word tables a call needs no such memory. Over the
@@ -88,12 +88,12 @@ def results():
     """Each file, by its path from the top of the repository, with its text."""
     yield "crates/keywrap_hw/src/exports.rt", over_leaves()
     for name in "src/steps.rt", "src/many_steps.rt":
-        yield f"crates/keywrap_hw/{name}", (CRATE / name).read_text().replace(
-            "keywrap_c.", "keywrap_hw."
-        )
+        yield f"crates/keywrap_hw/{name}", (CRATE / name).read_text(
+            encoding="utf-8"
+        ).replace("keywrap_c.", "keywrap_hw.")
     for path in sorted([*CRATE.glob("specs/*"), *CRATE.glob("proofs/**/*.antt")]):
         name = path.relative_to(CRATE)
-        yield f"crates/keywrap_hw/{name}", path.read_text().replace(
+        yield f"crates/keywrap_hw/{name}", path.read_text(encoding="utf-8").replace(
             "keywrap_c.", "keywrap_hw."
         )
     yield "crates/keywrap_wasm/src/exports.rt", over_word_tables()

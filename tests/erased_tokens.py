@@ -332,7 +332,10 @@ def compare(crate, inner, crates, rust_path):
 def faults(directory):
     """The faults of a directory, each with its file, and the number of tokens that were compared."""
     crates = sorted(path.name for path in directory.iterdir() if path.is_dir())
-    found, total = [], 0
+    total = 0
+    # Each of the others is used by one of these, so its paths are missed if it is not there.
+    wanted = ("aes_block", "keywrap_calls")
+    found = [f"{name}: no such crate" for name in wanted if name not in crates]
     expected = {directory / "mod.rs"}
     for crate in crates:
         sources = ROOT / "crates" / crate / "src"

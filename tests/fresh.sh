@@ -114,7 +114,7 @@ readme() {
     # On a quiet machine the time is less than that of the processor, since two compile side by side.
     typed "$drill"
     verdict 'README: the answer' "$(grep -qxF "$answer" said || echo "it is not $answer")"
-    verdict 'README: 20 seconds of a processor' "$([ $((spent)) -le 20 ] || echo "$spent")"
+    verdict 'README: 20 seconds of a processor' "$([ $((${spent:-99})) -le 20 ] || echo "${spent:-no time}")"
     make_test "${least[0]}"
 
     row 'README: with the kit' eval 'as_root "$workdir/machine" "apt-get install libssl-dev" &&

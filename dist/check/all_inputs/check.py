@@ -341,10 +341,9 @@ class Arguments(NamedTuple):
 def parsed(words):
     """Returns the arguments, or None if they are wrong."""
     given = [word for word in words if not word.startswith("--")]
+    # A word without = has no value, which no option takes.
     options = dict(
-        word[2:].split("=", 1)
-        for word in words
-        if word.startswith("--") and "=" in word
+        word[2:].partition("=")[::2] for word in words if word.startswith("--")
     )
     path, which = [*given, "short"][:2] if given else (None, None)
     try:
