@@ -31,7 +31,7 @@ make sdist              packs the Python package with portable C, for pip to bui
 make dist-sources       writes dist/, from which everyone builds without the kit: C, WebAssembly and Rust (10 minutes)
 make dist-rust          writes the proved code of the Rust crate there (1 second, no kit)
 make test               runs the tests of the program and the libraries (5 minutes; with the kit 10, for their proofs);
-                        with KEYWRAP_ALL=1 all (60)
+                        with KEYWRAP_ALL=1 slow ones too (60)
 make packages           installs the packages that the tests use: tests/packages.txt (5 minutes)
 make gate               make proofs: rt ci proves all from nothing and tries edits; then make test-all (2 hours)
 make evidence           runs what takes too long for the gate, and writes docs/evidence, before a release (hours)

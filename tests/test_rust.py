@@ -439,7 +439,7 @@ def test_stack(crate_for_c, name, features):
 @slow
 @pytest.mark.needs("valgrind", "<valgrind/memcheck.h>", "the processor's AES")
 def test_branches_and_addresses(crate_for_c):
-    """With AES instructions no branch and no address depends on a secret, but for the check of an unwrap."""
+    """With AES instructions no branch and no address of a wrap depends on a secret. Each unwrap has reports."""
     archive = crate_for_c(NAMES[0], "std")
     sources, options = test_secrets.SOURCES, test_secrets.OPTIONS
     run("cc", *options, *sources, archive, "-o", "secrets")
