@@ -3,6 +3,7 @@ cases, the provider's comparisons, threads, what depends on secrets, planted bug
 OpenSSL's AES and a token's."""
 
 import os
+import pathlib
 import re
 import subprocess
 import sys
@@ -13,9 +14,7 @@ import faces
 from builds import NAMES, ROOT, make_library, run
 from machines import (
     ARM,
-    EXPORTS,
     MACHINES,
-    NAMES as CALLS,
     SANITIZED,
     STRICT,
     SYSROOT,
@@ -28,9 +27,10 @@ from tools import missing, need
 from vectors import WRAPPED16
 
 pytestmark = pytest.mark.needs("cc")
-OWN, HARDWARE, AES = ROOT / "tests/hardware", ROOT / "c/hardware", ROOT / "c/aes"
+OWN = ROOT / "tests/hardware"
+AES = ROOT / "c/aes"
 # All C of libkeywrap_hw.
-SOURCES = sorted([*AES.glob("*.c"), *HARDWARE.glob("*.c")])
+SOURCES = sorted(AES.glob("*.c"))
 INCLUDED = [f"-I{ROOT}/c/include", f"-I{ROOT}/tests/reference"]
 OPTIONS = [*STRICT, "-O2", *INCLUDED]
 COMPARING = [
@@ -51,29 +51,20 @@ def hardware(once, built):
     """The directory of `make library HARDWARE=1`."""
     return once(
         "hardware",
-        lambda directory: make_library(directory, built("llvm.a"), "HARDWARE=1"),
+        lambda directory: make_library(
+            directory, built("llvm.a"), "HARDWARE=1", f"HW_ARCHIVE={built('hw.a')}"
+        ),
     )
 
 
 @pytest.fixture(scope="session")
 def arm_hardware(once, built):
     archive = built("arm64") / "libkeywrap.a"
+    words = ["HARDWARE=1", f"HW_ARCHIVE={built('hw-arm64.a')}", *ARM]
     return once(
         "hardware-arm",
-        lambda directory: make_library(directory, archive, "HARDWARE=1", *ARM),
+        lambda directory: make_library(directory, archive, *words),
     )
-
-
-@pytest.fixture
-def proved(library):
-    """The archive of the proved calls, by the names that c/hardware gives them."""
-    run(
-        "objcopy",
-        f"--redefine-syms={HARDWARE}/names",
-        library / "libkeywrap.a",
-        "proved.a",
-    )
-    return "proved.a"
 
 
 def kept():
@@ -86,7 +77,7 @@ def kept():
 
 class TestFiles:
     def test_names_and_needs(self, hardware):
-        check_library(hardware, "libkeywrap_hw", CALLS)
+        check_library(hardware, "libkeywrap_hw")
 
     @slow
     def test_with_lto(self, built):
@@ -95,6 +86,7 @@ class TestFiles:
             f"{os.getcwd()}/with lto",
             built("llvm.a"),
             "HARDWARE=1",
+            f"HW_ARCHIVE={built('hw.a')}",
             "CC=cc",
             "CFLAGS=-O2 -flto",
         )
@@ -125,6 +117,77 @@ class TestFiles:
             "-",
             input="#include <keywrap_steps.h>\n",
         )
+
+
+# The leaves, each with its result and parameters, as LLVM's text has them.
+LEAVES = {
+    "available": ("i1", ""),
+    "expand": ("void", "ptr %0, i64 %1, ptr %2, i64 %3"),
+    "encrypt": ("void", "ptr %0, i64 %1, ptr %2"),
+    "decrypt": ("void", "ptr %0, i64 %1, ptr %2"),
+    "encrypt_many": ("void", "ptr %0, i64 %1, ptr %2, i64 %3"),
+    "decrypt_many": ("void", "ptr %0, i64 %1, ptr %2, i64 %3"),
+    "clear": ("void", "ptr %0"),
+}
+
+
+class TestLeaves:
+    """C is in the place of each leaf, or nothing is built."""
+
+    def test_archive_needs_each(self, built):
+        needed = re.findall(r" U (keywrap_\w+)", run("nm", "-u", built("hw.a")))
+        assert sorted(needed) == sorted(f"keywrap_aes_{name}" for name in LEAVES)
+
+    @staticmethod
+    def substituted(leaves, triple="x86_64-unknown-linux-gnu", uncalled=None):
+        """How substitute.py ends for a module of LLVM with these leaves, and a caller of each other than `uncalled`."""
+        lines = [f'target triple = "{triple}"']
+        for name, (result, parameters) in leaves.items():
+            leaf = f'@"aes_leaves::leaves::{name}"'
+            lines.append(f"define internal {result} {leaf}({parameters}) noinline {{")
+            lines.append("}")
+            if name != uncalled:
+                lines.append(f"  call {result} {leaf}({parameters})")
+        pathlib.Path("module.ll").write_text("\n".join(lines))
+        return subprocess.run(
+            [sys.executable, ROOT / "generate/substitute.py", "module.ll", "new.ll"],
+            stderr=subprocess.PIPE,
+            text=True,
+        )
+
+    def test_calls_are_of_c(self):
+        ended = self.substituted(LEAVES)
+        assert (ended.returncode, ended.stderr) == (0, "")
+        called = re.findall(
+            r"^  call .*@(\S+)\(", pathlib.Path("new.ll").read_text(), re.M
+        )
+        assert called == [f"keywrap_aes_{name}" for name in LEAVES]
+
+    def test_module_of_webassembly_does_not_choose(self):
+        leaves = {name: LEAVES[name] for name in LEAVES if name != "available"}
+        ended = self.substituted(leaves, "wasm64-unknown-unknown")
+        assert (ended.returncode, ended.stderr) == (0, "")
+
+    @pytest.mark.parametrize("name", LEAVES)
+    def test_missing_leaf_is_refused(self, name):
+        others = {leaf: LEAVES[leaf] for leaf in LEAVES if leaf != name}
+        ended = self.substituted(others)
+        assert ended.returncode == 1
+        assert ended.stderr == f"substitute.py: {name}: defined 0 times\n"
+
+    @pytest.mark.parametrize("name", LEAVES)
+    def test_leaf_of_another_type_is_refused(self, name):
+        result, parameters = LEAVES[name]
+        another = result, f"{parameters}, i32 %9".removeprefix(", ")
+        ended = self.substituted({**LEAVES, name: another})
+        assert ended.returncode == 1
+        assert ended.stderr.startswith(f"substitute.py: {name}: another type: ")
+
+    @pytest.mark.parametrize("name", LEAVES)
+    def test_leaf_that_nothing_calls_is_refused(self, name):
+        ended = self.substituted(LEAVES, uncalled=name)
+        assert ended.returncode == 1
+        assert ended.stderr == f"substitute.py: {name}: nothing calls it\n"
 
 
 class TestSteps:
@@ -165,22 +228,17 @@ class TestSteps:
     def test_recipe_of_a_token(self, prefix):
         """Over the library as it is installed."""
         flags = run("pkg-config", "--cflags", "p11-kit-1").split()
-        run(
-            "cc", *OPTIONS, *flags, "-c", ROOT / "c/examples/c/token.c", "-o", "token.o"
-        )
-        (section,) = re.findall(
-            r"^## A KEK that never leaves a token\n(.*?)^## ",
-            (ROOT / "docs/RECIPES.md").read_text(),
-            re.M | re.S,
-        )
+        source = ROOT / "c/examples/c/token.c"
+        run("cc", *OPTIONS, *flags, "-c", source, "-o", "token.o")
+        page = (ROOT / "docs/RECIPES.md").read_text()
+        heading = "## A KEK that never leaves a token\n"
+        (section,) = re.findall(f"^{heading}(.*?)^## ", page, re.M | re.S)
         recipe = re.findall("^    (.*\n)", section, re.M)
+        commands = [line[2:] for line in recipe if line.startswith("$ ")]
+        output = [line for line in recipe if not line.startswith("$ ")]
         os.mkdir("token")
         ended = subprocess.run(
-            [
-                "bash",
-                "-c",
-                "".join(line[2:] for line in recipe if line.startswith("$ ")),
-            ],
+            ["bash", "-c", "".join(commands)],
             cwd="token",
             text=True,
             stdout=subprocess.PIPE,
@@ -192,9 +250,7 @@ class TestSteps:
                 "PKG_CONFIG_PATH": f"{prefix}/lib/pkgconfig",
             },
         )
-        assert ended.stdout == "".join(
-            line for line in recipe if not line.startswith("$ ")
-        )
+        assert ended.stdout == "".join(output)
 
 
 class TestSecrets:
@@ -250,17 +306,10 @@ class TestHere:
         [("short", "foreign"), pytest.param((*kept(), "more"), marks=evidence)],
         ids=["short", "all"],
     )
-    def test_sanitized(self, proved, names):
-        sources = [ROOT / "tests/rows.c", *SOURCES]
-        run("cc", *OPTIONS, "-g", *SANITIZED, *sources, proved, "-o", "program")
+    def test_sanitized(self, built, names):
+        sources = [ROOT / "tests/rows.c", *SOURCES, built("hw.a")]
+        run("cc", *OPTIONS, "-g", *SANITIZED, *sources, "-o", "program")
         faces.check("c", ["./program"], *names)
-
-    def test_aes_of_each_call(self):
-        """Each call with a KEK, but for the one that keeps it, and no other, is also in c/hardware."""
-        names = [
-            line.split()[0] for line in (HARDWARE / "names").read_text().splitlines()
-        ]
-        assert sorted([*names, "keywrap_kek_init"]) == EXPORTS
 
     @pytest.mark.needs("the processor's AES")
     def test_wrong_aes_is_not_chosen(self):
@@ -275,16 +324,11 @@ class TestHere:
         assert chosen == ["instructions\n"] + 18 * ["software\n"]
 
     @pytest.mark.parametrize("name", ["keywrap", "keywrap_hw", "sanitized"])
-    def test_threads(self, hardware, library, name, request):
+    def test_threads(self, hardware, library, built, name):
         threads = ["cc", *OPTIONS, "-g", "-pthread", OWN / "threads.c", "-o", "threads"]
         if name == "sanitized":
             need("thread sanitizer of cc")
-            run(
-                *threads,
-                "-fsanitize=thread",
-                *SOURCES,
-                request.getfixturevalue("proved"),
-            )
+            run(*threads, "-fsanitize=thread", *SOURCES, built("hw.a"))
         else:
             run(*threads, (library if name == "keywrap" else hardware) / f"lib{name}.a")
         assert " passed, 0 failed" in run("./threads")
@@ -292,35 +336,20 @@ class TestHere:
     @evidence
     def test_provider(self, hardware):
         """The other tests of the provider."""
-        given = {
-            name: value
-            for name, value in os.environ.items()
-            if not name.startswith("PYTEST_")
-        }
-        run(
-            sys.executable,
-            "-m",
-            "pytest",
-            "-p",
-            "no:xdist",
-            "-p",
-            "no:cacheprovider",
-            ROOT / "tests/test_provider.py",
-            env={**given, "KEYWRAP_ARCHIVES": str(hardware / "libkeywrap_hw.a")},
-        )
+        env = {}
+        for name, value in os.environ.items():
+            if not name.startswith("PYTEST_"):
+                env[name] = value
+        env["KEYWRAP_ARCHIVES"] = str(hardware / "libkeywrap_hw.a")
+        pytest_here = [sys.executable, "-m", "pytest", "-p", "no:xdist"]
+        tests = ROOT / "tests/test_provider.py"
+        run(*pytest_here, "-p", "no:cacheprovider", tests, env=env)
 
     @evidence
     @pytest.mark.needs("qemu-x86_64")
-    def test_planted_bugs(self, library):
-        run(sys.executable, OWN / "bugs.py", library / "libkeywrap.a")
-
-
-@evidence
-def test_rows_over_leaves(built):
-    """The exports of keywrap_hw, which are in no library yet, with c/aes in the place of the leaves."""
-    sources = [ROOT / "tests/rows.c", *sorted(AES.glob("*.c"))]
-    run("cc", *OPTIONS, *sources, built("hw.a"), "-o", "program")
-    faces.check("c", ["./program"], *kept(), "more")
+    def test_planted_bugs(self, built):
+        """bugs.py runs the programs on emulated processors with and without AES instructions, hence qemu."""
+        run(sys.executable, OWN / "bugs.py", built("hw.a"))
 
 
 @pytest.fixture(scope="session")
@@ -328,35 +357,14 @@ def programs(once, request):
     """programs("here") is the directory of the programs of a build, over its libkeywrap_hw.so.1."""
 
     def compile_all(directory, library, compiler, openssl, *more):
-        run(
-            *compiler,
-            *OPTIONS,
-            ROOT / "tests/rows.c",
-            library / "libkeywrap_hw.so.1",
-            *more,
-            "-o",
-            directory / "rows",
-        )
-        run(
-            *compiler,
-            *OPTIONS,
-            OWN / "chosen.c",
-            *sorted(AES.glob("*.c")),
-            *more,
-            "-o",
-            directory / "chosen",
-        )
+        def compile_program(name, *words):
+            run(*compiler, *OPTIONS, *words, *more, "-o", directory / name)
+
+        compile_program("rows", ROOT / "tests/rows.c", library / "libkeywrap_hw.so.1")
+        compile_program("chosen", OWN / "chosen.c", *SOURCES)
         if openssl:
-            run(
-                *compiler,
-                *OPTIONS,
-                *openssl[1:],
-                *COMPARING,
-                openssl[0],
-                *more,
-                "-o",
-                directory / "compared",
-            )
+            archive, *includes = openssl
+            compile_program("compared", *includes, *COMPARING, archive)
 
     def provider(directory, library, archive, *words):
         run(
@@ -377,7 +385,9 @@ def programs(once, request):
         has_openssl = not missing("<openssl/evp.h>")
         compile_all(directory, library, ["cc"], ["-lcrypto"] * has_openssl)
         if has_openssl:
-            provider(directory, library, request.getfixturevalue("built")("llvm.a"))
+            built = request.getfixturevalue("built")
+            in_place = f"HW_ARCHIVE={built('hw.a')}"
+            provider(directory, library, built("llvm.a"), in_place)
             assert re.search(
                 r"\bkeywrap_aes_encrypt\b", run("nm", directory / "keywrap.so")
             )
@@ -392,8 +402,14 @@ def programs(once, request):
             compile_all(directory, library, ["aarch64-linux-gnu-gcc"], openssl, *more)
             if HAS_OPENSSL:
                 archive = request.getfixturevalue("built")("arm64") / "libkeywrap.a"
+                in_place = request.getfixturevalue("built")("hw-arm64.a")
                 provider(
-                    directory, library, archive, *ARM, f"CPPFLAGS={' '.join(OF_DEBIAN)}"
+                    directory,
+                    library,
+                    archive,
+                    *ARM,
+                    f"HW_ARCHIVE={in_place}",
+                    f"CPPFLAGS={' '.join(OF_DEBIAN)}",
                 )
 
         return build

@@ -1,7 +1,7 @@
-"""Plants the bugs of bugs.txt in the C of c/aes/ and c/hardware/, one at a time in a copy. The programs of
-test_hardware.py must catch each bug, and must pass without one. Prints which program caught which bug.
+"""Plants the bugs of bugs.txt in the C of c/aes/, one at a time in a copy. The programs of test_hardware.py must catch
+each bug, and must pass without one. Prints which program caught which bug.
 
-usage: bugs.py ARCHIVE        (ARCHIVE: the C library, for x86-64)"""
+usage: bugs.py HW_ARCHIVE [BUG..]        (HW_ARCHIVE: the exports over the leaves, for x86-64)"""
 
 import concurrent.futures
 import os
@@ -17,7 +17,7 @@ sys.path[:0] = [str(ROOT / "tests"), str(ROOT / "tests/lib")]
 import faces  # noqa: E402
 
 COMPILE = "cc -std=c99 -O2 -Wall -Wextra -Ic/include -Itests/reference -o program "
-CALLS = "tests/rows.c c/aes/*.c c/hardware/*.c proved.a"
+CALLS = "tests/rows.c c/aes/*.c exports.a"
 # It is asked for the rows that are kept, and for those that are not.
 ROWS = "rows"
 # Each program, in this order: its sources and options, how it is run, and what is written if no fault is found.
@@ -35,16 +35,21 @@ PROGRAMS = {
     ),
     # The AES becomes wrong after its first use.
     "tests_itself": (
-        "tests/hardware/self_test.c tests/hardware/wrong_aes.c c/hardware/keywrap.c c/aes/aes.c "
-        "proved.a",
+        "tests/hardware/self_test.c tests/hardware/wrong_aes.c c/aes/aes.c exports.a",
         "qemu-x86_64 -cpu max ./program",
         "0 5\n",
+    ),
+    # The libraries have their schedules at addresses that happen to be aligned.
+    "unaligned": (
+        "tests/hardware/unaligned.c c/aes/*.c -g -fsanitize=undefined -fno-sanitize-recover=all",
+        "./program",
+        "16\n",
     ),
     "calls": (CALLS, ROWS, ""),
     # At most 16 bytes below the stack pointer depend on a secret: they are a block of the wrapped key. With -flto the
     # compiler sees that nothing reads what is cleared.
     "clears": (
-        "tests/secrets/stack.c c/aes/*.c c/hardware/*.c proved.a -flto -Wl,-z,now",
+        "tests/secrets/stack.c c/aes/*.c exports.a -flto -Wl,-z,now",
         "set -o pipefail; ./program | awk 'NR > 1 && ($4 > 16 || $5 > 16 || $6 > 16)'",
         "",
     ),
@@ -76,7 +81,8 @@ def plant(suite, name, directory):
     file, old, new = bugs_of(suite)[name]
     path = pathlib.Path(directory, file)
     code = path.read_text()
-    assert code.count(old) == 1 and old != new, name
+    assert code.count(old) == 1, name
+    assert old != new, name
     path.write_text(code.replace(old, new))
 
 
@@ -93,14 +99,10 @@ def has_fault(directory, command, wanted):
 def caught_by(archive, bug):
     """The first program that finds a fault over a copy with the bug, or None."""
     with tempfile.TemporaryDirectory() as directory:
-        for name in "c/aes", "c/hardware", "c/include", "tests":
+        for name in "c/aes", "c/include", "tests":
             shutil.copytree(ROOT / name, f"{directory}/{name}")
         os.symlink(ROOT / "dist", f"{directory}/dist")
-        subprocess.run(
-            ["objcopy", "--redefine-syms=c/hardware/names", archive, "proved.a"],
-            cwd=directory,
-            check=True,
-        )
+        shutil.copy(archive, f"{directory}/exports.a")
         if bug:
             plant("hardware", bug, directory)
         for name, (sources, command, wanted) in PROGRAMS.items():
@@ -110,9 +112,9 @@ def caught_by(archive, bug):
                 return name
 
 
-def main(archive):
+def main(archive, *asked):
     faces.asked("c", "rows", "more")
-    bugs = [None, *bugs_of("hardware")]
+    bugs = [None, *(asked or bugs_of("hardware"))]
     with concurrent.futures.ThreadPoolExecutor(os.cpu_count()) as pool:
         found = list(pool.map(lambda bug: caught_by(archive, bug), bugs))
     for bug, program in zip(bugs, found):
@@ -121,4 +123,4 @@ def main(archive):
 
 
 if __name__ == "__main__":
-    sys.exit(main(os.path.abspath(sys.argv[1])))
+    sys.exit(main(os.path.abspath(sys.argv[1]), *sys.argv[2:]))

@@ -12,7 +12,7 @@ use keywrap_calls::{In, Out};
 /// Returns the number of steps.
 #[unsafe(no_mangle)]
 pub extern "C" fn keywrap_step_count(len: usize) -> u64
-    ensures { IsPaddedTextLength (8 + len) → result ≡ block_calls (8 + len) }
+    ensures { result ≡ block_calls (8 + len) }
 {
     keywrap_calls::step_count(len)
 }

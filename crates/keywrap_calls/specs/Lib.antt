@@ -15,5 +15,3 @@ pub mod Many
 pub mod StepPromises
 pub mod RewrapSteps
 pub mod RewrapCalls
-pub mod Checks
-pub mod SlotSteps

@@ -13,8 +13,8 @@ use Rattle.key_wrap_steps.specs.declared.rewrap_steps.RewrapNext.TheVariants.{Ru
 use Rattle.key_wrap_core.specs.Lengths.{IsPaddedTextLength}
 use Rattle.key_wrap_core.specs.Rewrap.{IsRewrapping}
 use Rattle.key_wrap_steps.specs.RewrapPhases.{CanBegin, RewrapState, TurnsRewrap, TurnsRewrapOf, GoesOn, phase_end, phase_start}
-use Rattle.keywrap_calls.specs.Status.{IsDone, IsBadKek, IsBadLength}
-use Rattle.keywrap_calls.specs.Rewraps.{AreFlags, IsInPlace, already_of, forms_of, passes_new, rewrap_status}
+use Rattle.keywrap_calls.specs.Status.{IsDone, IsBadLength}
+use Rattle.keywrap_calls.specs.Rewraps.{AreFlags, forms_of, passes_new}
 
 -- the outcome of a status at the end of a rewrapping: 1 for a wrapped key that was new already
 abbrev pub outcome_at : ℕ → Option (Result Rewrapped Refusal)
@@ -83,14 +83,3 @@ pub record TurnsRunFrom (flags : ℕ) (copy : List ℕ) (number number' : ℕ) (
       × TurnsRewrapOf copy (passes_new flags) (forms_of flags) phase old_steps new_steps old new old_block new_block next
   pub refused : ((phase : RewrapPhase) → ¬ (HasEnded flags phase number old_steps (length old) × (length copy ≡ length old)))
       → IsBadLength status × (number' ≡ 0) × (new ≡ old) × (new_steps ≡ old_steps) × (new_block ≡ old_block)
-
--- What `rewrap` returns for the status at the end of a rewrapping. What is no such status is the refusal of a KEK.
-pub record EndsRewrap (end already : ℕ) (status : ℤ) : Type 0 where
-  pub outcome : (outcome : Result Rewrapped Refusal) → outcome_at end ≡ Some outcome
-      → (status ≡ rewrap_status outcome) × (already ≡ already_of outcome)
-  pub bad_kek : outcome_at end ≡ None → IsBadKek status × (already ≡ 0)
-
--- what the call of version 1.0 returns for it, and the buffer
-pub record EndsInPlace (end : ℕ) (old new : List ℕ) (status : ℤ) : Type 0 where
-  pub outcome : (outcome : Result Rewrapped Refusal) → outcome_at end ≡ Some outcome → IsInPlace outcome old new status
-  pub bad_kek : outcome_at end ≡ None → IsBadKek status × (new ≡ old)

@@ -62,7 +62,7 @@ pub(crate) fn wrap_slots_of(
 }
 
 // The form that the flags of a wrap request.
-pub(crate) fn new_form(flags: u32) -> Option<Form>
+fn new_form(flags: u32) -> Option<Form>
     ensures some { IfSome result (λ form. AreWrapFlags flags × (form ≡ wrap_form flags)) }
     ensures none { IfNone result (¬ AreWrapFlags flags) }
 {
@@ -74,7 +74,7 @@ pub(crate) fn new_form(flags: u32) -> Option<Form>
 }
 
 // Whether a slot of `len` bytes is as long as the wrapped key of a key of `key_len` bytes.
-pub(crate) fn is_key_slot(form: Form, key_len: usize, len: usize) -> bool
+fn is_key_slot(form: Form, key_len: usize, len: usize) -> bool
     ensures { IsTrue result ↔ IsKeySlot form key_len len }
 {
     match form {
@@ -164,7 +164,7 @@ pub(crate) fn unwrap_slots_of(
 }
 
 // The form that the flags of an unwrap request.
-pub(crate) fn old_form(flags: u32) -> Option<Form>
+fn old_form(flags: u32) -> Option<Form>
     ensures some { IfSome result (λ form. AreUnwrapFlags flags × (form ≡ form_of_bit flags)) }
     ensures none { IfNone result (¬ AreUnwrapFlags flags) }
 {

@@ -1,10 +1,10 @@
 //! Rewrapping run by run, for an AES outside the library.
 
 ghost use Rattle.std.specs.Prelude.{◌≡◌, Some, Option, pos, ℕ};
-ghost use Rattle.keywrap_calls.specs.RewrapSteps.{BeginsRewrap, TurnsRun, TurnsRunFrom, TellsNext, EndsRewrap, EndsInPlace, end_status, outcome_at, phase_at};
+ghost use Rattle.keywrap_calls.specs.RewrapSteps.{BeginsRewrap, TurnsRun, TurnsRunFrom, TellsNext, end_status, outcome_at, phase_at};
 
-use crate::rewrapping::{in_place_status, report, request_of};
-use crate::status::{ALREADY_NEW, BAD_KEK, BAD_LENGTH, DONE, INTEGRITY, KEY_NOT_PLAIN};
+use crate::rewrapping::request_of;
+use crate::status::{ALREADY_NEW, BAD_LENGTH, DONE, INTEGRITY, KEY_NOT_PLAIN};
 use key_wrap_core::{Refusal, Rewrapped};
 use key_wrap_steps::{RewrapNext, RewrapPhase};
 
@@ -89,28 +89,6 @@ pub fn next_rewrap_from(
     match key_wrap_steps::next_rewrap_from(&request, run, copy, text, steps, block) {
         Ok(next) => tell(next, phase),
         Err(_) => BAD_LENGTH,
-    }
-}
-
-/// Returns what `rewrap` returns for the status at the end of a rewrapping, or for the refusal of a KEK:
-/// `*already` is 1 if the wrapped key was new already, else 0.
-pub fn end_rewrap(status: u32, already: &mut u32) -> i32
-    ensures { EndsRewrap status already.new result }
-{
-    *already = 0;
-    match outcome_of(status) {
-        Some(outcome) => report(outcome, already),
-        None => BAD_KEK,
-    }
-}
-
-/// Returns what `rewrap_in_place` returns for this status, and clears the buffer where it does.
-pub fn end_rewrap_in_place(status: u32, buffer: &mut [u8]) -> i32
-    ensures { EndsInPlace status buffer.old buffer.new result }
-{
-    match outcome_of(status) {
-        Some(outcome) => in_place_status(outcome, buffer),
-        None => BAD_KEK,
     }
 }
 

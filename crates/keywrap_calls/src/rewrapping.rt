@@ -89,7 +89,7 @@ pub fn rewrap_in_place<A: KeyInit>(
 }
 
 // The status of version 1.0, and its buffer.
-pub(crate) fn in_place_status(outcome: Result<Rewrapped, Refusal>, buffer: &mut [u8]) -> i32
+fn in_place_status(outcome: Result<Rewrapped, Refusal>, buffer: &mut [u8]) -> i32
     ensures is { IsInPlace outcome buffer.old buffer.new result }
     ensures other { ¬ IsBadKek result }
 {
@@ -150,7 +150,7 @@ fn forms_of(flags: u32) -> Option<RewrapForms>
 }
 
 // The status of an outcome, and 1 for a wrapped key that was new already, else 0.
-pub(crate) fn report(outcome: Result<Rewrapped, Refusal>, already: &mut u32) -> i32
+fn report(outcome: Result<Rewrapped, Refusal>, already: &mut u32) -> i32
     ensures status { result ≡ rewrap_status outcome }
     ensures already { already.new ≡ already_of outcome }
 {

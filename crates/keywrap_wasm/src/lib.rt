@@ -2,6 +2,5 @@
 //! wrappings. The host clears the memory of the module after each call.
 #![tactic(auto)]
 
-mod checks;
 mod exports;
 mod steps;

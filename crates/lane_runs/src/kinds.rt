@@ -1,6 +1,6 @@
 //! The forms of many wrapped keys, and the lengths of their keys.
 
-ghost use Rattle.std.specs.Prelude.{◌≡◌, ℕ, ◌*◌, ◌/◌, ◌≤◌, ◌<◌, length, slice_index};
+ghost use Rattle.std.specs.Prelude.{◌≡◌, ℕ, ◌*◌, ◌/◌, ◌≤◌, ◌<◌, length, slice_index, All};
 ghost use Rattle.key_wrap_core.specs.Lengths.{IsPlainTextLength};
 ghost use Rattle.key_wrap_lanes.specs.Lanes.{AreLanes, block_at, part_at};
 ghost use Rattle.key_wrap_core.specs.Kind.{kind_as};
@@ -68,9 +68,11 @@ fn kind_turn<B: BlockLanes>(
     requires forms { length forms.old ≡ length blocks.old / 16 }
     requires lens { length key_lens.old ≡ length blocks.old / 16 }
     requires statuses { length statuses.old ≡ length blocks.old / 16 }
-    ensures { (i : ℕ) → i < length blocks.old / 16 → FindsText (B.encrypted pair.now)
+    ensures found { (i : ℕ) → i < length blocks.old / 16 → FindsText (B.encrypted pair.now)
         (part_at text_len i texts.now) (slice_index forms.new i) (slice_index key_lens.new i)
         (slice_index statuses.new i) }
+    ensures cleared_copies { All (λ byte. byte ≡ 0) copies.new }
+    ensures cleared_blocks { All (λ byte. byte ≡ 0) blocks.new }
 {
     copies.copy_from_slice(texts);
     undo_lanes(pair, copies, text_len, blocks);

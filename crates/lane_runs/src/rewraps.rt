@@ -1,7 +1,7 @@
 //! Whole rewrappings of many texts. Each text is unwrapped under the old pair, over a copy. The keys that
 //! fit are then wrapped side by side under the new pair, and only their texts are written.
 
-ghost use Rattle.std.specs.Prelude.{◌≡◌, ℕ, ◌+◌, ◌*◌, ◌/◌, ◌≤◌, ◌<◌, ◌++◌, ◌↔◌, length, take, drop, slice_index, IsTrue};
+ghost use Rattle.std.specs.Prelude.{◌≡◌, ℕ, ◌+◌, ◌*◌, ◌/◌, ◌≤◌, ◌<◌, ◌++◌, ◌↔◌, length, take, drop, slice_index, All, IsTrue};
 ghost use Rattle.key_wrap_core.specs.Lengths.{IsPlainTextLength};
 ghost use Rattle.key_wrap_lanes.specs.Lanes.{AreLanes, block_at, part_at};
 ghost use Rattle.lane_runs.specs.Rewraps.{EndsPassing, GathersText, PassesLane, PassesText, PlacedLane, PutsLane, RewrapsText, TurnsLane, rewrap_status};
@@ -75,9 +75,11 @@ fn rewrap_turn<O: BlockLanes, N: BlockLanes>(
     requires places { length places.old ≡ length blocks.old / 16 }
     requires statuses { length statuses.old ≡ length blocks.old / 16 }
     requires few { length blocks.old ≤ 768 }
-    ensures { (i : ℕ) → i < length blocks.old / 16 → RewrapsText request.now.pass_new
+    ensures rewrapped { (i : ℕ) → i < length blocks.old / 16 → RewrapsText request.now.pass_new
         request.now.forms (O.encrypted old.now) (N.encrypted new.now)
         (part_at text_len i texts.old) (part_at text_len i texts.new) (slice_index statuses.new i) }
+    ensures cleared_lanes { All (λ byte. byte ≡ 0) lanes.new }
+    ensures cleared_blocks { All (λ byte. byte ≡ 0) blocks.new }
 {
     lanes.copy_from_slice(texts);
     undo_lanes(old, lanes, text_len, blocks);

@@ -1,6 +1,6 @@
 //! Whole unwrappings of many texts.
 
-ghost use Rattle.std.specs.Prelude.{◌≡◌, ℕ, ◌*◌, ◌/◌, ◌<◌, length, slice_index};
+ghost use Rattle.std.specs.Prelude.{◌≡◌, ℕ, ◌*◌, ◌/◌, ◌<◌, length, slice_index, All};
 ghost use Rattle.key_wrap_core.specs.Lengths.{IsPlainTextLength};
 ghost use Rattle.key_wrap_core.specs.Steps.{UnwrapState};
 ghost use Rattle.key_wrap_lanes.specs.Lanes.{AreLanes, block_at, part_at, registers_at};
@@ -61,9 +61,11 @@ fn unwrap_turn<B: BlockLanes>(
     requires lanes { AreLanes text_len texts.old blocks.old }
     requires statuses { length statuses.old ≡ length blocks.old / 16 }
     requires lens { length key_lens.old ≡ length blocks.old / 16 }
-    ensures { (i : ℕ) → i < length blocks.old / 16 → UnwrapsText form (B.encrypted pair.now)
+    ensures unwrapped { (i : ℕ) → i < length blocks.old / 16
+        → UnwrapsText form (B.encrypted pair.now)
         (part_at text_len i texts.old) (part_at text_len i texts.new)
         (slice_index key_lens.new i) (slice_index statuses.new i) }
+    ensures cleared { All (λ byte. byte ≡ 0) blocks.new }
 {
     undo_lanes(pair, texts, text_len, blocks);
     end_turn(form, texts, text_len, blocks, key_lens, statuses);

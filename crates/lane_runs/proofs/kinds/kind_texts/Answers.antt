@@ -63,7 +63,7 @@ loop-turn-preserved g c =
             get_within first (last - first) i forms c.kind_turn.new.forms (omega (arith, inside, forms_now)) (omega (arith, same_forms, more)),
             get_within first (last - first) i lens c.kind_turn.new.key_lens (omega (arith, inside, lens_now)) (omega (arith, same_lens, more)),
             get_within first (last - first) i statuses c.kind_turn.new.statuses (omega (arith, inside, statuses_now)) (omega (arith, same_statuses, more)),
-          ) (rw (part_given i given inside) at (c.kind_turn.ensures i (rw some inside))))
+          ) (rw (part_given i given inside) at (c.kind_turn.ensures.found i (rw some inside))))
     ]
 
 pub kind_turn-requires-clause-copies : goal.kind_turn-requires-clause-copies

@@ -13,8 +13,8 @@ end_kinds-requires-clause-lanes g c =
     let same : length c.undo_lanes.new.blocks ≡ length c.args.blocks.now = search rules in
     rw (same, long) c.requires.lanes
 
-pub returns : goal.returns
-returns g c = λ i below.
+pub returns-clause-found : goal.returns-clause-found
+returns-clause-found g c = λ i below.
     let E = g.B.BlockPair.encrypted c.args.pair.now in
     let D = g.B.BlockPair.decrypted c.args.pair.now in
     let n : ℕ = c.args.text_len in

@@ -37,7 +37,7 @@ loop-turn-preserved g c =
     (λ j less x y before. rw (get_before first (last - first) j statuses c.rewrap_turn.new.statuses less (omega (arith, same_statuses, more))) before)
     (λ i inside.
     rw (get_within first (last - first) i statuses c.rewrap_turn.new.statuses (omega (arith, inside, statuses_now)) (omega (arith, same_statuses, more)))
-    (c.rewrap_turn.ensures i (rw some inside))))
+    (c.rewrap_turn.ensures.rewrapped i (rw some inside))))
 
 pub rewrap_turn-requires-clause-copies : goal.rewrap_turn-requires-clause-copies
 rewrap_turn-requires-clause-copies g c =

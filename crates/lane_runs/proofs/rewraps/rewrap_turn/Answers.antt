@@ -29,8 +29,8 @@ make_steps-requires g c =
     let lanes : AreLanes c.args.text_len c.turn_lanes-wrapped.new.lanes c.turn_lanes-wrapped.new.blocks = rw (same, long) c.requires.lanes in
     (front_lanes c.args.text_len c.turn_lanes-wrapped.result _ _ lanes (rw (same ∙ sym kept) c.turn_lanes-wrapped.ensures.count)).0
 
-pub returns : goal.returns
-returns g c = λ i below.
+pub returns-clause-rewrapped : goal.returns-clause-rewrapped
+returns-clause-rewrapped g c = λ i below.
     let E = g.O.BlockPair.encrypted c.args.old.now in
     let D = g.O.BlockPair.decrypted c.args.old.now in
     let F = g.N.BlockPair.encrypted c.args.new.now in

@@ -41,4 +41,4 @@ loop-turn-preserved g c =
     rw (get_before first (last - first) j lens c.unwrap_turn.new.key_lens less (omega (arith, same_lens, more)), get_before first (last - first) j statuses c.unwrap_turn.new.statuses less (omega (arith, same_statuses, more))) before)
     (λ i inside.
     rw (get_within first (last - first) i lens c.unwrap_turn.new.key_lens (omega (arith, inside, lens_now)) (omega (arith, same_lens, more)), get_within first (last - first) i statuses c.unwrap_turn.new.statuses (omega (arith, inside, statuses_now)) (omega (arith, same_statuses, more)))
-    (c.unwrap_turn.ensures i (rw some inside))))
+    (c.unwrap_turn.ensures.unwrapped i (rw some inside))))

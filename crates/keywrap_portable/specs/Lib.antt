@@ -1,0 +1,2 @@
+-- The definitions of the exports.
+pub mod LaneCalls
