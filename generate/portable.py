@@ -3,9 +3,11 @@ wasm2c translates to C, the calls, and AES by the processor's instructions. Of w
 the functions and constants of the module. It also renews the version and the number of lines in dist/README. `make
 dist-sources` calls this script.
 
-usage: portable.py KEYWRAP.WASM DIRECTORY      (WASM2C names another wasm2c)
-       portable.py --needs                     (fails if a tool is missing; builds nothing)
-       portable.py --tools                     (prints the tools, as they are named in keywrap.c)"""
+usage: portable.py PORTABLE.WASM KEYWRAP.WASM DIRECTORY      (WASM2C names another wasm2c)
+       portable.py --needs           (fails if a tool is missing; builds nothing)
+       portable.py --tools           (prints the tools, as they are named in keywrap.c)
+
+PORTABLE.WASM is of generate/portable_module.sh. KEYWRAP.WASM, of generate/module.sh, is copied."""
 
 import itertools
 import os
@@ -16,6 +18,8 @@ import subprocess
 import sys
 import tempfile
 import textwrap
+
+from headers import CALLS, FIXED, LONGEST
 
 ROOT = pathlib.Path(__file__).resolve().parent.parent
 PARTS = ROOT / "c/portable"
@@ -33,36 +37,37 @@ LOOK = re.compile(
     r"w2c_j0 = instance->w2c_g0;\s+(w2c_l\d+) = w2c_j0;\s+w2c_j1 = (\d+)ull;\s+"
     r"w2c_i0 = \(u64\)\(\(s64\)w2c_j0 ([<>]) \(s64\)w2c_j1\);"
 )
-STEPS, CHECKS = (
-    {
-        f"w2c_{call}"
-        for call in re.findall(
-            r"^(?:KEYWRAP_CHECK )?u?int\d+_t (keywrap_\w+)\(",
-            (ROOT / header).read_text(),
-            re.M,
-        )
-    }
-    for header in ("dist/keywrap_steps.h", "c/include/keywrap_checks.h")
-)
-# The steps of many keys side by side are only in the C library.
-STEPS = {call for call in STEPS if not call.endswith("_many")}
-# A call between two runs of a rewrap takes more of the stack than a step. There are many steps.
-TURNS = {call for call in STEPS if "_next_" in call}
+STEPS = {
+    f"w2c_keywrap_{call.name}"
+    for call in CALLS
+    if call.header == "dist/keywrap_steps.h"
+}
 WHOLE_ONLY, WITH_AES = "#ifndef KEYWRAP_STEPS_ONLY\n", "#ifdef WITH_AES\n"
-# The processor's AES and the calls by it, in the order in which one file can have them. A template is a `.c.in`.
-HARDWARE = [
+# The processor's AES, in the order in which one file can have it, and over the module's memory.
+LEAVES = [
     "c/aes/aes.h",
     "c/aes/x86_64.c",
     "c/aes/aarch64.c",
     "c/aes/aes.c",
-    "c/hardware/run.h",
-    "c/portable/checks.c.in",
-    "c/hardware/keywrap.c",
-    "c/portable/lanes.c.in",
-    "c/hardware/many.c",
+    "c/portable/leaves.c.in",
 ]
 # Headers that keywrap.c includes before.
-INCLUDED = r"(?:\.\./aes/)?aes\.h|run\.h|keywrap(?:_steps|_checks)?\.h|std(?:int|def)\.h|string\.h"
+INCLUDED = r"aes\.h|std(?:int|def)\.h|string\.h"
+
+
+def check_imports(text):
+    """Stops unless the module, as wasm2c writes it, calls each function of leaves.c.in and imports nothing else."""
+    called = set(re.findall(r"\(\*Z_(\w+?)Z_(\w+)\)\(", text))
+    leaves = (PARTS / "leaves.c.in").read_text()
+    expected = {
+        ("aes", name)
+        for name in re.findall(r"^\w+(?: \w+)* leaf_(\w+)\(", leaves, re.M)
+    }
+    if called != expected:
+        missing, other = sorted(expected - called), sorted(called - expected)
+        sys.exit(
+            f"portable.py: the module does not call {missing}, and imports {other}"
+        )
 
 
 def the_one(what, pattern, text):
@@ -79,6 +84,7 @@ def translated(wasm):
         out = pathlib.Path(workdir) / "module.c"
         subprocess.run([WASM2C, "-n", "keywrap", wasm, "-o", out], check=True)
         text = out.read_text()
+    check_imports(text)
     # The two globals that the module exports for keywrap.js have no names here.
     names = {
         "Z_keywrap_instance_t* ": "struct instance *",
@@ -88,7 +94,12 @@ def translated(wasm):
     }
     for name, ours in names.items():
         text = text.replace(name, ours)
-    return text
+    # What it imports is a function of leaves.c.in, over the memory of the same instance.
+    return re.sub(
+        r"\(\*Z_aesZ_(\w+)\)\(instance->Z_aes_instance\b",
+        r"leaf_\1(memory",
+        text,
+    )
 
 
 def frame_of(name, body):
@@ -192,6 +203,11 @@ def function_of(found, top, end):
     )
 
 
+def with_quick_steps(function):
+    """The function with the loads and stores of the runtime for the steps of a wrap."""
+    return re.sub(r"\b(i64_(?:load|store))\(memory, ", r"step_\1(memory, ", function)
+
+
 def module_of(text):
     """The numbers of the module, and its constants and functions in C."""
     top = int(
@@ -209,27 +225,24 @@ def module_of(text):
         r"static const u8 data_segment_data_w2c_d0\[\] = \{\n((?:.*\n)*?)\};",
         text,
     )
-    between = r"^(static u32 w2c_f0\(struct instance \*instance\) \{(?:.*\n)*?)/\* export: 'memory' \*/"
+    between = r"^(static \w+ w2c_\w+\([^;]*\) \{(?:.*\n)*)/\* export: 'memory' \*/"
     functions = [*FUNCTION.finditer(the_one("the functions", between, text))]
     prototypes = {found[1]: found[0] for found in PROTOTYPE.finditer(text)}
     bodies = {found[1]: found[3] for found in functions}
     if not bodies or prototypes.keys() != bodies.keys() or not STEPS <= bodies.keys():
         sys.exit("portable.py: the functions: not those that are declared")
     needs, steps = stack_needs(bodies), reached_from(STEPS, bodies)
+    # What only the calls by the processor's AES reach.
     whole = reached_from(
-        {name for name in bodies if name.startswith("w2c_keywrap_")} - CHECKS, bodies
+        {name for name in bodies if name.startswith("w2c_keywrap_")}, bodies
     )
     size = constants.count("0x")
+    exports = [name for name in bodies if re.match(r"w2c_(?:keywrap|aes)_", name)]
     numbers = {
-        "STACK": in_sixteens(max(needs.values())),
-        "STEPS_STACK": in_sixteens(max(map(needs.get, STEPS | CHECKS))),
-        "STEP_STACK": in_sixteens(max(map(needs.get, (STEPS | CHECKS) - TURNS))),
-        "DATA": size,
-        "TOP": top,
+        f"STACK_{name.removeprefix('w2c_')}": in_sixteens(needs[name])
+        for name in exports
     }
-    # Each step fills and clears its stack. Beyond this gcc does so by slow instructions: a step takes twice as long.
-    if numbers["STEP_STACK"] > 32:
-        sys.exit("portable.py: a step takes more of the stack")
+    numbers |= {"DATA": size, "TOP": top}
     written = {found[1]: function_of(found, top, top + size) for found in functions}
     # The statuses and phases of a rewrap, within 1 KiB: the steps have no table of AES, which would take more.
     loads = [
@@ -242,11 +255,21 @@ def module_of(text):
         sys.exit("portable.py: the steps: they read other constants")
     numbers |= {"STEPS_AT": places[0], "STEPS_DATA": places[-1] + 12 - places[0]}
     those = re.findall("0x..", constants)[places[0] - top :][: numbers["STEPS_DATA"]]
-    parts = [
-        ("" if name in steps else WHOLE_ONLY if name in whole else WITH_AES, piece)
-        for pieces in (prototypes, written)
-        for name, piece in pieces.items()
-    ]
+    for name in written.keys() - whole - steps:
+        written[name] = with_quick_steps(written[name])
+
+    def condition_of(name):
+        """The line of the preprocessor before a function that is not in every build."""
+        if name in steps:
+            return ""
+        if name in whole:
+            return WHOLE_ONLY
+        return WITH_AES
+
+    parts = []
+    for pieces in (prototypes, written):
+        for name, piece in pieces.items():
+            parts.append((condition_of(name), piece))
     module = ""
     for only, group in itertools.groupby(parts, lambda part: part[0]):
         pieces = "".join(piece for _, piece in group)
@@ -261,61 +284,59 @@ def module_of(text):
     )
 
 
-# What a parameter that is no buffer becomes: a field of the runtime's call, and an argument of the module.
-BESIDE = {
-    "size_t ": ("number", "call->number"),
-    "uint64_t ": ("number", "call->number"),
-    "uint32_t ": ("flags", "call->flags"),
-    "size_t *": ("key_len", "NUMBER"),
-    "uint32_t *": ("flag", "FLAG"),
-    "uint64_t *": ("steps", "NUMBER"),
-    "uint8_t *": ("block", "BLOCK_AT"),
+# What an argument that is no buffer becomes, by its type: an argument of the module, with its number among the numbers;
+# and, if it is a pointer, a field of the runtime's call and an argument of the module. So is the block that a step
+# writes.
+NUMBERS = {
+    "size_t": "NUM({})",
+    "uint64_t": "NUM({})",
+    "uint32_t": "(u32)NUM({})",
 }
-# The longest that a buffer may be. Those of a fixed length have no parameter for it.
-LONGEST = (
-    dict.fromkeys(["key", "scratch", "registers"], "KEYWRAP_MAX_KEY")
-    | dict.fromkeys(["wrapped", "buffer", "text", "copy"], "KEYWRAP_MAX_TEXT")
-    | {"iv": "8"}
-)
-FIXED = {"first": "8", "block": "16"}
+POINTERS = {
+    "size_t": ("key_len", "NUMBER"),
+    "uint32_t": ("flag", "FLAG"),
+    "uint64_t": ("steps", "NUMBER"),
+    "uint8_t": ("block", "BLOCK_AT"),
+}
 
 
-def translator(name, parameters, declared):
-    """The CALL of the runtime for a prototype: its buffers and numbers, as the module takes them."""
-    parameters = " ".join(parameters.replace("KEYWRAP_RESTRICT ", "").split())
-    buffers, numbers, fields, given, rest = (
-        [],
-        [],
-        ["BUFFERS"],
-        ["module"],
-        iter(parameters.split(", ")),
-    )
-    for parameter in rest:
-        kind, what = re.fullmatch(r"(.*[ *])(\w+)", parameter).groups()
-        if "_check_" in name and kind in ("size_t ", "uint32_t "):
-            argument = f"{'(u32)' * (kind == 'uint32_t ')}NUM({len(numbers)})"
-            numbers.append(what)
-        elif "uint8_t *" not in kind or parameter == "uint8_t *block":
-            field, argument = BESIDE[kind]
-            fields.append(f".{field} = {what}")
+def buffer_of(argument, size, of_many):
+    """The buffer of the runtime's call for an argument."""
+    name = argument.name
+    if name.endswith("kek"):
+        return f"KEK({name}, {size})"
+    access = "READS" if argument.is_constant else "WRITES"
+    if of_many and name != "iv":
+        return f"{access}_OF_MANY({name}, {size})"
+    longest = size if name in FIXED else LONGEST[name] or size
+    return f"{access}({name}, {size}, {longest})"
+
+
+def translator(macro, call):
+    """The CALL or STEP of the runtime for a call of a header: its buffers and numbers, as the module takes them."""
+    buffers, numbers, fields, given = [], [], ["BUFFERS"], ["module"]
+    for argument in call.arguments:
+        name = argument.name
+        if not argument.is_pointer:
+            given.append(NUMBERS[argument.type].format(len(numbers)))
+            numbers.append(name)
+        elif argument.length:
+            given.append(f"BUFFER({len(buffers)})")
+            buffers.append(buffer_of(argument, argument.length, call.is_for_many))
+        elif name in FIXED and (name != "block" or argument.is_constant):
+            given.append(f"ADDRESS({len(buffers)})")
+            buffers.append(buffer_of(argument, FIXED[name], call.is_for_many))
         else:
-            size = FIXED[what] if what in FIXED else next(rest).rpartition(" ")[2]
-            argument = f"{'ADDRESS' if what in FIXED else 'BUFFER'}({len(buffers)})"
-            buffers.append(
-                f"KEK({what}, {size})"
-                if what.endswith("kek")
-                else f"{'READS' if kind[0] == 'c' else 'WRITES'}({what}, {size}, {LONGEST.get(what, size)})"
-            )
-        given.append(argument)
-    short = name.removeprefix("keywrap_")
-    fields += [f".numbers = (const u64[]){{{', '.join(numbers)}}}"] * bool(numbers)
-    fields += [".begins = 1"] * short.startswith("begin_")
-    if f"w2c_{name}" in TURNS:
-        declared = declared.replace("perform_steps", "perform_turn")
-    if short == "kek_init":  # The processor's AES has no call of its own for it.
-        declared = declared.replace("PROVED", "SHOWN")
+            field, place = POINTERS[argument.type]
+            fields.append(f".{field} = {name}")
+            given.append(place)
+    if numbers:
+        fields.append(f"NUMBERS({', '.join(numbers)})")
+    if call.name.startswith("begin_"):
+        fields.append(".begins = 1")
     # A line ends behind a parameter, or behind a whole argument of the macro.
-    items = f"CALL({declared}, {short}, ({parameters})".split(", ")
+    parameters = [f"{kind} {name}".replace("* ", "*") for kind, name in call.parameters]
+    items = f"{macro}({call.name}, ({', '.join(parameters)})".split(", ")
     items += [f"({', '.join(given)})", f"({', '.join(fields)})", *buffers]
     lines = textwrap.wrap(
         ", ".join(item.replace(" ", "\0") for item in items) + ")",
@@ -326,34 +347,28 @@ def translator(name, parameters, declared):
     return "\n".join(lines).replace("\0", " ") + "\n"
 
 
-def translators(header, declared):
-    """The CALLs of a header, for its calls for one key. A check is for any."""
-    found = re.findall(
-        r"^(?:KEYWRAP_CHECK )?int32_t (keywrap_\w+)\(([^)]*uint8_t \*[^)]*)\);",
-        (ROOT / header).read_text(),
-        re.M,
-    )
+def translators(macro, header, of_many):
+    """What stands for the calls of a header that take a buffer: those for one key, and with `of_many` for many."""
     return "\n".join(
-        translator(*call, declared)
-        for call in found
-        if "_check_" in call[0] or not call[0].endswith("_many")
+        translator(macro, call)
+        for call in CALLS
+        if call.header == header
+        and call.result == "int32_t"
+        and call.has_bytes
+        and (of_many or not call.is_for_many)
     )
 
 
-def hardware():
-    """The calls by the processor's AES as one part of the file, in which nothing but the calls has a name outside."""
+def leaves():
+    """AES by the processor's instructions as one part of the file, in which nothing has a name outside."""
     parts = []
-    for name in HARDWARE:
+    for name in LEAVES:
         text = (ROOT / name).read_text()
-        text = text.replace(
-            "@CHECKS@\n",
-            translators("c/include/keywrap_checks.h", "HIDDEN, perform_steps"),
-        )
         text = re.sub(rf"^#include [\"<](?:{INCLUDED})[\">]\n", "", text, flags=re.M)
         if name.endswith(".h"):
             # A compiler that sees the round keys of an inlined function would keep copies of them on the stack.
             text = re.sub(
-                r"^(?=(?:bool|void|int32_t) \w+\()", "static APART ", text, flags=re.M
+                r"^(?=(?:bool|void) \w+\()", "static APART ", text, flags=re.M
             )
         parts.append(text)
     return "\n".join(parts)
@@ -394,10 +409,10 @@ def readme(lines):
     return re.sub(r"(?<=^the )\d+(?= lines of keywrap.c)", str(lines), text, flags=re.M)
 
 
-def main(wasm, directory):
+def main(portable, wasm, directory):
     directory = pathlib.Path(directory)
     directory.mkdir(parents=True, exist_ok=True)
-    numbers, constants, module = module_of(translated(wasm))
+    numbers, constants, module = module_of(translated(portable))
     macros = "\n".join(f"#define {name} {value}" for name, value in numbers.items())
     runtime, calls, steps = [
         (PARTS / name).read_text()
@@ -411,20 +426,18 @@ def main(wasm, directory):
     }.items():
         the_one(f"the place of {name}", rf"^@{name}@$", runtime)
         runtime = runtime.replace(f"@{name}@", value)
-    calls = calls.replace(
-        "@CALLS@\n", translators("dist/keywrap.h", "PROVED, perform") + "\n"
-    )
-    steps = steps.replace(
-        "@CALLS@\n", translators("dist/keywrap_steps.h", "SHOWN, perform_steps")
-    )
-    by_aes = hardware()
+    one = translators("CALL", "dist/keywrap.h", of_many=False)
+    calls = calls.replace("@CALLS@\n", one + "\n")
+    each_step = translators("STEP", "dist/keywrap_steps.h", of_many=True)
+    steps = steps.replace("@CALLS@\n", each_step)
+    aes = leaves()
     (directory / "keywrap.c").write_text(
-        f"{runtime}\n/*** The module, by wasm2c ***/\n\n{module}\n{WHOLE_ONLY}{calls}#endif\n\n{steps}\n"
-        f"#ifdef WITH_AES\n/*** The calls by the processor's AES ***/\n\n{by_aes}#endif\n"
+        f"{runtime}\n{WITH_AES}/*** AES by the processor's instructions ***/\n\n{aes}#endif\n\n"
+        f"/*** The module, by wasm2c ***/\n\n{module}\n{WHOLE_ONLY}{calls}#endif\n\n{steps}"
     )
     lines = sum(
         part.count("\n")
-        for part in [(PARTS / "runtime.c.in").read_text(), calls, steps, by_aes]
+        for part in [(PARTS / "runtime.c.in").read_text(), calls, steps, aes]
     )
     (directory / "README").write_text(readme(lines))
     if pathlib.Path(wasm).resolve() != (directory / "keywrap.wasm").resolve():

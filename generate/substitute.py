@@ -1,7 +1,9 @@
 """Puts functions of C in the place of the leaves of the crate aes_leaves, in a module of LLVM: toolchain.sh calls it.
 
 Each call of a leaf becomes a call of the function keywrap_aes_NAME of C, which c/aes/ has. Nothing calls the proved
-leaf then, and the compiler drops it. This script stops if a leaf has not the result and the parameters that C has.
+leaf then, and the compiler drops it. This script stops if the module lacks a leaf, never calls it, or has it with
+another result or other parameters than C. A module of WebAssembly does not ask whether the leaves are available: the C
+around it does.
 
 usage: substitute.py MODULE.LL RESULT.LL"""
 
@@ -38,26 +40,35 @@ def check(definitions, name):
 
 
 def substituted(text, name):
-    """The module with C in the place of one leaf, if it has the leaf."""
+    """The module with C in the place of one leaf."""
     leaf = f'@"aes_leaves::leaves::{name}"'
-    if leaf not in text:
-        return text
     definition = rf"^define internal .*?\b(\w+) {re.escape(leaf)}\((.*?)\) .*\{{$"
     check(re.findall(definition, text, re.M), name)
     result, types = LEAVES[name]
     in_c = f"@keywrap_aes_{name}"
-    lines = [
-        line if line.startswith("define ") else line.replace(leaf, in_c)
-        for line in text.splitlines()
-    ]
+    lines = text.splitlines()
+    called = False
+    for number, line in enumerate(lines):
+        if leaf in line and not line.startswith("define "):
+            lines[number] = line.replace(leaf, in_c)
+            called = True
+    if not called:
+        sys.exit(f"substitute.py: {name}: nothing calls it")
     extended = "zeroext " if result == "i1" else ""
-    lines.append(f"declare {extended}{result} {in_c}({', '.join(types)}) nounwind")
+    declaration = f"declare {extended}{result} {in_c}({', '.join(types)}) nounwind"
+    # Of a module of WebAssembly it is an import. Elsewhere LLVM ignores these attributes.
+    lines.append(
+        f'{declaration} "wasm-import-module"="aes" "wasm-import-name"="{name}"'
+    )
     return "\n".join(lines) + "\n"
 
 
 def main(module, result):
     text = pathlib.Path(module).read_text(encoding="utf-8")
-    for name in LEAVES:
+    names = list(LEAVES)
+    if re.search('^target triple = "wasm', text, re.M):
+        names.remove("available")
+    for name in names:
         text = substituted(text, name)
     pathlib.Path(result).write_text(text, encoding="utf-8")
 

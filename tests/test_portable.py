@@ -1,5 +1,5 @@
 """The C of dist/: what it is made of, rows.txt and published cases by each compiler and machine,
-random calls beside the library, what the object needs, and planted bugs."""
+random calls compared with the library, the symbols that the object needs, and planted bugs."""
 
 import functools
 import json
@@ -9,6 +9,7 @@ import re
 import shutil
 import subprocess
 import sys
+from typing import NamedTuple
 
 import pytest
 
@@ -59,28 +60,23 @@ def portable_program(once):
     def make(name, sources, *options, directory=DIST):
         compiler, runner = MACHINES[name]
         need(compiler[0], *runner[:1])
-        command = [*compiler, *STRICT, *options, *["-Wno-error"] * (directory != DIST)]
+        command = [*compiler, *STRICT, *options]
+        if directory != DIST:
+            # A bug may leave something unused.
+            command.append("-Wno-error")
 
         def compile_object(there):
             run(*command, "-c", f"{directory}/keywrap.c", "-o", f"{there}/keywrap.o")
 
-        there = pathlib.Path()
         if directory == DIST:
-            there = once(
-                re.sub("[ /]", "-", "-".join(["object", name, *options])),
-                compile_object,
-            )
+            words = "-".join(["object", name, *options])
+            there = once(re.sub("[ /]", "-", words), compile_object)
         else:
+            there = pathlib.Path()
             compile_object(there)
-        run(
-            *command,
-            f"-I{directory}",
-            f"-I{ROOT}/tests/reference",
-            *sources,
-            there / "keywrap.o",
-            "-o",
-            "program",
-        )
+        includes = [f"-I{directory}", f"-I{ROOT}/tests/reference"]
+        linked = [*sources, there / "keywrap.o"]
+        run(*command, *includes, *linked, "-o", "program")
         return [*runner, "./program"]
 
     return make
@@ -102,10 +98,39 @@ def made_here():
 def test_is_what_the_tree_makes(built):
     """Each file that the script writes, byte by byte."""
     made_here()
-    run(sys.executable, ROOT / "generate/portable.py", built("keywrap.wasm"), "made")
+    modules = built("portable.wasm"), built("keywrap.wasm")
+    run(sys.executable, ROOT / "generate/portable.py", *modules, "made")
     assert sorted(os.listdir("made")) == ["README", "keywrap.c", "keywrap.wasm"]
     for path in pathlib.Path("made").iterdir():
         assert (DIST / path.name).read_bytes() == path.read_bytes(), path
+
+
+LEAVES = {"clear", "decrypt", "decrypt_many", "encrypt", "encrypt_many", "expand"}
+
+
+@pytest.mark.needs("wasm-opt")
+@pytest.mark.parametrize(
+    "imports, message",
+    [
+        (LEAVES - {"expand"}, "does not call [('aes', 'expand')], and imports []"),
+        (LEAVES | {"other"}, "does not call [], and imports [('aes', 'other')]"),
+    ],
+)
+def test_other_imports_are_refused(monkeypatch, imports, message):
+    """A module that imports other functions than leaves.c.in has is not translated."""
+    calls = [f"  (*Z_aesZ_{name})(instance->Z_aes_instance);\n" for name in imports]
+    pathlib.Path("module.c").write_text("".join(calls))
+    wasm2c = pathlib.Path("wasm2c")
+    wasm2c.write_text("#!/bin/sh\ncp module.c $5\n")
+    wasm2c.chmod(0o755)
+    monkeypatch.setenv("WASM2C", str(wasm2c.resolve()))
+    ended = subprocess.run(
+        [sys.executable, ROOT / "generate/portable.py", "a.wasm", "b.wasm", "made"],
+        stderr=subprocess.PIPE,
+        text=True,
+    )
+    assert ended.returncode == 1
+    assert ended.stderr == f"portable.py: the module {message}\n"
 
 
 @pytest.mark.parametrize("compiler", all_of(NATIVE, ["clang"]))
@@ -149,54 +174,44 @@ def test_rows_of_machines(portable_program, name):
     """Under an emulator without the long ones, and with the published cases."""
     program = portable_program(name, ROWS, "-O2")
     is_native = len(program) == 1
-    kept = [] if name == "gcc" else ["rows"] if is_native else ["short"]
-    more = ["more", "nist"] if name == "gcc" or ALL and is_native else []
-    faces.check("c", program, *kept, "foreign", *more)
+    tables = ["foreign"]
+    if name != "gcc":
+        # test_rows has those of gcc.
+        tables.insert(0, "rows" if is_native else "short")
+    if name == "gcc" or ALL and is_native:
+        tables += ["more", "nist"]
+    faces.check("c", program, *tables)
+
+
+def calls_of(header):
+    """The calls that the text of a header declares."""
+    return re.findall(r"^\w+ (keywrap_\w+)\(", header, re.M)
+
+
+def rename_calls(file):
+    """Writes a header that renames the calls of dist/, so that a program can have those of the library, too."""
+    text = ""
+    for header in "keywrap.h", "keywrap_steps.h":
+        for call in calls_of((DIST / header).read_text()):
+            line = f"#define {call} dist_{call}\n"
+            if line not in text:
+                text += line
+    pathlib.Path(file).write_text(text)
 
 
 def random_calls(directory, library, name, *options):
     """Compiles fuzz.c over the keywrap.c in the directory and over the library. Returns its command."""
     compiler, runner = MACHINES[name]
     need(compiler[0], *runner[:1])
-    calls = sorted(
-        set(
-            re.findall(
-                r"^\w+ (keywrap_\w+)\(",
-                "".join(
-                    (DIST / header).read_text()
-                    for header in ("keywrap.h", "keywrap_steps.h")
-                ),
-                re.M,
-            )
-        )
-    )
-    pathlib.Path("renamed.h").write_text(
-        "".join(f"#define {call} dist_{call}\n" for call in calls)
-    )
-    renamed = ["-include", "./renamed.h", f"-I{directory}"]
+    rename_calls("renamed.h")
     command = [*compiler, *STRICT, "-O2", f"-I{OWN}", *options]
-    run(*command, *renamed, "-c", f"{directory}/keywrap.c", "-o", "dist.o")
-    run(
-        *command,
-        *renamed,
-        "-DCALL=dist_call",
-        "-c",
-        OWN / "fuzz_call.c",
-        "-o",
-        "dist_call.o",
-    )
-    run(
-        *command,
-        f"-I{ROOT}/c/include",
-        "-DCALL=library_call",
-        OWN / "fuzz_call.c",
-        OWN / "fuzz.c",
-        "dist.o",
-        "dist_call.o",
-        library / "libkeywrap.a",
-        "-o",
-        "fuzz",
-    )
+    of_dist = [*command, "-include", "./renamed.h", f"-I{directory}", "-c"]
+    run(*of_dist, f"{directory}/keywrap.c", "-o", "dist.o")
+    run(*of_dist, "-DCALL=dist_call", OWN / "fuzz_call.c", "-o", "dist_call.o")
+    of_library = [*command, f"-I{ROOT}/c/include", "-DCALL=library_call"]
+    sources = [OWN / "fuzz_call.c", OWN / "fuzz.c"]
+    objects = ["dist.o", "dist_call.o", library / "libkeywrap.a"]
+    run(*of_library, *sources, *objects, "-o", "fuzz")
     return [*runner, "./fuzz"]
 
 
@@ -206,11 +221,13 @@ def random_calls(directory, library, name, *options):
 )
 def test_as_the_library(portable, library, name):
     """Random calls, right ones and refusals, of all calls and steps: as the library, byte by byte."""
-    cases = 200000 if ALL and name in NATIVE else 10000 if "old" in name else 40000
-    assert (
-        run(*random_calls(portable, library, name), str(cases), "1")
-        == f"{cases} cases agree\n"
-    )
+    cases = 40000
+    if ALL and name in NATIVE:
+        cases = 200000
+    elif name == "an old x86-64":
+        cases = 10000
+    program = random_calls(portable, library, name)
+    assert run(*program, str(cases), "1") == f"{cases} cases agree\n"
 
 
 @pytest.mark.parametrize("name", all_of(NATIVE, [], ["gcc"]))
@@ -236,27 +253,39 @@ def test_lengths(portable_program, name):
     assert run(*portable_program(name, [OWN / "lengths.c"], "-O2")) == "all are right\n"
 
 
-def secrets_left(portable_program, name, level, **directory):
+class SecretsLeft(NamedTuple):
     """The most bytes below the stack pointer that depend on a KEK or a key, copies of these, and how many calls there
-    are. The first call is left out: it also tests the AES."""
-    program = portable_program(
-        name, [ROOT / "tests/secrets/stack.c", "-Wl,-z,now"], level, **directory
-    )
-    counts = [
-        list(map(int, line.split()[3:7])) for line in run(*program).splitlines()[1:]
-    ]
-    kek, new_kek, key, copies = map(max, zip(*counts))
-    return max(kek, new_kek, key), copies, len(counts)
+    are."""
+
+    most: int
+    copies: int
+    calls: int
+
+
+def secrets_left(portable_program, name, level, **directory):
+    """The first call is left out: it also tests the AES."""
+    sources = [ROOT / "tests/secrets/stack.c", "-Wl,-z,now"]
+    program = portable_program(name, sources, level, **directory)
+    most = 0
+    copies = 0
+    calls = 0
+    for line in run(*program).splitlines()[1:]:
+        kek, new_kek, key, copied = map(int, line.split()[3:7])
+        most = max(most, kek, new_kek, key)
+        copies = max(copies, copied)
+        calls += 1
+    return SecretsLeft(most, copies, calls)
 
 
 def documented_secrets(name):
     """The most bytes that SECURITY.md has."""
-    found = re.search(
-        r"at most (\d+) bytes below the stack pointer depend on a KEK or a key, and with AES "
-        r"instructions at most (\d+)",
-        " ".join((ROOT / "SECURITY.md").read_text().split()),
+    page = " ".join((ROOT / "SECURITY.md").read_text().split())
+    sentence = (
+        r"at most (\d+) bytes below the stack pointer depend on a KEK or a key, "
+        r"and with AES instructions at most (\d+)"
     )
-    return int(found[1 if "tables" in name else 2])
+    with_tables, with_instructions = re.search(sentence, page).groups()
+    return int(with_tables if "tables" in name else with_instructions)
 
 
 @pytest.mark.parametrize(
@@ -270,112 +299,82 @@ def documented_secrets(name):
 )
 def test_stack(portable, portable_program, name, level):
     """SECURITY.md's bytes below the stack pointer depend on a KEK or a key."""
-    most, copies, calls = secrets_left(portable_program, name, level)
-    exports = re.findall(
-        r"^int32_t keywrap_", (portable / "keywrap.h").read_text(), re.M
-    )
-    assert calls >= 6 * len(exports) - 1
-    assert most <= documented_secrets(name) and copies == 0
+    left = secrets_left(portable_program, name, level)
+    header = (portable / "keywrap.h").read_text()
+    exports = re.findall(r"^int32_t keywrap_", header, re.M)
+    assert left.calls >= 6 * len(exports) - 1
+    assert left.most <= documented_secrets(name)
+    assert left.copies == 0
+
+
+def compile_for(name, portable, only):
+    """Compiles keywrap.o for this machine, and returns the prefix of its tools."""
+    (command, *options), _ = MACHINES[name]
+    need(command)
+    options = [option for option in options if option != "-static"]
+    options += ["-O2", "-fno-pic", *only.split()]
+    run(command, *STRICT, *options, "-c", portable / "keywrap.c", "-o", "keywrap.o")
+    return "" if command in NATIVE else command.removesuffix("gcc")
+
+
+def symbols(tools, *flags):
+    return {
+        line.split()[-1] for line in run(f"{tools}nm", *flags, "keywrap.o").splitlines()
+    }
+
+
+# Of the C library, which a caller without one has to give.
+IMPORTS = {"memcpy", "memmove", "memset", "memcmp", "abort", "getauxval"}
+# Machines on which a word says whether the AES instructions work.
+TEST_INSTRUCTIONS = [*NATIVE, "an old x86-64", "aarch64"]
 
 
 @pytest.mark.parametrize("only", all_of(["", "-DKEYWRAP_STEPS_ONLY"], [""]))
 @pytest.mark.parametrize("name", all_of(MACHINES, ["gcc"], IN_GATE))
 def test_object(portable, name, only):
     """The object imports nothing unexpected, exports the calls of the headers only, and has no other writable data."""
-    compiler, _ = MACHINES[name]
-    need(compiler[0])
-    tools = compiler[0].removesuffix("gcc") if compiler[0] not in NATIVE else ""
-    options = [
-        option for option in [*compiler[1:], *only.split()] if option != "-static"
-    ]
-    run(
-        compiler[0],
-        *STRICT,
-        "-O2",
-        "-fno-pic",
-        *options,
-        "-c",
-        portable / "keywrap.c",
-        "-o",
-        "keywrap.o",
-    )
-    needed, shown = (
-        {
-            line.split()[-1]
-            for line in run(f"{tools}nm", *flags, "keywrap.o").splitlines()
-        }
-        for flags in (["-u"], ["-g", "--defined-only"])
-    )
+    tools = compile_for(name, portable, only)
     # Names with leading underscores are the compiler's: division on 32-bit Arm, and atomics on aarch64.
-    assert {symbol for symbol in needed if not symbol.startswith("__a")} <= {
-        "memcpy",
-        "memmove",
-        "memset",
-        "memcmp",
-        "abort",
-        "getauxval",
-    }
-    headers = [
-        (portable / header).read_text() for header in ("keywrap.h", "keywrap_steps.h")
-    ]
-    calls = [
-        re.findall(
-            r"^\w+ (keywrap_\w+)\(",
-            text.partition("#ifndef KEYWRAP_PORTABLE\n/*")[0],
-            re.M,
-        )
-        for text in headers
-    ]
-    assert shown == set(calls[1] if only else calls[0] + calls[1])
-    _, data, bss = run(f"{tools}size", "keywrap.o").splitlines()[1].split()[:3]
-    # Whether the instructions work.
-    assert data == "0" and int(bss) <= (
-        4 if name in [*NATIVE, "an old x86-64", "aarch64"] and not only else 0
-    )
+    imported = {name for name in symbols(tools, "-u") if not name.startswith("__a")}
+    assert imported <= IMPORTS
+
+    declared = set()
+    for header in ["keywrap_steps.h"] if only else ["keywrap.h", "keywrap_steps.h"]:
+        text = (portable / header).read_text()
+        declared |= set(calls_of(text.partition("#ifndef KEYWRAP_PORTABLE\n/*")[0]))
+    assert symbols(tools, "-g", "--defined-only") == declared
+
+    sizes = run(f"{tools}size", "keywrap.o").splitlines()[1].split()
+    _, data, bss = map(int, sizes[:3])
+    assert data == 0
+    has_word = name in TEST_INSTRUCTIONS and not only
+    assert bss <= (4 if has_word else 0)
 
 
-def test_stack_in_readme(portable):
+@pytest.mark.parametrize("at, options", [(0, [TABLES]), (1, [])], ids=["tables", "AES"])
+def test_stack_in_readme(portable, at, options):
     """The largest frame of a call that gcc compiles, with tables and with AES instructions. The frames around it are
     small."""
     need("gcc")
-    stacks = re.findall(
-        r"takes (?:about|up to) ([\d,]+) bytes", (portable / "README").read_text()
-    )
-    for stack, options in zip(stacks, [[TABLES], []], strict=True):
-        run(
-            "gcc",
-            *STRICT,
-            "-O1",
-            "-fstack-usage",
-            *options,
-            "-c",
-            portable / "keywrap.c",
-            "-o",
-            "keywrap.o",
-        )
-        used = max(
-            int(line.split("\t")[1])
-            for line in pathlib.Path("keywrap.su").read_text().splitlines()
-        )
-        assert 0.7 < used / int(stack.replace(",", "")) < 1
+    page = (portable / "README").read_text()
+    shown = re.findall(r"takes (?:about|up to) ([\d,]+) bytes", page)
+    assert len(shown) == 2
+    flags = [*STRICT, "-O1", "-fstack-usage", *options]
+    run("gcc", *flags, "-c", portable / "keywrap.c", "-o", "keywrap.o")
+    frames = []
+    for line in pathlib.Path("keywrap.su").read_text().splitlines():
+        _, size, _ = line.split("\t")
+        frames.append(int(size))
+    assert 0.7 < max(frames) / int(shown[at].replace(",", "")) < 1
 
 
 @slow
-@pytest.mark.parametrize("options", [[], [TABLES]])
-def test_self_test_sees_a_changed_byte(portable, options):
+@pytest.mark.parametrize("options, aes", [([], "instructions"), ([TABLES], "tables")])
+def test_self_test_sees_a_changed_byte(portable, options, aes):
     need("gcc")
-    run(
-        "gcc",
-        *STRICT,
-        "-O2",
-        "-shared",
-        "-fPIC",
-        *options,
-        portable / "keywrap.c",
-        "-o",
-        "keywrap.so",
-    )
-    run(sys.executable, ROOT / "tests/library/patched.py", "keywrap.so", "decryption")
+    flags = [*STRICT, "-O2", "-shared", "-fPIC", *options]
+    run("gcc", *flags, portable / "keywrap.c", "-o", "keywrap.so")
+    run(sys.executable, ROOT / "tests/library/patched.py", "keywrap.so", aes)
 
 
 RIGHT = "8 vectors and the self test: right"
@@ -420,23 +419,23 @@ def test_check_of_a_wrong_unwrap(portable_program):
         '#include "keywrap.h"\n#define keywrap_unwrap(a, b, c, d, key, f) (keywrap_unwrap(a, b, c, d, key, f) ? 5 : '
         '(*(key) ^= 1, 0))\n#include "check/vectors.c"\n'
     )
-    assert (
-        subprocess.run(
-            portable_program("gcc", ["wrong.c"], "-O2"), capture_output=True
-        ).returncode
-        == 1
-    )
+    program = portable_program("gcc", ["wrong.c"], "-O2")
+    assert subprocess.run(program, capture_output=True).returncode == 1
 
 
 @slow
-@pytest.mark.parametrize("place", ["to[room]", "to[-1]", "((uint8_t *)key)[0]"])
+@pytest.mark.parametrize(
+    "place",
+    ["to[room]", "to[-1]", "((uint8_t *)key)[0]"],
+    ids=["after a buffer", "before a buffer", "only read"],
+)
 def test_runner_sees_a_change_elsewhere(portable_program, place):
-    """Behind a buffer, before it, and in what is only read."""
     pathlib.Path("wrong.c").write_text(
         f'#include "{DIST}/keywrap.h"\n#define keywrap_wrap(kek, n, key, len, to, room) (({place} ^= 1), '
         f'keywrap_wrap(kek, n, key, len, to, room))\n#include "{ROWS[0]}"\n'
     )
-    assert faces.has_fault("c", portable_program("gcc", ["wrong.c"], "-O2"), "foreign")
+    program = portable_program("gcc", ["wrong.c"], "-O2")
+    assert faces.has_fault("c", program, "foreign")
 
 
 def directory_files(directory):
@@ -445,26 +444,28 @@ def directory_files(directory):
     ]
 
 
+class Example(NamedTuple):
+    """The lines of README that build its program by make, its lines for CMake, and the output of the program."""
+
+    make: str
+    cmake: str
+    output: str
+
+
 @pytest.fixture
 def example(portable):
-    """Puts the program of README, by the name that it has there, into a directory; the lines that build it by make; the
-    lines for CMake; its output."""
+    """Puts the program of README, by the name that it has there, into a directory, and returns an `Example`."""
     page = (portable / "README").read_text()
-    (program,) = re.findall(
-        r"^    #include <keywrap.h>\n(?:    .*\n|\n)*?    }\n", page, re.M
-    )
-    line, output = re.search(
-        r"^    \$ (make && .*)\n    ([0-9a-f]+)$", page, re.M
-    ).groups()
+    source = r"^    #include <keywrap.h>\n(?:    .*\n|\n)*?    }\n"
+    (program,) = re.findall(source, page, re.M)
+    built = re.search(r"^    \$ (make && .*)\n    ([0-9a-f]+)$", page, re.M)
+    make, output = built.groups()
     cmake = re.search(r"^    add_subdirectory.*\n(?:    .*\n)*", page, re.M)[0]
+    project = "cmake_minimum_required(VERSION 3.13)\nproject(program C)\n"
 
     def put(directory):
         pathlib.Path(directory, "wrap.c").write_text(program)
-        return (
-            line,
-            "cmake_minimum_required(VERSION 3.13)\nproject(program C)\n" + cmake,
-            output + "\n",
-        )
+        return Example(make, project + cmake, f"{output}\n")
 
     return put
 
@@ -472,82 +473,76 @@ def example(portable):
 def test_program_of_readme(copied, example):
     """It prints what it shows, and compiles without a warning."""
     need("cc")
-    line, _, output = example(copied)
-    assert run("bash", "-ec", line, cwd=copied).endswith(output)
+    shown = example(copied)
+    assert run("bash", "-ec", shown.make, cwd=copied).endswith(shown.output)
     run("cc", *STRICT, "-fsyntax-only", "-I.", "wrap.c", cwd=copied)
 
 
-@slow
-@pytest.mark.parametrize("way", ["add_subdirectory", "find_package"])
-def test_cmake_of_a_program(copied, example, way):
-    """The lines of README, with the directory in the program's, and with what `cmake --install` put elsewhere. The
-    program's build has neither the vectors nor their test."""
-    need("cmake", "cc")
-    os.mkdir("program")
-    _, lines, output = example("program")
-    if way == "find_package":
-        run(
-            "cmake",
-            "-S",
-            copied,
-            "-B",
-            "built",
-            "-DBUILD_TESTING=OFF",
-            f"-DCMAKE_INSTALL_PREFIX={os.getcwd()}/there",
-        )
-        run("cmake", "--build", "built")
-        run("cmake", "--install", "built")
-        assert sorted(os.listdir("there/include")) == ["keywrap.h", "keywrap_steps.h"]
-        shutil.rmtree(copied)
-        lines = re.sub(r"add_subdirectory\(keywrap\) +#.*: (.*)", r"\1", lines).replace(
-            "(keywrap R", "(keywrap 1.1 R"
-        )
-    else:
-        shutil.move(copied, "program/keywrap")
-    assert re.match(rf" *{way}\(keywrap\b", lines.splitlines()[2])
-    pathlib.Path("program/CMakeLists.txt").write_text(lines)
-    run(
-        "cmake",
-        "-S",
-        "program",
-        "-B",
-        "out",
-        f"-DCMAKE_PREFIX_PATH={os.getcwd()}/there",
-    )
+def built_by_cmake(*options):
+    """Builds the directory `program` in `out`."""
+    run("cmake", "-S", "program", "-B", "out", *options)
     run("cmake", "--build", "out")
-    assert run("out/wrap") == output
-    assert "vectors" not in " ".join(directory_files("out")) + run(
-        "ctest", "--test-dir", "out", "-N"
-    )
+    # The program's build has neither the vectors nor their test.
+    assert "vectors" not in " ".join(directory_files("out"))
+    assert "vectors" not in run("ctest", "--test-dir", "out", "-N")
+
+
+@slow
+@pytest.mark.needs("cmake", "cc")
+def test_cmake_with_the_directory(copied, example):
+    """The lines of README, with the directory in the program's."""
+    os.mkdir("program")
+    shown = example("program")
+    assert re.match(r" *add_subdirectory\(keywrap\b", shown.cmake.splitlines()[2])
+    shutil.move(copied, "program/keywrap")
+    pathlib.Path("program/CMakeLists.txt").write_text(shown.cmake)
+    built_by_cmake()
+    assert run("out/wrap") == shown.output
+
+
+@slow
+@pytest.mark.needs("cmake", "cc")
+def test_cmake_with_an_installed_library(copied, example):
+    """The other line of README, with what `cmake --install` put elsewhere."""
+    os.mkdir("program")
+    shown = example("program")
+    there = f"{os.getcwd()}/there"
+    options = ["-DBUILD_TESTING=OFF", f"-DCMAKE_INSTALL_PREFIX={there}"]
+    run("cmake", "-S", copied, "-B", "built", *options)
+    run("cmake", "--build", "built")
+    run("cmake", "--install", "built")
+    assert sorted(os.listdir("there/include")) == ["keywrap.h", "keywrap_steps.h"]
+    shutil.rmtree(copied)
+    lines = re.sub(r"add_subdirectory\(keywrap\) +#.*: (.*)", r"\1", shown.cmake)
+    lines = lines.replace("(keywrap R", "(keywrap 1.1 R")
+    assert re.match(r" *find_package\(keywrap\b", lines.splitlines()[2])
+    pathlib.Path("program/CMakeLists.txt").write_text(lines)
+    built_by_cmake(f"-DCMAKE_PREFIX_PATH={there}")
+    assert run("out/wrap") == shown.output
 
 
 @pytest.mark.needs("cc", "pkg-config")
 def test_install(copied, example):
     """`make install` puts the library where pkg-config finds it, and where the lines of README link and run it."""
-    prefix = f"{os.getcwd()}/there"
-    _, _, output = example(os.getcwd())
+    prefix = pathlib.Path("there").absolute()
+    shown = example(os.getcwd())
     page = (copied / "README").read_text()
     (line,) = re.findall(r"^    \$ (cc wrap\.c \$\(pkg-config .*)", page, re.M)
     run("make", "-C", copied, "install", f"prefix={prefix}")
-    assert sorted(os.listdir(f"{prefix}/include")) == ["keywrap.h", "keywrap_steps.h"]
-    assert sorted(os.listdir(f"{prefix}/lib")) == [
-        "libkeywrap.a",
-        "libkeywrap.so",
-        "libkeywrap.so.1",
-        "pkgconfig",
-    ]
-    found = {
+    headers = sorted(os.listdir(prefix / "include"))
+    assert headers == ["keywrap.h", "keywrap_steps.h"]
+    libraries = ["libkeywrap.a", "libkeywrap.so", "libkeywrap.so.1"]
+    assert sorted(os.listdir(prefix / "lib")) == [*libraries, "pkgconfig"]
+    places = {
         **os.environ,
         "PKG_CONFIG_PATH": f"{prefix}/lib/pkgconfig",
         "LD_LIBRARY_PATH": f"{prefix}/lib",
     }
-    assert run("bash", "-ec", line, env=found) == output
-    version = re.findall(
-        r"^#define KEYWRAP_VERSION_\w+ (\d+)$", (copied / "keywrap.h").read_text(), re.M
-    )
-    assert run("pkg-config", "--modversion", "keywrap", env=found).split() == [
-        ".".join(version)
-    ]
+    assert run("bash", "-ec", line, env=places) == shown.output
+    header = (copied / "keywrap.h").read_text()
+    version = re.findall(r"^#define KEYWRAP_VERSION_\w+ (\d+)$", header, re.M)
+    packed = run("pkg-config", "--modversion", "keywrap", env=places)
+    assert packed == ".".join(version) + "\n"
 
 
 @slow
@@ -555,13 +550,14 @@ def test_cmake_shared(copied, example):
     """With BUILD_SHARED_LIBS `keywrap` is shared, and `keywrap_static` is not."""
     need("cmake", "cc")
     os.mkdir("program")
-    _, lines, output = example("program")
+    shown = example("program")
     shutil.move(copied, "program/keywrap")
-    lines += "add_executable(static wrap.c)\ntarget_link_libraries(static keywrap::keywrap_static)\n"
-    pathlib.Path("program/CMakeLists.txt").write_text(lines)
+    static = "add_executable(static wrap.c)\ntarget_link_libraries(static keywrap::keywrap_static)\n"
+    pathlib.Path("program/CMakeLists.txt").write_text(shown.cmake + static)
     run("cmake", "-S", "program", "-B", "out", "-DBUILD_SHARED_LIBS=ON")
     run("cmake", "--build", "out")
-    assert run("out/wrap") == run("out/static") == output
+    assert run("out/wrap") == shown.output
+    assert run("out/static") == shown.output
     assert "libkeywrap.so.1" in run("ldd", "out/wrap")
     assert "libkeywrap" not in run("ldd", "out/static")
 
@@ -578,21 +574,11 @@ def test_cmake_shared(copied, example):
 def test_cmake_optimizes(portable, given, found):
     """Also if no build type is given, where CMake does not."""
     need("cmake", "cc")
-    run(
-        "cmake",
-        "-S",
-        portable,
-        "-B",
-        "built",
-        "-DCMAKE_EXPORT_COMPILE_COMMANDS=ON",
-        *given,
-    )
-    (command,) = (
-        row["command"]
-        for row in json.loads(pathlib.Path("built/compile_commands.json").read_text())
-        if row["file"].endswith("keywrap.c")
-    )
-    assert re.findall(r"-O\S*", command) == found
+    options = ["-DCMAKE_EXPORT_COMPILE_COMMANDS=ON", *given]
+    run("cmake", "-S", portable, "-B", "built", *options)
+    rows = json.loads(pathlib.Path("built/compile_commands.json").read_text())
+    (row,) = [row for row in rows if row["file"].endswith("keywrap.c")]
+    assert re.findall(r"-O\S*", row["command"]) == found
 
 
 @slow
@@ -642,70 +628,54 @@ def test_freestanding(portable):
     )
 
 
-@slow
-@pytest.mark.parametrize("compiler", ["gcc", pytest.param("clang", marks=evidence)])
-def test_sdist(compiler):
-    """pip builds the source distribution without the kit, and the package's tests pass on it. It is the same again."""
-    need(
-        compiler,
-        "Python.h",
-        *[
-            f"import {name}"
-            for name in ("build", "cffi", "ensurepip", "setuptools", "wheel")
-        ],
-    )
+TOPICS_OF_PYTHON = "calls", "objects", "pyca", "vectors"
+
+
+@pytest.fixture
+def env_without_kit(compiler):
+    """The environment, without the kit on the PATH."""
     kit = pathlib.Path(shutil.which("rt") or "/rt").parent
-    path = ":".join(
-        directory
-        for directory in os.environ["PATH"].split(":")
-        if pathlib.Path(directory) != kit
-    )
-    env = {
+    directories = os.environ["PATH"].split(":")
+    path = [name for name in directories if pathlib.Path(name) != kit]
+    return {
         **os.environ,
-        "PATH": path,
+        "PATH": ":".join(path),
         "CC": compiler,
         "LDSHARED": f"{compiler} -shared",
         "SOURCE_DATE_EPOCH": "1767225600",
     }
+
+
+@slow
+@pytest.mark.needs("Python.h", "import build", "import cffi", "import ensurepip")
+@pytest.mark.needs("import setuptools", "import wheel")
+@pytest.mark.parametrize("compiler", ["gcc", pytest.param("clang", marks=evidence)])
+def test_sdist(compiler, env_without_kit):
+    """pip builds the source distribution without the kit, and the package's tests pass on it. It is the same again."""
+    need(compiler)
     version = (ROOT / "VERSION").read_text().strip().replace("-dev", ".dev0")
-    for directory in "one", "two":
-        words = [
-            f"DIST={pathlib.Path(directory).absolute()}",
-            f"PYTHON={sys.executable}",
-        ]
-        run("make", "-s", "-C", ROOT, "sdist", *words, env=env)
-    packed = [
-        pathlib.Path(directory, f"keywrap-{version}.tar.gz").resolve()
-        for directory in ("one", "two")
-    ]
-    assert packed[0].read_bytes() == packed[1].read_bytes()
+    name = f"keywrap-{version}"
+
+    def packed_in(directory):
+        there = pathlib.Path(directory).absolute()
+        variables = [f"DIST={there}", f"PYTHON={sys.executable}"]
+        run("make", "-s", "-C", ROOT, "sdist", *variables, env=env_without_kit)
+        return there / f"{name}.tar.gz"
+
+    packed = packed_in("one")
+    assert packed.read_bytes() == packed_in("two").read_bytes()
+
     run(sys.executable, "-m", "venv", "--system-site-packages", "env")
-    run(
-        "env/bin/python3",
-        "-m",
-        "pip",
-        "install",
-        "--no-build-isolation",
-        "--no-index",
-        packed[0],
-        env=env,
-    )
-    run("tar", "-xzf", packed[0])
-    tests = [
-        f"keywrap-{version}/tests/test_{name}.py"
-        for name in ("calls", "objects", "pyca", "vectors")
-    ]
-    said = run(
-        "env/bin/python3",
-        "-m",
-        "pytest",
-        "-q",
-        "-p",
-        "no:cacheprovider",
-        *tests,
-        env={**env, "KEYWRAP_CALLS": "10000"},
-    )
-    assert re.search(r"^\d{3,} passed", said, re.M) and "skipped" not in said
+    python = ["env/bin/python3", "-m"]
+    options = ["--no-build-isolation", "--no-index"]
+    run(*python, "pip", "install", *options, packed, env=env_without_kit)
+    run("tar", "-xzf", packed)
+    tests = [f"{name}/tests/test_{topic}.py" for topic in TOPICS_OF_PYTHON]
+    variables = {**env_without_kit, "KEYWRAP_CALLS": "10000"}
+    options = ["-q", "-p", "no:cacheprovider"]
+    output = run(*python, "pytest", *options, *tests, env=variables)
+    assert re.search(r"^\d{3,} passed", output, re.M)
+    assert "skipped" not in output
 
 
 @pytest.mark.parametrize(
@@ -733,18 +703,20 @@ def test_bug_is_caught(portable, portable_program, library, tmp_path, bug):
     def fails(program, *words):
         return subprocess.run([*program, *words], capture_output=True).returncode != 0
 
-    def leaves_secrets():
-        most, _, _ = secrets_left(
-            portable_program, "gcc, tables", "-O2", directory=tmp_path
-        )
-        return most > documented_secrets("gcc, tables")
+    def calls_differ(name):
+        program = random_calls(tmp_path, library, name, "-Wno-error")
+        return fails(program, "20000", "1")
 
-    lengths = [OWN / "lengths.c"], "-O1", *SANITIZED
-    assert (
-        fails(
-            random_calls(tmp_path, library, "gcc, tables", "-Wno-error"), "20000", "1"
-        )
-        or fails(random_calls(tmp_path, library, "gcc", "-Wno-error"), "20000", "1")
-        or fails(portable_program("gcc, tables", *lengths, directory=tmp_path))
-        or leaves_secrets()
-    )
+    def lengths_are_wrong():
+        sources = [OWN / "lengths.c"]
+        options = ["-O1", *SANITIZED]
+        name = "gcc, tables"
+        return fails(portable_program(name, sources, *options, directory=tmp_path))
+
+    def leaves_secrets():
+        name = "gcc, tables"
+        left = secrets_left(portable_program, name, "-O2", directory=tmp_path)
+        return left.most > documented_secrets(name)
+
+    is_seen_in_calls = calls_differ("gcc, tables") or calls_differ("gcc")
+    assert is_seen_in_calls or lengths_are_wrong() or leaves_secrets()

@@ -3,7 +3,7 @@
  *
  * usage: fuzz CASES SEED */
 
-#include <keywrap.h>
+#include <keywrap_steps.h>
 #include <stdio.h>
 #include <stdlib.h>
 #include <string.h>
@@ -69,6 +69,14 @@ static void fill(struct world *w, const struct choice *c, uint8_t *text) {
         text[any((uint32_t)c->text_len)] ^= (uint8_t)(1 << any(8));
 }
 
+/* Puts the first run of a rewrap at its end, or before it. */
+static void begin_rewrap(struct world *w, const struct choice *c) {
+    uint8_t block[16];
+    const int32_t status =
+        keywrap_begin_rewrap(c->flags, w->text, c->text_len, &w->flag, &w->steps, block);
+    if (status == KEYWRAP_OK && any(4)) w->steps = 0;
+}
+
 static void fill_all(struct world *w, const struct choice *c) {
     static const uint8_t RESERVED[4] = {0xa6, 0x59, 0x59, 0xa6};
     for (size_t i = 0; i < sizeof *w; i++) ((uint8_t *)w)[i] = (uint8_t)any(256);
@@ -80,9 +88,14 @@ static void fill_all(struct world *w, const struct choice *c) {
     if (c->count * c->text_len <= sizeof w->texts)
         for (size_t i = 0; i < c->count; i++)
             if (any(8)) fill(w, c, w->texts + c->text_len * i);
-    w->steps = any(4) ? any((uint32_t)(6 * (c->room / 8) + 2)) : any(3) ? 0 : 6 * (c->room / 8);
+    /* Of many wrapped keys the length of a text says how many steps there are. */
+    const size_t registers = c->call < BEGIN_WRAP_MANY ? c->room / 8 : c->text_len / 8 - 1;
+    const uint32_t steps = c->text_len < 8 ? 0 : 6 * (uint32_t)registers;
+    w->steps = any(4) ? any(steps + 2) : any(3) ? 0 : steps;
+    for (size_t i = 0; i < SLOTS && any(3); i++) memcpy(w->blocks + 16 * i, w->iv, 8);
     if (any(3) == 0) memcpy(w->block, w->iv, 8);
-    if (c->call == END_UNWRAP_PADDED && any(3)) {
+    if ((c->call == NEXT_REWRAP || c->call == NEXT_REWRAP_FROM) && any(8)) begin_rewrap(w, c);
+    if ((c->call == END_UNWRAP_PADDED || c->call == END_UNWRAP_ANY) && any(3)) {
         memcpy(w->block, RESERVED, 4);
         for (int i = 4; i < 8; i++) w->block[i] = (uint8_t)(c->key_len >> 8 * (7 - i));
         if (any(4)) memset(w->key + c->key_len, 0, 8);

@@ -9,7 +9,7 @@ enum { SLOTS = 60, LONGEST = 136 };
 struct world {
     uint8_t kek[272], new_kek[272], iv[16], key[LONGEST + 8], text[LONGEST + 8], first[8],
         block[16];
-    uint8_t texts[SLOTS * LONGEST], forms[SLOTS], statuses[SLOTS];
+    uint8_t texts[SLOTS * LONGEST], blocks[SLOTS * 16], forms[SLOTS], statuses[SLOTS];
     size_t lens[SLOTS], key_len;
     uint64_t steps;
     uint32_t flag;
@@ -47,6 +47,16 @@ enum {
     STEP_UNWRAP,
     END_UNWRAP,
     END_UNWRAP_PADDED,
+    END_UNWRAP_ANY,
+    BEGIN_REWRAP,
+    NEXT_REWRAP,
+    NEXT_REWRAP_FROM,
+    BEGIN_WRAP_MANY,
+    STEP_WRAP_MANY,
+    END_WRAP_MANY,
+    BEGIN_UNWRAP_MANY,
+    STEP_UNWRAP_MANY,
+    END_UNWRAP_MANY,
     CALLS
 };
 

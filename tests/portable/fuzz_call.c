@@ -2,8 +2,15 @@
 
 #include <keywrap.h>
 #include <keywrap_steps.h>
+#include <string.h>
 
 #include "fuzz.h"
+
+/* The status of a rewrap's step. At its end the caller has to clear the block. */
+static int32_t cleared(struct world *w, int32_t status) {
+    if (w->flag == 0) memset(w->block, 0, sizeof w->block);
+    return status;
+}
 
 static int32_t step(struct world *w, const struct choice *c) {
     switch (c->call) {
@@ -19,7 +26,42 @@ static int32_t step(struct world *w, const struct choice *c) {
     case STEP_UNWRAP: return keywrap_step_unwrap(w->key, c->room, &w->steps, w->block);
     case END_UNWRAP:
         return keywrap_end_unwrap(w->iv, c->iv_len, w->key, c->room, w->steps, w->block);
-    default: return keywrap_end_unwrap_padded(w->key, c->room, w->steps, w->block, &w->key_len);
+    case END_UNWRAP_PADDED:
+        return keywrap_end_unwrap_padded(w->key, c->room, w->steps, w->block, &w->key_len);
+    case END_UNWRAP_ANY:
+        return keywrap_end_unwrap_any(w->key, c->room, w->steps, w->block, &w->flag, &w->key_len);
+    case BEGIN_REWRAP:
+        return keywrap_begin_rewrap(c->flags, w->text, c->text_len, &w->flag, &w->steps, w->block);
+    case NEXT_REWRAP:
+        return cleared(
+            w, keywrap_next_rewrap(c->flags, w->text, c->text_len, &w->flag, &w->steps, w->block));
+    default:
+        return cleared(w, keywrap_next_rewrap_from(c->flags, w->texts, c->room + 8, w->text,
+                                                   c->text_len, &w->flag, &w->steps, w->block));
+    }
+}
+
+static int32_t step_of_many(struct world *w, const struct choice *c) {
+    const size_t blocks_len = 16 * c->others;
+    switch (c->call) {
+    case BEGIN_WRAP_MANY:
+        return keywrap_begin_wrap_many(w->iv, c->iv_len, w->texts, c->texts_len, c->text_len,
+                                       &w->steps, w->blocks, blocks_len);
+    case STEP_WRAP_MANY:
+        return keywrap_step_wrap_many(w->texts, c->texts_len, c->text_len, &w->steps, w->blocks,
+                                      blocks_len);
+    case END_WRAP_MANY:
+        return keywrap_end_wrap_many(w->texts, c->texts_len, c->text_len, w->steps, w->blocks,
+                                     blocks_len);
+    case BEGIN_UNWRAP_MANY:
+        return keywrap_begin_unwrap_many(w->texts, c->texts_len, c->text_len, &w->steps, w->blocks,
+                                         blocks_len);
+    case STEP_UNWRAP_MANY:
+        return keywrap_step_unwrap_many(w->texts, c->texts_len, c->text_len, &w->steps, w->blocks,
+                                        blocks_len);
+    default:
+        return keywrap_end_unwrap_many(w->iv, c->iv_len, w->texts, c->texts_len, c->text_len,
+                                       w->steps, w->blocks, blocks_len, w->statuses, c->count);
     }
 }
 
@@ -43,6 +85,7 @@ static int32_t many(struct world *w, const struct choice *c) {
 int32_t CALL(struct world *w, const struct choice *c) {
     const uint8_t *kek = w->kek;
     const size_t k = c->kek_len;
+    if (c->call >= BEGIN_WRAP_MANY) return step_of_many(w, c);
     if (c->call >= BEGIN_WRAP) return step(w, c);
     if (c->call >= REWRAP_MANY) return many(w, c);
     switch (c->call) {

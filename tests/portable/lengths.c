@@ -7,7 +7,7 @@
 
 enum { MAX = KEYWRAP_MAX_KEY, CALLS = 14 };
 
-static uint8_t kek[32], iv[8] = {1}, key[MAX + 16], out[MAX + 16], wrapped[MAX + 16];
+static uint8_t kek[32], iv[8] = {1}, key[MAX + 16], out[MAX + 16], wrapped[MAX + 16], form[1];
 static size_t key_len;
 static uint32_t number;
 
@@ -54,6 +54,12 @@ static void refuses_huge_lengths(void) {
           "a huge slot", 16);
     check(keywrap_wrap_many(kek, 32, out, 24, huge + 16, 0, key, 1) == KEYWRAP_BAD_LENGTH,
           "a huge key of a slot", 16);
+    check(keywrap_unwrap_many(kek, 32, out, huge + 24, 0, &key_len, 1, key, 1)
+              == KEYWRAP_BAD_LENGTH,
+          "a huge wrapped key of a slot", 17);
+    check(keywrap_kind_many(kek, 32, wrapped, huge + 24, out, 16, form, 1, &key_len, 1, key, 1)
+              == KEYWRAP_BAD_LENGTH,
+          "a huge slot of a check", 18);
 }
 
 int main(void) {
