@@ -19,7 +19,7 @@ pub lines_of-nil : lines_of [] ≡ []
 unfolding lines_of
 lines_of-nil = refl
 
--- what an LF ends has a line
+-- a text that ends with an LF has a first line, which may be empty
 pub first_ended : (front : List ℕ) → (line : List ℕ) × (lines : List (List ℕ)) × (lines_of (front ++ 10 ∷ []) ≡ line ∷ lines)
 unfolding lines_of
 first_ended [] = ([], [], refl)

@@ -7,9 +7,10 @@ ghost use Rattle.keywrap_args.specs.Given.{IsSet};
 ghost use Rattle.keywrap.specs.declared.cli.CommandStop.TheVariants as Stops;
 
 use crate::command::{Command, Run};
+use crate::table::table;
 use key_lines::{RunOptions, TextNotation};
 use key_wrap_core::{AgreedForm, Form, InitialValue, RewrapForms};
-use keywrap_args::{Args, Subcommand, parse};
+use keywrap_args::{Args, Subcommand, asks_for_table, parse};
 use keywrap_cli::{
     Conversion, Direction, How, IvFault, Keks, Notation, Operation, ProgramFault, What,
     line_notation, parse_iv,
@@ -44,8 +45,11 @@ impl From<ProgramFault> for CommandStop {
 /// Reads the arguments. The first one is the name of the program.
 ///
 /// The first of these stops is returned: the help, the version or arguments that clap refuses, `-`
-/// as a KEK file, `--iv`, `--new-iv`.
+/// as a KEK file, `--iv`, `--new-iv`. The table of options is printed as the help is.
 pub fn read_command<'a>(alloc: Global, args: &'a [String]) -> Result<Command<'a>, CommandStop> {
+    if asks_for_table(args) {
+        return Err(CommandStop::Args(table(alloc)?));
+    }
     command(&parse(alloc, args)?)
 }
 

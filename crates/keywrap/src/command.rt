@@ -3,6 +3,7 @@
 ghost use Rattle.std.specs.Prelude.{◌≡◌, ◌↔◌, IsTrue};
 ghost use Rattle.keywrap_cli.specs.Files.{input_notation};
 ghost use Rattle.keywrap_cli.specs.Operation.{IsCheck};
+ghost use Rattle.keywrap.specs.Session.{name_of};
 
 use key_wrap_core::Form;
 use keywrap_cli::{Direction, How, Notation, Operation};
@@ -50,7 +51,9 @@ impl<'a> Run<'a> {
     }
 
     /// Returns the name of a file, if it has one.
-    pub fn file_name(&self, role: FileRole) -> Option<&'a str> {
+    pub fn file_name(&self, role: FileRole) -> Option<&'a str>
+        ensures { result ≡ name_of self.now role }
+    {
         match role {
             FileRole::Kek => Some(self.operation.keks.kek),
             FileRole::NewKek => self.operation.keks.new_kek,

@@ -2,12 +2,17 @@
 
 ghost use Rattle.std.specs.Prelude.{◌≡◌, ◌≢◌};
 ghost use Rattle.keywrap_cli.specs.Faults.{program_status};
+ghost use Rattle.keywrap.specs.Session.{open_fault_of};
 
 use crate::command::Run;
+use crate::hints::{
+    equal_lines, has_agreed_iv, input_notation_hint, integrity_hint, kek_notation_hint,
+    raw_input_hint, raw_kek_hint,
+};
 use key_files::{FileFault, MAX_FILE};
 use key_lines::LineFault;
 use key_wrap_core::AgreedForm::{self, Padded, Plain};
-use key_wrap_core::{InitialValue, MAX_KEY, Refusal, RewrapForms};
+use key_wrap_core::{MAX_KEY, Refusal, RewrapForms};
 use keywrap_args::Escaped;
 use keywrap_cli::{Conversion, JobFault, Keks, Notation, ProgramFault, What};
 use keywrap_io::{FileRole, Inspected, Inspection, Reason};
@@ -35,14 +40,16 @@ pub fn fault_cause<F>(
             Some((FileRole::Output, Reason::from_os_error(output.os_error)))
         }
         ProgramFault::Job(fault) => job_cause(run, keks, input, *fault),
-        ProgramFault::Line(line) => Some(line_cause(run.operation.what, keks, input, line.fault)),
+        ProgramFault::Line(line) => Some(line_cause(run, keks, input, line.fault)),
         ProgramFault::NoLines => Some((FileRole::Input, Reason::Text("is empty"))),
         _ => None,
     }
 }
 
 /// Returns the fault of a file that cannot be opened.
-pub fn open_fault(role: FileRole) -> ProgramFault {
+pub fn open_fault(role: FileRole) -> ProgramFault
+    ensures { result ≡ open_fault_of role }
+{
     match role {
         FileRole::Kek => ProgramFault::KekOpen,
         FileRole::NewKek => ProgramFault::NewKekOpen,
@@ -61,14 +68,6 @@ pub fn print_fault<R: Eprint>(rt: &R, fault: &ProgramFault) -> u8
     fault.status()
 }
 
-/// If a raw KEK looks like text, returns a hint.
-pub fn raw_kek_looks_like(notation: Notation, kek: &Inspection) -> Option<&'static str> {
-    match notation {
-        Notation::Raw => kek.looks_like(),
-        Notation::Hex | Notation::Base64 | Notation::Base64Url => None,
-    }
-}
-
 fn job_cause<F>(
     run: &Run<'_>,
     keks: &Keks<Inspected<F>>,
@@ -81,20 +80,28 @@ fn job_cause<F>(
         None => kek,
     };
     Some(match fault {
-        JobFault::KekFile(fault) => (FileRole::Kek, file_reason(fault, kek)),
+        JobFault::KekFile(fault) => (FileRole::Kek, kek_reason(keks.notation, fault, kek)),
         JobFault::KekLength => (FileRole::Kek, kek_length_reason(keks.notation, kek)),
-        JobFault::NewKekFile(fault) => (FileRole::NewKek, file_reason(fault, new_kek)),
+        JobFault::NewKekFile(fault) => {
+            (FileRole::NewKek, kek_reason(keks.notation, fault, new_kek))
+        }
         JobFault::NewKekLength => (FileRole::NewKek, kek_length_reason(keks.notation, new_kek)),
-        JobFault::InputFile(fault) => (FileRole::Input, file_reason(fault, input)),
+        JobFault::InputFile(fault) => {
+            let hint = input_notation_hint(run.how.notation(), input);
+            (
+                FileRole::Input,
+                file_reason(run.how.notation(), fault, input, hint),
+            )
+        }
         JobFault::BadLength => (FileRole::Input, length_reason(run, input)),
-        JobFault::Integrity => integrity_cause(run.operation.what, keks),
+        JobFault::Integrity => integrity_cause(run, keks, input),
         JobFault::KeyNotPlain => (FileRole::Input, Reason::Text(KEY_NOT_PLAIN)),
         JobFault::Write { .. } | JobFault::Memory => return None,
     })
 }
 
 fn line_cause<F>(
-    what: What,
+    run: &Run<'_>,
     keks: &Keks<Inspected<F>>,
     input: &Inspection,
     fault: LineFault<Refusal>,
@@ -103,33 +110,50 @@ fn line_cause<F>(
         LineFault::Input(FileFault::OddDigits) | LineFault::Memory | LineFault::TooManyLines => {
             Reason::NameOnly
         }
-        LineFault::Input(fault) => file_reason(fault, input),
-        LineFault::Refused(Refusal::Integrity) => return integrity_cause(what, keks),
-        LineFault::Refused(Refusal::BadLength) => Reason::Text(legal_lengths(what)),
+        // The bytes of lines are not counted, so there is no hint.
+        LineFault::Input(fault) => file_reason(run.how.notation(), fault, input, None),
+        LineFault::Refused(Refusal::Integrity) => return integrity_cause(run, keks, input),
+        LineFault::Refused(Refusal::BadLength) => Reason::Text(legal_lengths(run.operation.what)),
         LineFault::Refused(Refusal::KeyNotPlain) => Reason::Text(KEY_NOT_PLAIN),
     };
     (FileRole::Input, reason)
 }
 
-fn file_reason(fault: FileFault, seen: &Inspection) -> Reason {
+fn kek_reason(notation: Notation, fault: FileFault, kek: &Inspection) -> Reason {
+    file_reason(notation, fault, kek, kek_notation_hint(notation, kek))
+}
+
+// The hint is on a file that is not in this notation.
+fn file_reason(
+    notation: Notation,
+    fault: FileFault,
+    seen: &Inspection,
+    hint: Option<&'static str>,
+) -> Reason {
     match fault {
         FileFault::Read => Reason::from_os_error(seen.os_error),
         FileFault::TooLong => Reason::MoreThan(MAX_FILE),
-        FileFault::BadDigit { .. } => Reason::Text("not hex"),
         FileFault::OddDigits => Reason::HexDigits(seen.hex_digits),
-        FileFault::BadCharacter { .. }
+        FileFault::BadDigit { .. }
+        | FileFault::BadCharacter { .. }
         | FileFault::BehindPadding { .. }
         | FileFault::BadBase64Length
-        | FileFault::TrailingBits => Reason::Text("not base64"),
+        | FileFault::TrailingBits => Reason::NotIn(name_of(notation), hint),
         FileFault::Memory => Reason::NameOnly,
     }
 }
 
+fn name_of(notation: Notation) -> &'static str {
+    match notation {
+        Notation::Raw => "raw bytes",
+        Notation::Hex => "hex",
+        Notation::Base64 => "base64",
+        Notation::Base64Url => "base64url",
+    }
+}
+
 fn kek_length_reason(notation: Notation, kek: &Inspection) -> Reason {
-    Reason::KekLength(
-        denoted_bytes(notation, kek),
-        raw_kek_looks_like(notation, kek),
-    )
+    Reason::KekLength(denoted_bytes(notation, kek), raw_kek_hint(notation, kek))
 }
 
 // Returns the number of bytes that a file denotes if it was read whole.
@@ -151,7 +175,8 @@ fn length_reason(run: &Run<'_>, input: &Inspection) -> Reason {
     if bytes > most as u64 {
         Reason::TooLong(bytes, name, most)
     } else {
-        Reason::Length(bytes, legal_lengths(what))
+        let hint = raw_input_hint(run.how.notation(), input);
+        Reason::Length(bytes, legal_lengths(what), hint)
     }
 }
 
@@ -178,20 +203,32 @@ fn given_form(what: What) -> Option<AgreedForm> {
     }
 }
 
-// The likely cause is a KEK that was read in the wrong notation.
-fn integrity_cause<F>(what: What, keks: &Keks<Inspected<F>>) -> Cause {
-    if let Some(advice) = raw_kek_looks_like(keks.notation, &keks.kek.inspection) {
-        return (FileRole::Kek, Reason::Text(advice));
+// The likely causes, most likely first: a KEK or an input that was read in the wrong notation, several
+// wrapped keys that were read as one, another form or KEK.
+fn integrity_cause<F>(run: &Run<'_>, keks: &Keks<Inspected<F>>, input: &Inspection) -> Cause {
+    if let Some(hint) = raw_kek_hint(keks.notation, &keks.kek.inspection) {
+        return (FileRole::Kek, Reason::Text(hint));
     }
-    let reason = match &given_form(what) {
-        Some(Plain(iv)) if *iv != InitialValue::default() => {
-            "not a valid wrapped key under this KEK and --iv"
-        }
-        Some(Plain(_)) => "not a valid plain wrapped key under this KEK; try keywrap check",
-        Some(Padded) => "not a valid padded wrapped key under this KEK; try keywrap check",
-        None => "not a valid wrapped key in either form under this KEK",
-    };
-    (FileRole::Input, Reason::Text(reason))
+    if let Some(hint) = raw_input_hint(run.how.notation(), input) {
+        return (FileRole::Input, Reason::Text(hint));
+    }
+    if let Some(lines) = equal_lines(run.how.notation(), input) {
+        return (FileRole::Input, Reason::EqualLines(lines));
+    }
+    (FileRole::Input, not_valid(&run.operation.what))
+}
+
+fn not_valid(what: &What) -> Reason {
+    Reason::NotValid(wrapped_kind(given_form(*what)), integrity_hint(what))
+}
+
+fn wrapped_kind(form: Option<AgreedForm>) -> &'static str {
+    match &form {
+        Some(form) if has_agreed_iv(form) => "wrapped key under this KEK and --iv",
+        Some(Plain(_)) => "plain wrapped key under this KEK",
+        Some(Padded) => "padded wrapped key under this KEK",
+        None => "wrapped key in either form under this KEK",
+    }
 }
 
 /// The name of a file of a run, as a terminal may show it.

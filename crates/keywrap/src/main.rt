@@ -4,11 +4,13 @@
 mod cli;
 mod command;
 mod explain;
+mod hints;
 mod lines;
 mod program;
 mod prompt;
 mod session;
 mod system;
+mod table;
 mod warnings;
 
 use keywrap_io::{Streams, stream_kind};

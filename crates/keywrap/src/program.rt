@@ -11,7 +11,7 @@ use crate::system::System;
 use keywrap_args::ParseStop::{Help, Memory, Usage};
 use keywrap_args::arguments;
 use keywrap_cli::{Library, ProgramFault, run_drill, run_vectors, statuses, write_help};
-use keywrap_io::Streams;
+use keywrap_io::{Streams, SystemDisk};
 use std::{env, io};
 
 /// Runs the program on the arguments that it was started with, and returns its exit status.
@@ -38,7 +38,9 @@ fn is_verbose<R: System>(rt: &R) -> bool {
 
 fn run_command<R: System>(rt: &R, command: &Command<'_>, streams: Streams) -> u8 {
     let result = match command {
-        Command::Run(run) => return Session::new(rt, run, streams).run(),
+        Command::Run(run) => {
+            return Session::new(rt, run, streams).run(&mut SystemDisk { rt });
+        }
         Command::Drill {
             form,
             direction,

@@ -1,23 +1,36 @@
 //! Warnings about likely mistakes.
 
 use crate::command::Run;
-use crate::explain::{ShownName, raw_kek_looks_like};
+use crate::explain::ShownName;
+use crate::hints::{raw_kek_hint, wrapped_key_hint};
 use key_wrap_core::{AgreedForm, RewrapForms};
-use keywrap_cli::{Keks, What};
-use keywrap_io::{FileRole, Inspected};
+use keywrap_cli::{Conversion, How, Keks, What};
+use keywrap_io::{FileRole, Inspected, Inspection, Reason};
 
 const BECAME_PLAIN: &str =
     "keywrap: the new wrapped key is plain; with --keep-form or --new-padded it is padded";
 
 const SAME_KEK: &str = "keywrap: the KEK and the new KEK are the same key: nothing changes";
 
-/// Prints a line for each KEK that may have been read in the wrong notation, one if a padded
-/// wrapped key became a plain one, and one if a rewrap under the same KEK changed nothing. Nothing
-/// is lost if standard error is closed.
-pub fn warn<R: Eprint, F>(rt: &R, run: &Run<'_>, keks: &Keks<Inspected<F>>, same_kek: bool) {
+/// Prints a line for each likely mistake in a run that succeeded: a KEK, or a key to wrap, that may
+/// have been read in the wrong notation; several keys that were wrapped as one; a padded wrapped key
+/// that became a plain one; a rewrap under the same KEK that changed nothing. Nothing is lost if
+/// standard error is closed.
+pub fn warn<R: Eprint, F>(
+    rt: &R,
+    run: &Run<'_>,
+    keks: &Keks<Inspected<F>>,
+    input: &Inspection,
+    same_kek: bool,
+) {
     warn_of_kek(rt, run, FileRole::Kek, &keks.kek);
     if let Some(new_kek) = &keks.new_kek {
         warn_of_kek(rt, run, FileRole::NewKek, new_kek);
+    }
+    if let (What::Convert(Conversion::Wrap(_)), How::Whole(_)) = (run.operation.what, run.how) {
+        if let Some(reason) = wrapped_key_hint(run.how.notation(), input) {
+            warn_of_file(rt, run, FileRole::Input, reason);
+        }
     }
     if becomes_plain(run.operation.what) {
         let _ = rt.eprintln(BECAME_PLAIN);
@@ -42,8 +55,12 @@ fn becomes_plain(what: What) -> bool {
 }
 
 fn warn_of_kek<R: Eprint, F>(rt: &R, run: &Run<'_>, role: FileRole, kek: &Inspected<F>) {
-    if let Some(advice) = raw_kek_looks_like(run.operation.keks.notation, &kek.inspection) {
-        let name = ShownName { run, role };
-        let _ = eprintln!(rt; "keywrap: {name}: {advice}");
+    if let Some(hint) = raw_kek_hint(run.operation.keks.notation, &kek.inspection) {
+        warn_of_file(rt, run, role, Reason::Text(hint));
     }
+}
+
+fn warn_of_file<R: Eprint>(rt: &R, run: &Run<'_>, role: FileRole, reason: Reason) {
+    let name = ShownName { run, role };
+    let _ = eprintln!(rt; "keywrap: {name}{reason}");
 }

@@ -10,6 +10,11 @@ const SUBCOMMANDS: &str = "the first argument is wrap, unwrap, rewrap, check, dr
 
 const OPTIONS: &str = "files are named by options: --kek FILE, --input FILE, --output FILE";
 
+// Clap finds another option more similar to this one.
+const NOT_INPUT: &str = "error: unexpected argument '--in' found";
+
+const INPUT: &str = "a similar argument exists: '--input'";
+
 // The usage begins here in a message of clap.
 const USAGE: &str = "\n\nUsage: ";
 
@@ -42,24 +47,33 @@ fn with_hint(alloc: Global, args: &[String], error: &Error) -> Result<String, Al
     let Some((said, usage)) = text.as_str().split_once(USAGE) else {
         return Ok(text);
     };
-    match hint(args, error.kind(), said) {
-        Some(hint) => format!(in alloc; "{said}{TIP}{hint}{USAGE}{usage}"),
+    let (refusal, tip) = match said.split_once(TIP) {
+        Some((refusal, tip)) => (refusal, Some(tip)),
+        None => (said, None),
+    };
+    match hint(args, error.kind(), refusal, tip) {
+        Some(hint) => format!(in alloc; "{refusal}{TIP}{hint}{USAGE}{usage}"),
         None => Ok(text),
     }
 }
 
-fn hint(args: &[String], kind: ErrorKind, said: &str) -> Option<&'static str> {
-    if said.contains(TIP) {
-        return None;
-    }
+// Returns the hint on a refusal of clap, which may have a tip of clap's.
+fn hint(
+    args: &[String],
+    kind: ErrorKind,
+    refusal: &str,
+    tip: Option<&str>,
+) -> Option<&'static str> {
     // The subcommand, if the first argument names one.
     let subcommand = args.get(1).and_then(|word| subcommand_named(word.as_str()));
     match (kind, subcommand) {
-        (ErrorKind::InvalidSubcommand, _) | (ErrorKind::UnknownArgument, None) => Some(SUBCOMMANDS),
         (ErrorKind::UnknownArgument, Some(Subcommand::Drill | Subcommand::Vectors)) => None,
+        (ErrorKind::UnknownArgument, Some(_)) if refusal == NOT_INPUT => Some(INPUT),
+        _ if tip.is_some() => None,
+        (ErrorKind::InvalidSubcommand, _) | (ErrorKind::UnknownArgument, None) => Some(SUBCOMMANDS),
         // Clap's message begins with the argument.
         (ErrorKind::UnknownArgument, Some(_))
-            if !said.starts_with("error: unexpected argument '--") => { Some(OPTIONS) }
+            if !refusal.starts_with("error: unexpected argument '--") => { Some(OPTIONS) }
         _ => None,
     }
 }

@@ -8,7 +8,9 @@ mod hints;
 mod options;
 mod parser;
 mod subcommands;
+mod table;
 
 pub use escape::Escaped;
 pub use parser::{Args, ParseStop, arguments, parse};
 pub use subcommands::Subcommand;
+pub use table::{Table, asks_for_table};

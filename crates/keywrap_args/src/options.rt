@@ -9,9 +9,9 @@ use std::alloc::{AllocError, Global};
 pub(crate) struct Argument<'a> {
     pub(crate) users: Users,
     // The long name, or for a positional argument any name.
-    id: &'a str,
-    help: &'a str,
-    rules: Rules<'a>,
+    pub(crate) id: &'a str,
+    pub(crate) help: &'a str,
+    pub(crate) rules: Rules<'a>,
 }
 
 // The subcommands that have an argument.
@@ -28,19 +28,19 @@ pub(crate) enum Users {
 
 // What clap needs to know of an argument beside its name and help.
 #[derive(Clone, Copy)]
-struct Rules<'a> {
-    value: Value,
+pub(crate) struct Rules<'a> {
+    pub(crate) value: Value,
     // The text of `--help`, if `-h` prints a shorter one.
     long_help: Option<&'a str>,
     // The arguments that exclude it.
-    conflicts: &'a [&'a str],
+    pub(crate) conflicts: &'a [&'a str],
     // The arguments that it needs.
-    needs: &'a [&'a str],
+    pub(crate) needs: &'a [&'a str],
 }
 
 // The value of an argument.
 #[derive(Clone, Copy)]
-enum Value {
+pub(crate) enum Value {
     // A flag has no value.
     Absent,
     Kek,
@@ -49,6 +49,27 @@ enum Value {
     Iv,
     // The key is an argument without a name.
     Key,
+}
+
+impl Value {
+    // Returns its name in the table of arguments.
+    pub(crate) fn name(self) -> Option<&'static str> {
+        match self {
+            Value::Absent => None,
+            Value::Kek => Some("KEK file"),
+            Value::File(_) => Some("file"),
+            Value::Iv => Some("initial value"),
+            Value::Key => Some("key"),
+        }
+    }
+
+    // Returns the short name of an argument with this value.
+    pub(crate) fn short(self) -> Option<char> {
+        match self {
+            Value::File(short) => Some(short),
+            Value::Absent | Value::Kek | Value::Iv | Value::Key => None,
+        }
+    }
 }
 
 impl<'a> Argument<'a> {

@@ -18,10 +18,10 @@ pub enum Subcommand {
 
 // What clap and the help need to know of a subcommand beside its arguments.
 #[derive(Clone, Copy)]
-struct Definition<'a> {
-    subcommand: Subcommand,
-    name: &'a str,
-    about: &'a str,
+pub(crate) struct Definition<'a> {
+    pub(crate) subcommand: Subcommand,
+    pub(crate) name: &'a str,
+    pub(crate) about: &'a str,
     // Clap's own usage line would not show the source of the input.
     usage: &'a str,
     // The end of its help.
@@ -108,8 +108,9 @@ fn subcommands<'a>(alloc: Global) -> Result<Vec<Command<'a>>, AllocError> {
     Ok(subcommands)
 }
 
-// The table is behind a call: a loop over a constant takes long to prove.
-fn definitions() -> &'static [Definition<'static>] {
+// Returns the subcommands in the order of the help. It is a call because a loop over a constant takes
+// long to prove.
+pub(crate) fn definitions() -> &'static [Definition<'static>] {
     &DEFINITIONS
 }
 
@@ -138,7 +139,7 @@ impl Subcommand {
     }
 
     // Returns whether the subcommand is one of these.
-    fn has(self, users: Users) -> bool {
+    pub(crate) fn has(self, users: Users) -> bool {
         match self {
             Subcommand::Wrap => matches!(users, Users::Keyed | Users::Formed),
             Subcommand::Unwrap => { matches!(users, Users::Keyed | Users::Formed | Users::Unwrap) }

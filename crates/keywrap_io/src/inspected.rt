@@ -1,6 +1,9 @@
 //! A reader or writer that keeps the system's last error, and counts the bytes of each kind that a
 //! reason needs.
 
+ghost use Rattle.std.specs.Prelude.{◌≡◌};
+
+use crate::line_lengths::LineLengths;
 use std::io::{self, Read, Write};
 
 /// What was read from a file or written to it.
@@ -12,10 +15,32 @@ pub struct Inspection {
     pub hex_digits: u64,
     /// The bytes read that are base64 characters in either alphabet, without padding.
     pub base64: u64,
+    // Those of them that only base64url has.
+    url_signs: u64,
     // The bytes read that are base64 padding or end a line.
     fill: u64,
+    // The bytes read that ASCII text does not have.
+    binary: u64,
+    line_lengths: LineLengths,
+    // Whether the last byte read is a newline.
+    ends_in_newline: bool,
     /// The number of the system's last error.
     pub os_error: Option<i32>,
+}
+
+/// What the bytes of a file look like.
+#[derive(Clone, Copy)]
+pub enum Content {
+    /// Hex digits.
+    Hex,
+    /// Base64, with no character that only base64url has.
+    Base64,
+    /// Base64url, with a character that base64 lacks.
+    Base64Url,
+    /// Some other text, or no bytes.
+    Text,
+    /// Bytes that ASCII text does not have.
+    Binary,
 }
 
 /// A file, and what was read from it or written to it.
@@ -31,7 +56,9 @@ pub struct Inspected<F> {
 
 impl<F> Inspected<F> {
     /// Inspects this file. The kinds of the bytes are counted only if `counts` is set.
-    pub fn new(file: F, counts: bool) -> Self {
+    pub fn new(file: F, counts: bool) -> Self
+        ensures { result.file ≡ file }
+    {
         Inspected {
             file,
             inspection: Inspection::default(),
@@ -41,18 +68,33 @@ impl<F> Inspected<F> {
 }
 
 impl Inspection {
-    /// If the bytes look like hex or base64, returns a hint on a raw KEK of these bytes.
-    pub fn looks_like(&self) -> Option<&'static str> {
-        match self.bytes.saturating_sub(self.fill) {
-            0 => None,
-            count if count == self.hex_digits => {
-                Some("looks like hex: omit --raw-kek to read it as hex")
-            }
-            count if count == self.base64 => {
-                Some("looks like base64: use --base64-kek to read it as base64")
-            }
-            _ => None,
+    /// Returns what the bytes look like. Line ends and base64 padding do not matter.
+    pub fn content(&self) -> Content {
+        let symbols = self.bytes.saturating_sub(self.fill);
+        if self.binary > 0 {
+            Content::Binary
+        } else if symbols == 0 {
+            Content::Text
+        } else if symbols == self.hex_digits {
+            Content::Hex
+        } else if symbols != self.base64 {
+            Content::Text
+        } else if self.url_signs > 0 {
+            Content::Base64Url
+        } else {
+            Content::Base64
         }
+    }
+
+    /// Returns whether the last byte is a newline.
+    pub fn ends_in_newline(&self) -> bool {
+        self.ends_in_newline
+    }
+
+    /// If there are two lines or more, and all have the same length, returns their number. Empty
+    /// lines do not count.
+    pub fn equal_lines(&self) -> Option<u64> {
+        self.line_lengths.equal_lines()
     }
 
     // Keeps the outcome of a read or a write.
@@ -66,11 +108,21 @@ impl Inspection {
     // Counts the bytes of each kind.
     fn count(&mut self, bytes: &[u8]) {
         for byte in bytes {
-            let is_sign = matches!(byte, b'+' | b'/' | b'-' | b'_');
-            add(&mut self.hex_digits, byte.is_ascii_hexdigit());
-            add(&mut self.base64, is_sign || byte.is_ascii_alphanumeric());
-            add(&mut self.fill, matches!(byte, b'=' | b'\n' | b'\r'));
+            self.count_byte(*byte);
         }
+    }
+
+    fn count_byte(&mut self, byte: u8) {
+        let is_url_sign = matches!(byte, b'-' | b'_');
+        let is_base64 = is_url_sign || matches!(byte, b'+' | b'/') || byte.is_ascii_alphanumeric();
+        let is_text = matches!(byte, b' '..=b'~' | b'\t' | b'\n' | b'\r');
+        add(&mut self.hex_digits, byte.is_ascii_hexdigit());
+        add(&mut self.base64, is_base64);
+        add(&mut self.url_signs, is_url_sign);
+        add(&mut self.fill, matches!(byte, b'=' | b'\n' | b'\r'));
+        add(&mut self.binary, !is_text);
+        self.line_lengths.add(byte);
+        self.ends_in_newline = byte == b'\n';
     }
 }
 

@@ -1,12 +1,14 @@
 //! The files and streams of the command `keywrap`: what was read of a file, the reason of a
 //! refusal, the output file and the files that it must not replace, and the progress of a run. The
-//! readers and writers pass the bytes of the files and streams below them unchanged. No contract
-//! covers the rest: the tests of the program do.
+//! readers and writers pass the bytes of the files and streams below them unchanged. `Disk` says
+//! what a run may rely on. No contract covers the rest: the tests of the program do.
 #![tactic(auto)]
 
+mod disk;
 mod file_role;
 mod inspected;
 mod line_counts;
+mod line_lengths;
 mod output;
 mod output_file;
 mod progress;
@@ -14,8 +16,9 @@ mod protected;
 mod reason;
 mod streams;
 
+pub use disk::{Disk, SystemDisk};
 pub use file_role::FileRole;
-pub use inspected::{Inspected, Inspection};
+pub use inspected::{Content, Inspected, Inspection};
 pub use line_counts::LineCounts;
 pub use output::Output;
 pub use output_file::{Access, OutputFile};
@@ -23,6 +26,6 @@ pub use progress::{CountingReader, Progress};
 pub use protected::{FileId, Protected};
 pub use reason::Reason;
 pub use streams::{
-    InputSource, Occupied, StreamKind, Streams, is_output_piped, is_standard_input, occupy_closed,
-    open, stream_kind,
+    InputSource, LostStream, Occupied, StreamKind, Streams, is_output_piped, is_standard_input,
+    stream_kind,
 };

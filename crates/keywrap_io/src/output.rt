@@ -10,30 +10,37 @@ use std::rt::Files;
 
 /// The output of a run.
 #[derive(Drop)]
-pub enum Output<'a, W, F = File> {
-    File(OutputFile<'a, F>),
+pub enum Output<W, F = File> {
+    File(OutputFile<F>),
     /// Standard output itself.
     Stdout(W),
 }
 
-impl<W: Write> Output<'_, W> {
-    /// Ends a run that was not refused: the file takes its place, or standard output is flushed.
-    pub fn commit<F: Files<File = File>>(&mut self, rt: &F) -> Result<(), Reason> {
-        match self {
-            Output::File(file) => file.commit(rt),
-            Output::Stdout(out) => Ok(out.flush()?),
+impl<W: Write> Output<W> {
+    /// Ends a run that was not refused: the file takes this name, or standard output, which has
+    /// none, is flushed.
+    pub fn commit<R: Files<File = File>>(
+        &mut self,
+        rt: &R,
+        name: Option<&str>,
+    ) -> Result<(), Reason> {
+        match (self, name) {
+            (Output::File(file), Some(name)) => file.commit(rt, name),
+            (Output::Stdout(out), None) => Ok(out.flush()?),
+            // No run asks for this.
+            (Output::File(_), None) | (Output::Stdout(_), Some(_)) => Err(Reason::NameOnly),
         }
     }
 
     /// Ends a run that was refused: the file is removed.
-    pub fn discard<F: Files<File = File>>(&self, rt: &F) {
+    pub fn discard<R: Files<File = File>>(&self, rt: &R) {
         if let Output::File(file) = self {
             file.discard(rt);
         }
     }
 }
 
-impl<W: Write, F: Write> Write for Output<'_, W, F> {
+impl<W: Write, F: Write> Write for Output<W, F> {
     ghost contents = { output_contents W.contents F.contents };
 
     fn write(&mut self, buf: &[u8]) -> io::Result<usize> {

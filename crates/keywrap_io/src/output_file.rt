@@ -27,22 +27,21 @@ pub enum Access {
 
 /// A new file, which replaces the old file, if any, once it is whole.
 #[derive(Drop)]
-pub struct OutputFile<'a, F = File> {
+pub struct OutputFile<F = File> {
     /// The new file.
     pub file: F,
-    name: &'a str,
     temporary: String,
 }
 
-impl<'a> OutputFile<'a> {
-    /// Makes the new file in the directory of this name. A file that already has the name must be a
-    /// regular file and not protected.
+impl OutputFile {
+    /// Makes the new file in the directory of the name that it will take. A file that already has
+    /// the name must be a regular file and not protected.
     pub fn create<R: AllocGlobal + Files<File = File>>(
         rt: &R,
-        name: &'a str,
+        name: &str,
         protected: &Protected,
         access: Access,
-    ) -> Result<OutputFile<'a>, Reason> {
+    ) -> Result<OutputFile, Reason> {
         let old = existing_target(rt, name, protected)?;
         let new = create_temporary(rt, name)?;
         let is_set = match (old, access) {
@@ -58,21 +57,22 @@ impl<'a> OutputFile<'a> {
         Err(Reason::OwnershipNotKept(error))
     }
 
-    /// Renames the new file, which is whole, to its name, and syncs its directory.
-    pub fn commit<R: Files<File = File>>(&self, rt: &R) -> Result<(), Reason> {
-        if let Err(reason) = self.replace_target(rt) {
+    /// Renames the new file, which is whole, to the name that it was made for, and syncs its
+    /// directory.
+    pub fn commit<R: Files<File = File>>(&self, rt: &R, name: &str) -> Result<(), Reason> {
+        if let Err(reason) = self.replace_target(rt, name) {
             self.discard(rt);
             return Err(reason);
         }
-        Ok(sync_parent_directory(rt, self.name)?)
+        Ok(sync_parent_directory(rt, name)?)
     }
 
-    fn replace_target<R: Files<File = File>>(&self, rt: &R) -> Result<(), Reason> {
+    fn replace_target<R: Files<File = File>>(&self, rt: &R, name: &str) -> Result<(), Reason> {
         self.file.sync_all()?;
         if !self.has_its_name(rt)? {
             return Err(Reason::Text("the new file lost its name"));
         }
-        Ok(fs::rename(rt, self.temporary.as_str(), self.name)?)
+        Ok(fs::rename(rt, self.temporary.as_str(), name)?)
     }
 
     // Returns whether the new file still has the name that it was made under. If someone removed
@@ -97,19 +97,15 @@ impl<'a> OutputFile<'a> {
 }
 
 // Makes a file with the first temporary name that is free.
-fn create_temporary<'a, R: AllocGlobal + Files<File = File>>(
+fn create_temporary<R: AllocGlobal + Files<File = File>>(
     rt: &R,
-    name: &'a str,
-) -> Result<OutputFile<'a>, Reason> {
+    name: &str,
+) -> Result<OutputFile, Reason> {
     for number in 0..MAX_TEMPORARIES {
         let temporary = temporary_name(rt.alloc(), name, number)?;
         match open_new(rt, temporary.as_str()) {
             Ok(file) => {
-                return Ok(OutputFile {
-                    file,
-                    name,
-                    temporary,
-                });
+                return Ok(OutputFile { file, temporary });
             }
             Err(error) if error.kind() == io::ErrorKind::AlreadyExists => {}
             Err(error) => return Err(Reason::from(error)),

@@ -15,8 +15,9 @@ pub enum Reason {
     /// The output file cannot have the owner, group and mode that it should, with the system's
     /// error, if there was one.
     OwnershipNotKept(Option<i32>),
-    /// The length in bytes is not legal. The text names the legal lengths.
-    Length(u64, &'static str),
+    /// The length in bytes is not legal. The text names the legal lengths, and the other one is a
+    /// hint.
+    Length(u64, &'static str, Option<&'static str>),
     /// The length in bytes is more than this text and number allow.
     TooLong(u64, &'static str, usize),
     /// More than this number of bytes.
@@ -25,6 +26,12 @@ pub enum Reason {
     KekLength(u64, Option<&'static str>),
     /// The file has this number of hex digits.
     HexDigits(u64),
+    /// The file is not in this notation. The text is a hint.
+    NotIn(&'static str, Option<&'static str>),
+    /// The file is not a valid wrapped key of this kind. The text is a hint.
+    NotValid(&'static str, Option<&'static str>),
+    /// The file has this number of lines, all of one length, and was read as one key.
+    EqualLines(u64),
     /// This text.
     Text(&'static str),
 }
@@ -59,16 +66,31 @@ impl fmt::Display for Reason {
             Reason::OwnershipNotKept(None) => {
                 write!(f, "{NOT_KEPT}: the file system has one for all")
             }
-            Reason::Length(bytes, legal) => write!(f, ": {bytes} {}; {legal}", unit(bytes)),
+            Reason::Length(bytes, legal, None) => {
+                write!(f, ": {bytes} {}; {legal}", unit(bytes))
+            }
+            Reason::Length(bytes, legal, Some(hint)) => {
+                write!(f, ": {bytes} {}; {legal}; {hint}", unit(bytes))
+            }
             Reason::TooLong(bytes, what, most) => {
                 write!(f, ": {bytes} bytes; {what} has {most} at most")
             }
             Reason::MoreThan(most) => write!(f, ": more than {most} bytes"),
             Reason::KekLength(bytes, None) => write!(f, ": {bytes} {} of KEK", unit(bytes)),
-            Reason::KekLength(bytes, Some(advice)) => {
-                write!(f, ": {bytes} {} of KEK; {advice}", unit(bytes))
+            Reason::KekLength(bytes, Some(hint)) => {
+                write!(f, ": {bytes} {} of KEK; {hint}", unit(bytes))
             }
             Reason::HexDigits(digits) => write!(f, ": {digits} hex digits"),
+            Reason::NotIn(notation, None) => write!(f, ": not {notation}"),
+            Reason::NotIn(notation, Some(hint)) => write!(f, ": not {notation}: {hint}"),
+            Reason::NotValid(kind, None) => write!(f, ": not a valid {kind}"),
+            Reason::NotValid(kind, Some(hint)) => write!(f, ": not a valid {kind}; {hint}"),
+            Reason::EqualLines(lines) => {
+                write!(
+                    f,
+                    ": {lines} lines of one length are read as one; --lines reads each"
+                )
+            }
             Reason::Text(text) => write!(f, ": {text}"),
         }
     }

@@ -2,7 +2,6 @@
 
 ghost use Rattle.keywrap_io.specs.Adapters.{source_remaining};
 
-use crate::file_role::FileRole;
 use crate::protected::FileId;
 use std::fs::{self, File, OpenFile};
 use std::io::{self, IsTerminal, PipeReader, Read};
@@ -57,13 +56,21 @@ pub fn is_output_piped<R: Files>(rt: &R) -> bool {
 /// Holds the descriptors of closed standard streams.
 pub type Occupied = [Option<PipeReader>; 3];
 
+/// A stream of a run that a closed descriptor makes unusable.
+#[derive(Clone, Copy)]
+pub enum LostStream {
+    Input,
+    /// Standard output or standard error.
+    Output,
+}
+
 /// Takes the descriptors of closed standard streams, so that no file that is opened later gets
-/// one. If that fails, returns which file of a run would be lost.
-pub fn occupy_closed<R: Files>(rt: &R, streams: Streams) -> Result<Occupied, FileRole> {
+/// one. If that fails, returns which stream of the run would be lost.
+pub fn occupy_closed<R: Files>(rt: &R, streams: Streams) -> Result<Occupied, LostStream> {
     Ok([
-        occupy(rt, streams.input).map_err(|_| FileRole::Input)?,
-        occupy(rt, streams.output).map_err(|_| FileRole::Output)?,
-        occupy(rt, streams.error).map_err(|_| FileRole::Output)?,
+        occupy(rt, streams.input).map_err(|_| LostStream::Input)?,
+        occupy(rt, streams.output).map_err(|_| LostStream::Output)?,
+        occupy(rt, streams.error).map_err(|_| LostStream::Output)?,
     ])
 }
 

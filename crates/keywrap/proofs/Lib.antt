@@ -1,0 +1,3 @@
+-- Lemmas on how a run ends.
+mod Buffers
+mod Committed
