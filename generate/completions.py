@@ -1,128 +1,24 @@
 #!/usr/bin/env python3
-"""The completions of the three shells, from the tables of commands and options in crates/keywrap_args.
+"""The completions of the three shells, from the table that `keywrap options` prints.
 
 usage: completions.py BASH ZSH FISH        writes these files"""
 
 import os
-import re
 import sys
 from pathlib import Path
-from typing import NamedTuple
 
-TOP = Path(__file__).resolve().parent.parent
-ARGS = TOP / "crates/keywrap_args/src"
+from options import ARGUMENTS, COMMANDS, OPTIONS, TOP, of
+
 TEMPLATES = TOP / "packaging/templates"
-BY = "# Written by generate/completions.py from the tables of crates/keywrap_args."
+BY = "# Written by generate/completions.py from the table of `keywrap options`."
 # Added by clap.
 HELP = "Print this message or the help of the given subcommand(s)"
 COMMON = [("h", "help", "Print help"), ("V", "version", "Print version")]
-IS_FILE = "Kek", "File"
-
-
-class Option(NamedTuple):
-    name: str
-    about: str
-    value: str  # the variant of Value, or nothing for a flag
-    short: str
-    conflicts: list  # the names of the options that exclude it, or that it excludes
-    commands: list
-    needs: list  # the names of the options without which it is refused
-
-    @property
-    def words(self):
-        short = [f"-{self.short}"] if self.short else []
-        return [*short, f"--{self.name}"]
-
-    @property
-    def is_key(self):
-        """Whether it is the argument without a name."""
-        return self.value == "Key"
-
-
-def text_of(name):
-    """The text of a source file without its comments."""
-    return re.sub(r"(?m)^ *//.*\n", "", (ARGS / name).read_text())
-
-
-def commands():
-    """The description of each command, by its name."""
-    return dict(
-        re.findall(r'name: "(\w+)",\s*about: "(.*)"', text_of("subcommands.rt"))
-    )
-
-
-def users():
-    """The commands of each variant of Users."""
-    enum = re.search(r"enum Users \{(.*?)\}", text_of("options.rt"), re.DOTALL)
-    _, has = text_of("subcommands.rt").split("fn has", 1)
-    conditions = re.findall(r"Subcommand::(\w+) => (.*)", has)
-    return {
-        variant: [name.lower() for name, text in conditions if holds(text, variant)]
-        for variant in re.findall(r"(\w+),", enum[1])
-    }
-
-
-def holds(condition, variant):
-    """Whether a command has the options of these users: its condition is false, a pattern, or not a pattern."""
-    if condition == "false,":
-        return False
-    is_named = f"Users::{variant}" in re.findall(r"Users::\w+", condition)
-    is_negated = condition.startswith("!")
-    return is_named != is_negated
-
-
-def names_in(field, text):
-    """The names of options in a field of an argument."""
-    fields = re.findall(rf"{field}: &\[(.*?)\]", text)
-    return re.findall(r'"([\w-]+)"', "".join(fields))
-
-
-def options():
-    """The options in the order of the help, and the argument without a name."""
-    table = re.search(
-        r"static ARGUMENTS: .*?; (\d+)\] = \[(.*?)\n\];",
-        text_of("options.rt"),
-        re.DOTALL,
-    )
-    row = r'(\w+): "([\w-]+)",\s*"(.*?)"(.*?)(?=\n    argument!|\Z)'
-    of_users = users()
-    found = {}
-    for who, name, about, rest in re.findall(row, table[2], re.DOTALL):
-        value = re.search(r"Value::(\w+)(?:\('(\w)'\))?", rest)
-        found[name] = Option(
-            name,
-            about,
-            value[1] if value else "",
-            (value and value[2]) or "",
-            names_in("conflicts", rest),
-            of_users[who],
-            names_in("needs", rest),
-        )
-    are_used = all(option.commands for option in found.values())
-    assert len(found) == int(table[1]) and are_used, "options.rt is not as it was"
-    exclude_each_other(found)
-    return [*found.values()]
-
-
-def exclude_each_other(found):
-    """Makes exclusion mutual."""
-    for option in found.values():
-        for other in list(option.conflicts):
-            if option.name not in found[other].conflicts:
-                found[other].conflicts.append(option.name)
-
-
-COMMANDS, ARGUMENTS = commands(), options()
-OPTIONS = [option for option in ARGUMENTS if not option.is_key]
 NAMES = [*COMMANDS, "help"]
 
 
-def of(command):
-    return [option for option in ARGUMENTS if command in option.commands]
-
-
 def excluded(option):
-    """The words that are not offered beside it, and itself, which is not offered twice."""
+    """The words that do not go with it, and itself, which is not offered twice."""
     words = list(option.words)
     for other in OPTIONS:
         if other.name in option.conflicts:
@@ -168,12 +64,9 @@ def bash_offered(command):
     return f"    {command})\n{text}\n        ;;"
 
 
-def bash_words_with(*values):
-    """The options with one of these values, as a pattern."""
-    words = [
-        word for option in OPTIONS if option.value in values for word in option.words
-    ]
-    return " | ".join(words)
+def bash_pattern(options):
+    """The options as a pattern."""
+    return " | ".join(word for option in options for word in option.words)
 
 
 def bash_gone(option):
@@ -182,26 +75,40 @@ def bash_gone(option):
 
 
 def bash():
-    common = " ".join(f"-{short} --{name}" for short, name, _ in COMMON)
-    cases = "\n".join(map(bash_offered, COMMANDS))
-    excluding = [option for option in OPTIONS if len(excluded(option)) > 1]
-    gone = "\n".join(map(bash_gone, excluding))
-    return filled(
-        "keywrap.bash.in",
-        common=common,
-        with_file=bash_words_with(*IS_FILE),
-        with_iv=bash_words_with("Iv"),
-        cases=cases,
-        commands=" ".join(NAMES),
-        gone=gone,
-    )
+    common = [f"-{short} --{name}" for short, name, _ in COMMON]
+    with_file = [option for option in OPTIONS if option.is_file]
+    with_iv = [option for option in OPTIONS if option.value == "initial value"]
+    excluding = []
+    for option in OPTIONS:
+        others = excluded(option)
+        if len(others) > 1:
+            excluding.append(option)
+    parts = {
+        "common": " ".join(common),
+        "with_file": bash_pattern(with_file),
+        "with_iv": bash_pattern(with_iv),
+        "cases": joined_lines(bash_offered, COMMANDS),
+        "commands": " ".join(NAMES),
+        "gone": joined_lines(bash_gone, excluding),
+    }
+    return filled("keywrap.bash.in", **parts)
+
+
+def joined_lines(written, items):
+    """Returns the texts that the function makes of the items, each on a line."""
+    return "\n".join(map(written, items))
+
+
+def described_commands():
+    """The commands with what they do, and `help`."""
+    return [*COMMANDS.items(), ("help", HELP)]
 
 
 ZSH_VALUES = {
-    "": "",
-    "Kek": ":KEK file:_files",
-    "File": ":{} file:_files",
-    "Iv": ":16 hex digits: ",
+    None: "",
+    "KEK file": ":KEK file:_files",
+    "file": ":{} file:_files",
+    "initial value": ":16 hex digits: ",
 }
 
 
@@ -229,19 +136,27 @@ def zsh_case(command):
     return " \\\n".join(lines(variables, first, "        ")) + " ;;"
 
 
+def zsh_described(command):
+    name, about = command
+    return f"        '{name}:{about}'"
+
+
+def zsh_common(option):
+    short, name, about = option
+    return f"'(- *)'{{-{short},--{name}}}'[{about}]'"
+
+
+def zsh_local(option):
+    return f"    local -a {zsh_variable(option)}=({zsh_spec(option)})"
+
+
 def zsh():
-    commands = [*COMMANDS.items(), ("help", HELP)]
-    described = "\n".join(f"        '{name}:{about}'" for name, about in commands)
-    common = " ".join(
-        f"'(- *)'{{-{short},--{name}}}'[{about}]'" for short, name, about in COMMON
-    )
-    specs = "\n".join(
-        f"    local -a {zsh_variable(option)}=({zsh_spec(option)})"
-        for option in ARGUMENTS
-    )
-    cases = "\n".join(map(zsh_case, COMMANDS))
     return filled(
-        "_keywrap.in", described=described, common=common, specs=specs, cases=cases
+        "_keywrap.in",
+        described=joined_lines(zsh_described, described_commands()),
+        common=" ".join(map(zsh_common, COMMON)),
+        specs=joined_lines(zsh_local, ARGUMENTS),
+        cases=joined_lines(zsh_case, COMMANDS),
     )
 
 
@@ -253,30 +168,32 @@ def fish_entry(option):
     words = f"-l {option.name}"
     if option.short:
         words = f"-s {option.short} {words}"
-    if option.value in IS_FILE:
+    if option.is_file:
         words += " -rF"
     elif option.value:
         words += " -x"
     return f"complete -c keywrap -n '{condition}' {words} \\\n    -d '{option.about}'"
 
 
+def fish_described(command):
+    name, about = command
+    condition = "__fish_use_subcommand"
+    return f"complete -c keywrap -n {condition} -a {name} \\\n    -d '{about}'"
+
+
+def fish_common(option):
+    short, name, about = option
+    words = f"-s {short} -l {name} -d '{about}'"
+    return f"complete -c keywrap {words} -n 'not __keywrap_is help'"
+
+
 def fish():
-    commands = [*COMMANDS.items(), ("help", HELP)]
-    described = "\n".join(
-        f"complete -c keywrap -n __fish_use_subcommand -a {name} \\\n    -d '{about}'"
-        for name, about in commands
-    )
-    common = "\n".join(
-        f"complete -c keywrap -s {short} -l {name} -d '{about}' -n 'not __keywrap_is help'"
-        for short, name, about in COMMON
-    )
-    entries = "\n".join(map(fish_entry, OPTIONS))
     return filled(
         "keywrap.fish.in",
-        common=common,
-        described=described,
+        common=joined_lines(fish_common, COMMON),
+        described=joined_lines(fish_described, described_commands()),
         commands=" ".join(NAMES),
-        entries=entries,
+        entries=joined_lines(fish_entry, OPTIONS),
     )
 
 

@@ -1,13 +1,19 @@
-"""The synopsis of the manual page, in mdoc, from the tables of commands and options in crates/keywrap_args."""
+"""The synopsis of the manual page, in mdoc, from the table that `keywrap options` prints."""
 
-from completions import ARGUMENTS, COMMANDS, of
+from options import ARGUMENTS, COMMANDS, of
 
-VALUES = {"": "", "Kek": " Ar file", "File": " Ar file", "Iv": " Ar hex"}
+VALUES = {
+    None: "",
+    "KEK file": " Ar file",
+    "file": " Ar file",
+    "initial value": " Ar hex",
+}
 
 
 def groups(options, joined):
     """The options in groups, so that no two of different groups are joined, in the order of the table."""
-    left, found = list(options), []
+    left = list(options)
+    found = []
     while left:
         group = [left.pop(0)]
         for option in group:
@@ -48,12 +54,14 @@ def command_lines(command):
     """The KEKs, the other options with those of files last, and the argument without a name."""
     yield f".Nm\n.Cm {command}"
     for option in of(command):
-        if option.value == "Kek":
+        if option.value == "KEK file":
             yield f".{one_option(option, [])}"
-    others = [option for option in of(command) if option.value not in ("Kek", "Key")]
+    others = [
+        option for option in of(command) if option.value not in ("KEK file", "key")
+    ]
     needing = [option for option in others if option.needs]
     found = groups([option for option in others if not option.needs], excludes)
-    found.sort(key=lambda group: group[0].value == "File")
+    found.sort(key=lambda group: group[0].value == "file")
     for group in found:
         yield f".Op {written(group, needing)}"
     for option in of(command):

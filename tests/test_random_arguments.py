@@ -10,6 +10,7 @@ import random
 import re
 import shutil
 import stat
+from typing import NamedTuple, Optional
 
 import pytest
 
@@ -20,15 +21,26 @@ COUNT, SEED = (
     int(word) for word in os.environ.get("KEYWRAP_RANDOM", "1000 3394").split()
 )
 PARTS = 10
-# The words by kind.
-WORDS = {
-    kind: [
-        unescaped(word.replace("''", ""))
-        for line, in table("random_arguments", kind)
-        for word in line.split()
-    ]
-    for kind in "commands options names values garbage inputs outputs flags".split()
-}
+
+
+def words_of(kind):
+    """The words of this kind in random_arguments.txt."""
+    lines = [line for line, in table("random_arguments", kind)]
+    words = " ".join(lines).split()
+    return [unescaped(word.replace("''", "")) for word in words]
+
+
+KINDS = (
+    "commands",
+    "options",
+    "names",
+    "values",
+    "garbage",
+    "inputs",
+    "outputs",
+    "flags",
+)
+WORDS = {kind: words_of(kind) for kind in KINDS}
 WORDS["values"] += [zeros(4096), zeros(4097), zeros(32769)]
 WORDS["garbage"] += [zeros(3000)]
 # The lines of a refusal, for each status.
@@ -50,62 +62,65 @@ class Lines(random.Random):
         return self.choice(WORDS[kind])
 
     def word(self):
-        return self.one(
-            self.choices(
-                "commands options names values garbage".split(), [2, 3, 2, 2, 1]
-            )[0]
-        )
+        kinds = "commands", "options", "names", "values", "garbage"
+        (kind,) = self.choices(kinds, [2, 3, 2, 2, 1])
+        return self.one(kind)
 
     def likely(self):
         """A command with files and flags that it may accept."""
         job = self.choice(["wrap", "unwrap", "rewrap", "check", "drill", "vectors"])
         if job in ("drill", "vectors"):
-            return [
-                job,
-                *self.choices(
-                    ["--padded", "--unwrap", self.one("values")], k=self.randrange(3)
-                ),
-            ]
+            arguments = ["--padded", "--unwrap", self.one("values")]
+            return [job, *self.choices(arguments, k=self.randrange(3))]
         words = [job, "--kek", self.choice(["kek16.hex", self.one("names")])]
-        words += ["--new-kek", self.choice(["kek32.hex", self.one("names")])] * (
-            job == "rewrap"
-        )
-        words += self.choice([[], ["-i", self.one("inputs")]]) + self.choice(
-            [[], ["-o", self.one("outputs")]]
-        )
-        return words + self.sample(WORDS["flags"], self.choice([0, 0, 1, 2, 3]))
+        new_kek = self.choice(["kek32.hex", self.one("names")])
+        if job == "rewrap":
+            words += ["--new-kek", new_kek]
+        words += self.choice([[], ["-i", self.one("inputs")]])
+        words += self.choice([[], ["-o", self.one("outputs")]])
+        words += self.sample(WORDS["flags"], self.choice([0, 0, 1, 2, 3]))
+        return words
 
     def line(self):
         """Any words, a command that is right, or one that may be, with one word left out or changed; and the input."""
-        kind, given = self.randrange(16), self.one("inputs")
+        kind = self.randrange(16)
+        given = self.one("inputs")
         if kind < 4:
-            return [self.word() for _ in range(self.randrange(8))], given
+            words = [self.word() for _ in range(self.randrange(8))]
+            return words, given
         if kind < 7:
-            command, output = self.choice(INTO_FILES), self.one("outputs")
-            return [
-                word.replace("to/file", output) for word in command.args
-            ], command.stdin or given
-        words, at = self.likely(), self.randrange(8)
-        words[at : at + 1] = self.choice([[], [self.word()], words[at : at + 1]])
+            command = self.choice(INTO_FILES)
+            output = self.one("outputs")
+            words = [word.replace("to/file", output) for word in command.args]
+            return words, command.stdin or given
+        words = self.likely()
+        at = self.randrange(8)
+        left_out = []
+        changed = [self.word()]
+        kept = words[at : at + 1]
+        words[at : at + 1] = self.choice([left_out, changed, kept])
         return words, given
+
+
+FILES_HERE = {
+    **FILES,
+    "wrapped20.hex": WRAPPED20.encode(),
+    "long": bytes(MAX_FILE + 1),
+    "most": bytes(MAX_FILE),
+    "largest.hex": zeros(1048576).encode(),
+    "blank": b" \t\r\n",
+    "mark": b"\xef\xbb\xbf00",
+    "name\udcff": KEK16.encode(),
+    "file": b"old\n",
+    "new.part0": b"part\n",
+}
 
 
 def make_files():
     """Makes the directory `here`, in which the command lines run."""
     shutil.rmtree("here", ignore_errors=True)
     os.makedirs("here/directory")
-    for name, content in {
-        **FILES,
-        "wrapped20.hex": WRAPPED20.encode(),
-        "long": bytes(MAX_FILE + 1),
-        "most": bytes(MAX_FILE),
-        "largest.hex": zeros(1048576).encode(),
-        "blank": b" \t\r\n",
-        "mark": b"\xef\xbb\xbf00",
-        "name\udcff": KEK16.encode(),
-        "file": b"old\n",
-        "new.part0": b"part\n",
-    }.items():
+    for name, content in FILES_HERE.items():
         pathlib.Path("here", name).write_bytes(content)
     os.symlink("kek16.hex", "here/link")
     os.symlink("loop", "here/loop")
@@ -113,17 +128,25 @@ def make_files():
     os.chmod("here/file", 0o640)
 
 
+class FileState(NamedTuple):
+    """The parts of a file that a run may not change. Only a regular file has a size and a time."""
+
+    mode: int
+    inode: int
+    size: Optional[int]
+    time: Optional[int]
+
+
+def state_of(path):
+    now = path.lstat()
+    if stat.S_ISREG(now.st_mode):
+        return FileState(now.st_mode, now.st_ino, now.st_size, now.st_mtime_ns)
+    return FileState(now.st_mode, now.st_ino, None, None)
+
+
 def state():
-    """The mode and inode number of each file; for regular files also size and time."""
-    found = {path: path.lstat() for path in pathlib.Path("here").rglob("*")}
-    return {
-        path: (
-            now.st_mode,
-            now.st_ino,
-            stat.S_ISREG(now.st_mode) and (now.st_size, now.st_mtime_ns),
-        )
-        for path, now in found.items()
-    }
+    """The state of each file by its path."""
+    return {path: state_of(path) for path in pathlib.Path("here").rglob("*")}
 
 
 def answer_of(words, ended, before, after):
@@ -132,43 +155,45 @@ def answer_of(words, ended, before, after):
     changed = [path for path in after if after[path] != before.get(path)]
     if not changed:
         return ended.stdout
-    assert len(changed) == 1 and ended.stdout == b""
-    assert (
-        ended.status == 0
-        or (ended.status == 5 and words[0] == "check")
-        or "--keep-going" in words
-    )
-    is_private = changed[0] not in before or words[0] == "unwrap"
-    mode = 0o600 if is_private else stat.S_IMODE(before[changed[0]][0])
-    assert oct(after[changed[0]][0]) == oct(stat.S_IFREG | mode)
-    return changed[0].read_bytes()
+    (answer,) = changed
+    assert ended.stdout == b""
+    is_check_of_none = ended.status == 5 and words[0] == "check"
+    assert ended.status == 0 or is_check_of_none or "--keep-going" in words
+
+    mode = 0o600
+    if answer in before and words[0] != "unwrap":
+        mode = stat.S_IMODE(before[answer].mode)
+    assert oct(after[answer].mode) == oct(stat.S_IFREG | mode)
+    return answer.read_bytes()
+
+
+def is_refusal_of_arguments(words, error):
+    """Whether this is what a run with status 2 writes on standard error."""
+    if words in ([], ["--"]):
+        return error.startswith("Wraps and unwraps keys ")
+    if error.startswith("error: "):
+        return True
+    return re.fullmatch("keywrap: --(new-)?iv is .*\n", error) is not None
 
 
 def is_right(words, ended, answer):
-    """Returns whether the run wrote what its status allows."""
+    """Whether the run wrote what its status allows."""
     status, stdout, error = ended
     has_more_lines = "--keep-going" in words or "--verbose" in words
     if status == 0:
-        return (
-            answer != b""
-            and (error == "" or "--verbose" in words)
-            and not answer.startswith(b"none")
-        )
+        if error and "--verbose" not in words:
+            return False
+        return answer != b"" and not answer.startswith(b"none")
     if status == 2:
-        usage = error.startswith("error: ") or (
-            words in ([], ["--"]) and error.startswith("Wraps and unwraps keys ")
-        )
-        return stdout == b"" and (
-            usage or re.fullmatch("keywrap: --(new-)?iv is .*\n", error) is not None
-        )
+        return stdout == b"" and is_refusal_of_arguments(words, error)
     if status == 5 and words[0] == "check" and b"none" in answer:
         return error == "" or has_more_lines
     first, *others = error.splitlines()
-    return (
-        re.fullmatch(f"keywrap: ({REFUSALS[status]})", first) is not None
-        and (answer == b"" or "--lines" in words)
-        and (others == [] or has_more_lines)
-    )
+    if others and not has_more_lines:
+        return False
+    if answer and "--lines" not in words:
+        return False
+    return re.fullmatch(f"keywrap: ({REFUSALS[status]})", first) is not None
 
 
 @pytest.mark.parametrize("part", range(PARTS))
@@ -177,16 +202,12 @@ def test_random_command_lines(keywrap, part):
     make_files()
     before = state()
     for _ in range(COUNT // PARTS):
-        words, given = lines.line()
-        ended = keywrap(
-            words, cwd="here", stdin=pathlib.Path("here", given), text=False
-        )
+        words, name = lines.line()
+        given = pathlib.Path("here", name)
+        ended = keywrap(words, cwd="here", stdin=given, text=False)
         after = state()
-        assert is_right(words, ended, answer_of(words, ended, before, after)), (
-            words,
-            given,
-            ended,
-        )
+        answer = answer_of(words, ended, before, after)
+        assert is_right(words, ended, answer), (words, name, ended)
         if after != before:
             make_files()
             before = state()
