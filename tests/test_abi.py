@@ -1,4 +1,4 @@
-"""What earlier versions of the C library declare is in the shared object of today, with the same types and numbers.
+"""The shared object of today has all that earlier versions of the C library declare, with the same types and numbers.
 tests/library/released has the declarations and the map of the last release: a node for each minor version."""
 
 import itertools
@@ -9,7 +9,8 @@ import pytest
 from builds import ROOT, VERSION, run
 from machines import nodes
 
-BEFORE, TODAY = ROOT / "tests/library/released", ROOT / "c/include"
+BEFORE = ROOT / "tests/library/released"
+TODAY = ROOT / "c/include"
 MAP = BEFORE / "keywrap.map"
 CALLS = dict(zip(nodes(MAP), itertools.accumulate(nodes(MAP).values())))
 pytestmark = pytest.mark.needs("cc")
@@ -76,7 +77,8 @@ def test_numbers_and_lengths_stay():
 
 def test_nodes_of_releases_stay():
     """Only the next version may have a new node."""
-    released, today = nodes(MAP), nodes(TODAY / "keywrap.map")
+    released = nodes(MAP)
+    today = nodes(TODAY / "keywrap.map")
     assert released.items() <= today.items()
     next_node = f"KEYWRAP_{VERSION.rpartition('.')[0]}"
     assert today.keys() - released.keys() <= {next_node}
@@ -97,7 +99,7 @@ def test_each_name_is_in_a_node():
 @pytest.mark.needs("abidiff")
 @each_version
 def test_types_stay(calls, tmp_path):
-    """abidiff compares the types of what both headers declare."""
+    """abidiff compares the types of all names that both headers declare."""
     before = stubs(tmp_path / "before", BEFORE / "keywrap.h", calls)
     run("abidiff", before, stubs(tmp_path / "today", TODAY / "keywrap_steps.h", calls))
 

@@ -1,7 +1,7 @@
-"""What depends on secrets in the built C library. Memcheck runs each call with the KEK, the key and the wrapped key
-marked as undefined, and finds branches and addresses that depend on them: only at the decision of an unwrapping, which
-the caller learns (secrets/decision.supp). A second program counts the bytes below the stack pointer that depend on a
-KEK or a key after each call."""
+"""Branches and addresses of the built C library that depend on secrets. Memcheck runs each call with the KEK, the key
+and the wrapped key marked as undefined, and finds branches and addresses that depend on them: only at the decision of
+an unwrapping, which the caller learns (secrets/decision.supp). A second program counts the bytes below the stack
+pointer that depend on a KEK or a key after each call."""
 
 import pathlib
 
@@ -17,7 +17,8 @@ SOURCES = [OWN / "secrets.c", ROOT / "tests/reference/one_table.c"]
 OPTIONS = [*STRICT, "-O1", "-g", f"-I{ROOT}/tests/reference"]
 DECISION = f"--suppressions={OWN}/decision.supp"
 # The longest keys, in bytes.
-LONGEST, LONGEST_UNDER_QEMU = (136, pytest.param(1024, marks=evidence)), 24
+LONGEST = (136, pytest.param(1024, marks=evidence))
+LONGEST_UNDER_QEMU = 24
 
 
 def left_on_the_stack(machine, archive):
@@ -34,20 +35,19 @@ def reports(command, lengths, *options):
     """The reports of memcheck in each call, by the lines of secrets.c. It runs keys of up to this many bytes. No report
     is taken for one of the caller of its function, as some are if memcheck follows a call.
     """
-    said = run(
-        *command,
+    flags = [
         "-q",
         "--vex-guest-chase=no",
         "--error-limit=no",
         "--log-file=valgrind.log",
         *options,
-        "./secrets",
-        lengths,
-    )
-    return [
-        (call, int(words.split()[0]))
-        for call, _, words in (line.partition(": ") for line in said.splitlines())
     ]
+    counted = []
+    for line in run(*command, *flags, "./secrets", lengths).splitlines():
+        call, _, words = line.partition(": ")
+        count = words.split()[0]
+        counted.append((call, int(count)))
+    return counted
 
 
 @pytest.fixture(params=["here", pytest.param("aarch64", marks=evidence)])
@@ -101,9 +101,11 @@ def test_branches_and_addresses(machine, archive, longest):
         ("tables", 10**4, 10**7),
     ):
         counts = [count for call, count in found if call.startswith(begin)]
-        assert counts and all(least <= count <= most for count in counts), found
+        assert counts, found
+        assert all(least <= count <= most for count in counts), found
     # Without the decision, which a rewrap and keywrap_kind make at the same place.
     found = reports(machine.memcheck, longest, DECISION)
     for begin in "unwrap", "rewrap", "kind":
         counts = [count for call, count in found if call.startswith(f"keywrap_{begin}")]
-        assert counts and not any(counts), found
+        assert counts, found
+        assert not any(counts), found

@@ -49,7 +49,7 @@ CALL(wrap_short, keywrap_wrap_padded(kek, kek_len, key, 8, out, 16))
 CALL(wrap_short_in_place, keywrap_wrap_padded_in_place(kek, kek_len, out, 16, 8))
 CALL(self_test, keywrap_self_test())
 
-/* With a text under the old KEK beside it: the steps of the two are made apart. */
+/* With a text under the old KEK in the same call: the steps of the two are made apart. */
 static void rewrap_two(void) {
     static uint8_t two[128];
     memcpy(two, out, text_len);
@@ -125,7 +125,7 @@ static const struct watched {
     {"self_test", self_test, NULL, 0, 1 << DONE},
 };
 
-/* What is secret, of 32 bytes each, and from which seed it is filled. */
+/* The secrets, of 32 bytes each, and the seed that fills them. */
 static const struct secret {
     uint8_t *bytes;
     unsigned seed;
