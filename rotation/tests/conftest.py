@@ -1,6 +1,7 @@
 """Fixtures of the tests of keywrap-rotate."""
 
 import pytest
+from mariadb_server import MariadbServer, mariadb_programs
 from postgresql_server import Server, server_programs
 
 
@@ -14,16 +15,20 @@ def keks(tmp_path, monkeypatch):
     return tmp_path
 
 
-@pytest.fixture(scope="session")
-def started_server():
-    if not server_programs():
-        pytest.skip("no PostgreSQL server (apt-get install postgresql)")
-    pytest.importorskip(
-        "psycopg", reason="no psycopg (apt-get install python3-psycopg)"
-    )
-    server = Server()
+def running(server_class, programs, name, package, module):
+    """A server for the session, which ends with it. Skips without its programs or the Python module for it."""
+    if not programs():
+        pytest.skip(f"no {name} server (apt-get install {package})")
+    reason = f"no {module} (apt-get install python3-{module})"
+    pytest.importorskip(module, reason=reason)
+    server = server_class()
     yield server
     server.end()
+
+
+@pytest.fixture(scope="session")
+def started_server():
+    yield from running(Server, server_programs, "PostgreSQL", "postgresql", "psycopg")
 
 
 @pytest.fixture
@@ -32,6 +37,20 @@ def server(started_server, monkeypatch):
     for name, value in started_server.environment.items():
         monkeypatch.setenv(name, value)
     return started_server
+
+
+@pytest.fixture(scope="session")
+def started_mariadb():
+    yield from running(
+        MariadbServer, mariadb_programs, "MariaDB", "mariadb-server", "pymysql"
+    )
+
+
+@pytest.fixture
+def mariadb(started_mariadb, tmp_path):
+    """A MariaDB server, whose option file is `options` in the directory of the test."""
+    (tmp_path / "options").write_bytes(started_mariadb.options.read_bytes())
+    return started_mariadb
 
 
 @pytest.fixture

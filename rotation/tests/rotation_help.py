@@ -18,7 +18,7 @@ pyca = pytest.importorskip(
 
 KEK = bytes(range(16))
 NEW_KEK = bytes(range(100, 132))
-# What is left to `make evidence`, which sets KEYWRAP_EVIDENCE=1.
+# Runs only by `make evidence`, which sets KEYWRAP_EVIDENCE=1.
 evidence = pytest.mark.skipif(
     os.environ.get("KEYWRAP_EVIDENCE") != "1", reason="left to KEYWRAP_ALL=1"
 )
@@ -80,6 +80,11 @@ def make_keys(count, seed=0):
     return [source.randbytes(32 if number % 3 else 21) for number in range(count)]
 
 
+def rows(kek, keys):
+    """The rows of a table by their numbers: 10, 20 and so on."""
+    return {number * 10: wrapped_under(kek, key) for number, key in enumerate(keys, 1)}
+
+
 def lines_under(kek, keys):
     return b"".join(wrapped_under(kek, key).hex().encode() + b"\n" for key in keys)
 
@@ -88,18 +93,22 @@ def fill(store, keys, kek=KEK):
     """Makes a directory with a file of lines for each of these lists of keys: 0, 1 and so on."""
     shutil.rmtree(store, ignore_errors=True)
     store.mkdir()
-    for number, some in enumerate(keys):
-        (store / str(number)).write_bytes(lines_under(kek, some))
+    for number, keys_of_file in enumerate(keys):
+        (store / str(number)).write_bytes(lines_under(kek, keys_of_file))
 
 
 def state(store, keys):
     """For each of these files: old, new, or neither."""
-    return [
-        {lines_under(KEK, some): "old", lines_under(NEW_KEK, some): "new"}.get(
-            (store / str(number)).read_bytes(), "neither"
-        )
-        for number, some in enumerate(keys)
-    ]
+    states = []
+    for number, keys_of_file in enumerate(keys):
+        content = (store / str(number)).read_bytes()
+        if content == lines_under(KEK, keys_of_file):
+            states.append("old")
+        elif content == lines_under(NEW_KEK, keys_of_file):
+            states.append("new")
+        else:
+            states.append("neither")
+    return states
 
 
 def set_keks(directory, monkeypatch, kek=KEK, new_kek=NEW_KEK):
@@ -113,15 +122,15 @@ def set_keks(directory, monkeypatch, kek=KEK, new_kek=NEW_KEK):
 
 
 class Done:
-    """How a rotation ended: its status, the lines that it said, and the numbers of the last line by their words."""
+    """How a rotation ended: its status, its messages, and the numbers of the last line by their words."""
 
-    def __init__(self, status, said, printed=b""):
-        assert secrets_in(said + printed) == []
+    def __init__(self, status, stderr, printed=b""):
+        assert secrets_in(stderr + printed) == []
         self.status = status
         self.printed = printed.decode()
-        self.said = said.decode("utf-8", "backslashreplace").splitlines()
+        self.messages = stderr.decode("utf-8", "backslashreplace").splitlines()
         last = re.findall(
-            r"(\d+) (pass|keys|new|old|refused|rewrapped)", (self.said or [""])[-1]
+            r"(\d+) (pass|keys|new|old|refused|rewrapped)", (self.messages or [""])[-1]
         )
         self.counts = {word: int(number) for number, word in last}
 
@@ -129,10 +138,10 @@ class Done:
         return self.status == status
 
     def has(self, text):
-        return any(text in line for line in self.said)
+        return any(text in line for line in self.messages)
 
     def __repr__(self):
-        return f"{self.status}: {self.said}"
+        return f"{self.status}: {self.messages}"
 
 
 def start(*words, program=ROTATE, **more):
@@ -148,11 +157,11 @@ def start(*words, program=ROTATE, **more):
 
 def end(running, timeout=200):
     try:
-        printed, said = running.communicate(timeout=timeout)
+        printed, stderr = running.communicate(timeout=timeout)
     except subprocess.TimeoutExpired:
         os.killpg(running.pid, signal.SIGKILL)
         raise
-    return Done(running.returncode, said, printed)
+    return Done(running.returncode, stderr, printed)
 
 
 def rotate(*words, timeout=200, **more):

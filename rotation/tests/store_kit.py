@@ -50,7 +50,9 @@ class Bench:
 
     words = []
     places = 120
-    needs_server = False
+    #: The fixture of its server, and whether several runs may divide it.
+    server = None
+    has_shards = True
     move = keep_history = change_schema = touch = freeze = None
 
     def __init__(self, keys, server):
@@ -253,7 +255,8 @@ class Log(Sqlite):
 
 class Postgresql(Table):
     words = ["--postgresql", "keys"]
-    needs_server = True
+    server = "server"
+    has_shards = False
 
     def __init__(self, keys, server):
         self.server = server
@@ -294,6 +297,48 @@ class Postgresql(Table):
             f"BEFORE UPDATE ON keys FOR EACH ROW WHEN (NEW.id = {place})",
             "RAISE EXCEPTION 'frozen';",
         )
+
+
+class Mariadb(Table):
+    """Its triggers cannot change the table that they are of: none keeps the old row there."""
+
+    words = ["--mariadb", "keys", "--defaults-file", "options"]
+    server = "mariadb"
+    has_shards = False
+
+    def __init__(self, keys, server):
+        self.server = server
+        server.fill(keys)
+        server.sql("ALTER TABLE `keys` ADD COLUMN hits int DEFAULT 0")
+        self.session = server.connect()
+
+    def write(self, place, wrapped):
+        self.server.sql(
+            f"UPDATE `keys` SET `key` = X'{wrapped.hex()}' WHERE id = {place}"
+        )
+
+    def held(self):
+        return self.server.held()
+
+    def sql(self, statement):
+        self.server.sql(statement.replace(" keys", " `keys`"))
+
+    def hot_sql(self, statement):
+        self.session.cursor().execute(statement.replace(" keys", " `keys`"))
+
+    def touch(self, place):
+        self.hot_sql(f"UPDATE keys SET hits = hits + 1 WHERE id = {place}")
+
+    def freeze(self, place):
+        self.sql(
+            f"CREATE TRIGGER frozen BEFORE UPDATE ON keys FOR EACH ROW "
+            f"IF NEW.id = {place} THEN SIGNAL SQLSTATE '45000' SET MESSAGE_TEXT = 'frozen'; END IF"
+        )
+
+
+def server_of(bench, request):
+    """The server of a bench, or `None`."""
+    return None if bench.server is None else request.getfixturevalue(bench.server)
 
 
 def key_and_kek(wrapped):
@@ -337,6 +382,7 @@ KINDS = {
     "SQLite": Sqlite,
     "SQLite with a log": Log,
     "PostgreSQL": Postgresql,
+    "MariaDB": Mariadb,
 }
 
 
@@ -359,7 +405,7 @@ def repeated(act, pause):
 
 
 class StoreTests:
-    """What each store owes. A subclass sets `bench`."""
+    """The tests that each store passes. A subclass sets `bench`."""
 
     bench = Bench
 
@@ -370,8 +416,7 @@ class StoreTests:
 
     @pytest.fixture
     def store(self, request, tmp_path, keys):
-        server = request.getfixturevalue("server") if self.bench.needs_server else None
-        return self.bench(under(KEK, keys), server)
+        return self.bench(under(KEK, keys), server_of(self.bench, request))
 
     def needs(self, name):
         """Skips a test for what a store of this kind cannot have."""

@@ -78,7 +78,7 @@ class TestStatus:
         done = rotate("--jobs", jobs, "--report", "report", *names(store))
         assert done.status == 0
         assert found_in(store) == ALL_NEW
-        assert len(done.said) == 1
+        assert len(done.messages) == 1
         assert done.counts == {
             "pass": 2,
             "keys": 240,
@@ -141,7 +141,7 @@ class TestStatus:
         (store / "5").write_bytes(b"")
         done = rotate("--report", "report", *names(store), str(store / "none"))
         assert done == 5
-        assert sorted(done.said[:-1]) == [
+        assert sorted(done.messages[:-1]) == [
             f"keywrap-rotate: {store}/{what}"
             for what in (
                 "3: line 1: under no KEK of this rotation",
@@ -186,7 +186,7 @@ def test_a_store_that_is_not_there(words):
     for mode in [], ["--verify"], ["--dry-run"]:
         done = rotate(*mode, *words)
         assert done == 5
-        assert len(done.said) >= 1
+        assert len(done.messages) >= 1
 
 
 def test_an_empty_shard(store):
@@ -330,7 +330,7 @@ class TestArguments:
             for words in ([name, "x"], [f"{name}=x"]):
                 done = rotate(*words, store)
                 assert done == 2
-                assert done.said[-1].endswith(f"{name} is gone: {instead}")
+                assert done.messages[-1].endswith(f"{name} is gone: {instead}")
                 assert name not in shown
         assert found_in(store) == ["old"] * FILES
 
@@ -339,14 +339,14 @@ class TestArguments:
         lines = rotate("--help").printed.splitlines()
         assert len(lines) <= 60
         assert max(map(len, lines)) <= 80
-        assert "renamed at the right moment in both last passes" in " ".join(
+        assert "other programs rename during each listing" in " ".join(
             " ".join(lines).split()
         )
         assert rotate("--version").printed == f"keywrap-rotate {keywrap.__version__}\n"
         assert rotate().has("a FILE, or --files-from, is required")
         monkeypatch.delenv("KEYWRAP_NEW_KEK")
-        said = "keywrap-rotate: give --kek and --new-kek, or set KEYWRAP_KEK and KEYWRAP_NEW_KEK"
-        assert rotate("none").said == [said]
+        message = "keywrap-rotate: give --kek and --new-kek, or set KEYWRAP_KEK and KEYWRAP_NEW_KEK"
+        assert rotate("none").messages == [message]
 
 
 class TestOutput:
@@ -372,7 +372,7 @@ class TestOutput:
                 ),
             )
             assert done.status == 4
-            assert done.said[-1] == "keywrap-rotate: the report: File too large"
+            assert done.messages[-1] == "keywrap-rotate: the report: File too large"
             assert left_over(store) == []
             assert rotate(store) == 0
 
@@ -384,7 +384,7 @@ class TestOutput:
         done = rotate("--report", "report", str(store))
         escaped = name.encode("unicode_escape").decode()
         assert done.status == 5
-        assert done.said[0] == f"keywrap-rotate: {store}/{escaped}: no key"
+        assert done.messages[0] == f"keywrap-rotate: {store}/{escaped}: no key"
 
 
 def of_kind(path, kind, kek, keys=KEYS[0], encode=bytes.hex):
@@ -463,7 +463,7 @@ class TestRecord:
             of_kind(path, kind, NEW_KEK, change)
             done = rotate("--verify-record", "record", *words)
             assert done == 5
-            assert done.said[0].startswith(
+            assert done.messages[0].startswith(
                 f"keywrap-rotate: {path}: missing or changed since"
             )
 
@@ -477,7 +477,7 @@ class TestRecord:
         (store / "9").rename(store / "4a")
         done = rotate("--verify", "--verify-record", "record", str(store))
         assert done.status == 5
-        assert sorted(done.said[:-1]) == sorted(
+        assert sorted(done.messages[:-1]) == sorted(
             f"keywrap-rotate: {store}/{what} since the record: 30 keys"
             for what in (
                 "1: missing or changed",
@@ -589,7 +589,7 @@ class TestNames:
         assert {
             f"keywrap-rotate: {store}/{name}: a symbolic link"
             for name in ("link", "directory")
-        } <= {*done.said}
+        } <= {*done.messages}
         assert (other / "keys").read_bytes() == lines_under(KEK, KEYS[0])
         assert found_in(store) == ALL_NEW
 
@@ -733,7 +733,7 @@ pool._serve = lambda *words, real=pool._serve: time.sleep(1) or real(*words)"""
             )  # Apart, so that both arrive. A process with the handler of the parent ends at the second.
         done = ended(running)
         assert done.status == 130
-        assert done.said[-1] == "keywrap-rotate: interrupted: run it again"
+        assert done.messages[-1] == "keywrap-rotate: interrupted: run it again"
         found = found_in(store)
         assert "neither" not in found
         assert "old" in found
@@ -753,7 +753,7 @@ pool._serve = lambda *words, real=pool._serve: time.sleep(1) or real(*words)"""
             time.sleep(0.5)
         done = end(running)
         assert done.status == 130
-        assert done.said == ["keywrap-rotate: interrupted: run it again"]
+        assert done.messages == ["keywrap-rotate: interrupted: run it again"]
         assert found_in(store) == ["old"] * FILES
         assert rotate(store) == 0
         assert left_over(store) == []
@@ -806,9 +806,9 @@ pool._serve = lambda *words, real=pool._serve: time.sleep(1) or real(*words)"""
         write_lines("other", ["77" * 16])
         os.rename("other", "new-kek.hex")
         done = ended(running)
-        said = "keywrap-rotate: the KEKs of this machine are not those that the rotation began with"
+        message = "keywrap-rotate: the KEKs of this machine are not those that the rotation began with"
         assert done.status == 3
-        assert done.said == [said]
+        assert done.messages == [message]
         assert "neither" not in found_in(store)
         assert "old" in found_in(store)
 

@@ -45,39 +45,22 @@ class Cluster:
         self.processes = []
         (directory / "slow.py").write_text(SLOW)
         file = directory / "scheduler"
-        self.start(
-            "scheduler",
-            "--host",
-            "tcp://127.0.0.1",
-            "--port",
-            "0",
-            "--scheduler-file",
-            file,
-        )
+        address = ["--host", "tcp://127.0.0.1", "--port", "0"]
+        self.start("scheduler", *address, "--scheduler-file", file)
         wait_for(lambda: file.exists() and file.read_text().endswith("}"))
         self.address = json.loads(file.read_text())["address"]
 
     def start(self, what, *words, wrapper=()):
         module = f"distributed.cli.dask_{what}"
-        command = [
-            sys.executable,
-            "-B",
-            "-m",
-            *wrapper,
-            module,
-            "--no-dashboard",
-            *map(str, words),
-        ]
-        with open(self.directory / f"log.{len(self.processes)}", "wb") as log:
-            self.processes.append(
-                subprocess.Popen(
-                    command,
-                    stdout=log,
-                    stderr=log,
-                    cwd=self.directory,
-                    env={**os.environ, "DASK_DISTRIBUTED__SCHEDULER__WORKER_TTL": "4s"},
-                )
+        python = [sys.executable, "-B", "-m", *wrapper]
+        command = [*python, module, "--no-dashboard", *map(str, words)]
+        number = len(self.processes)
+        env = {**os.environ, "DASK_DISTRIBUTED__SCHEDULER__WORKER_TTL": "4s"}
+        with open(self.directory / f"log.{number}", "wb") as log:
+            process = subprocess.Popen(
+                command, stdout=log, stderr=log, cwd=self.directory, env=env
             )
+        self.processes.append(process)
 
     def add_worker(self, *wrapper):
         """Starts a worker without a nanny, and waits until the scheduler knows it."""

@@ -236,7 +236,7 @@ while True:
 )
 @pytest.mark.parametrize("runs", [3, pytest.param(24, marks=evidence)])
 def test_beside_programs_that_rename(store, how, rate, runs):
-    """Status 0 is never wrong, and it comes beside fifty renames a second, on a quiet machine within ten seconds."""
+    """Status 0 is never wrong. A run reaches it during fifty renames a second, on a quiet machine in ten seconds."""
     keys = make_keys(1200)
     expected = {lines_under(NEW_KEK, [key]) for key in keys}
     for _ in range(runs):

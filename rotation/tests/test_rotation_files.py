@@ -1,4 +1,4 @@
-"""The engine over files of lines, files of one key, CSV and JSON Lines: one unit, undisturbed and beside writers."""
+"""The engine over files of lines, files of one key, CSV and JSON Lines: a unit, undisturbed and while others write."""
 
 import base64
 import functools
@@ -28,7 +28,7 @@ from keywrap import _many, rotate
 from keywrap_rotate import found, keys, replacing
 from keywrap_rotate import fields
 from keywrap_rotate.files import Files, lines, one_key
-from keywrap_rotate.keys import BLANKS, Notation, renewed
+from keywrap_rotate.keys import BLANKS, Notation, rewrapped_texts
 from keywrap_rotate.listing import FileListing, Names, Sightings, Unit
 
 HEX = Notation()
@@ -45,11 +45,11 @@ def OneKey(notation):
 
 
 def Csv(name, notation=HEX):
-    return fields.Csv(name, notation).renewed
+    return fields.Csv(name, notation).rewrapped
 
 
 def Json(name, notation=HEX):
-    return fields.Json([name], notation).renewed
+    return fields.Json([name], notation).rewrapped
 
 
 KEYS = make_keys(12)
@@ -67,7 +67,7 @@ def file(tmp_path):
 
 
 def rotated(path, format=None, may_write=True, verify=False):
-    """What is found in one unit. No temporary file is left."""
+    """Returns the counts of one unit. No temporary file is left."""
     store = Files(format or Lines(HEX), Names([str(path)]))
     rings = rotate.challenges().rings()
     if verify:
@@ -100,7 +100,7 @@ def refused(path, format=None):
 @pytest.mark.parametrize("new", [0, 1, 5, 11])
 @pytest.mark.parametrize("block", [100, 1000, 1 << 18])
 def test_a_restart_finds_the_first_old_key(file, monkeypatch, new, block):
-    """What is new before it is copied in blocks, and never unwrapped under the KEK."""
+    """Lines that are new already are copied in blocks, and never unwrapped under the KEK."""
     monkeypatch.setattr(replacing, "BLOCK", block)
     file.write_bytes(lines_under(NEW_KEK, KEYS[:new]) + lines_under(KEK, KEYS[new:]))
     assert rotated(file).new == new
@@ -213,28 +213,21 @@ class TestLeftOut:
 
 def something_else(source, line, wrap, length):
     """Returns what may be in the place of a line: a key in another form or under another KEK, or no key at all."""
-    new = wrap(NEW_KEK, source.randbytes(length)).hex()
-    new_upper = wrap(NEW_KEK, bytes(length)).hex().upper()
-    foreign = wrap(bytes(16), bytes(length)).hex()
-    at = source.randrange(len(line) - 1)
+    new = wrap(NEW_KEK, source.randbytes(length)).hex().encode()
+    new_upper = wrap(NEW_KEK, bytes(length)).hex().upper().encode()
+    foreign = wrap(bytes(16), bytes(length)).hex().encode()
+    other_keys = [new + b"\n", new_upper + b"\n", foreign, line.upper()]
+    text = line[:-1]
+    other_ends = [text, text + b" \n", text + b"\r\n", b" " + line]
+    other_lengths = [line[1:], line[2:], line + line[:2] + b"\n", b"\n", b" \n"]
+    at = source.randrange(len(text))
+    before = line[:at]
+    after = line[at + 1 :]
     other_digit = b"%x" % (int(line[at : at + 1], 16) ^ 1)
-    choices = [
-        new.encode() + b"\n",
-        new_upper.encode() + b"\n",
-        foreign.encode(),
-        line.upper(),
-        b" " + line,
-        b"\n",
-        b" \n",
-        line[:-1] + b" \n",
-        line[2:],
-        line[1:],
-        line[:-1] + b"\r\n",
-        line + line[:2] + b"\n",
-        line[:-1],
-    ]
+    wrong_digits = []
     for other in b"\n", b" ", b"g", b"\xff", other_digit:
-        choices.append(line[:at] + other + line[at + 1 :])
+        wrong_digits.append(before + other + after)
+    choices = [*other_keys, *other_ends, *other_lengths, *wrong_digits]
     return source.choice(choices)
 
 
@@ -283,11 +276,11 @@ class TestKeys:
         texts = [line.strip(BLANKS) for line in io.BytesIO(content)]
         also = found.Found()
         rings = rotate.challenges().rings()
-        assert renewed(rings, HEX, texts, also, str) == changed
+        assert rewrapped_texts(rings, HEX, texts, also, str) == changed
         assert also.counts() == answer.counts()
         assert len(also.named) == len(refused)
         two_lines = lines_under(KEK, EQUAL[:2]).strip()
-        assert renewed(rings, HEX, [two_lines], also, str) == {}
+        assert rewrapped_texts(rings, HEX, [two_lines], also, str) == {}
 
     @pytest.mark.parametrize(
         "format", [Lines(HEX), OneKey(HEX), OneKey(RAW), Csv("key"), Json("key")]

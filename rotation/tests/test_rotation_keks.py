@@ -1,4 +1,4 @@
-"""KEKs: their files, pipes and challenges, several in one store, by names beside keys, and texts before keys."""
+"""KEKs: their files, pipes and challenges, several in one store, by their names, and texts before keys."""
 
 import base64
 import csv
@@ -69,13 +69,17 @@ class TestKeks:
         write_lines("store", hexes(KEK))
         done = rotated("--kek", "kek", "store")
         assert done.status == 3
-        assert done.said[0].startswith(f"keywrap-rotate: the KEK: {keks}/kek: {why}")
-        assert not content or content.decode("latin1") not in done.said[0]
+        assert done.messages[0].startswith(
+            f"keywrap-rotate: the KEK: {keks}/kek: {why}"
+        )
+        assert not content or content.decode("latin1") not in done.messages[0]
 
     def test_a_kek_in_the_place_of_its_file_is_not_shown(self):
         done = rotated("--kek", KEK.hex(), "store")
         assert done.status == 3
-        assert done.said == ["keywrap-rotate: the KEK: it: No such file or directory"]
+        assert done.messages == [
+            "keywrap-rotate: the KEK: it: No such file or directory"
+        ]
 
     def test_raw_keks(self, keks):
         """And a KEK of digits may have blanks and line ends."""
@@ -188,14 +192,14 @@ def test_a_key_under_any_of_several_keks(keks):
     write_lines("store", [*mixed, foreign])
     dry = rotated("--dry-run", *SEVERAL, "store")
     labels = sorted(f"{keks}/{name}.hex" for name in ("0", "1", "kek"))
-    assert [line for line in dry.said if "keys are under" in line] == [
+    assert [line for line in dry.messages if "keys are under" in line] == [
         f"keywrap-rotate: 3 keys are under {label}" for label in labels
     ]
     done = rotated(*SEVERAL, "store")
     assert read("store") == [*hexes(NEW_KEK), foreign]
     assert done.status == 5
-    assert done.said[0].endswith("store: line 13: under no KEK of this rotation")
-    assert done.said[1:4] == [
+    assert done.messages[0].endswith("store: line 13: under no KEK of this rotation")
+    assert done.messages[1:4] == [
         f"keywrap-rotate: 3 keys were under {label}" for label in labels
     ]
     assert done.counts["keys"] == 13
@@ -212,7 +216,7 @@ def test_lines_of_one_length_under_one_of_several_keks(keks, kek):
     assert done.status == 0
     assert read("store") == hexes(NEW_KEK, plain)
     name = ("kek", "0", "1")[kek]
-    assert done.said[0] == f"keywrap-rotate: 50 keys were under {keks}/{name}.hex"
+    assert done.messages[0] == f"keywrap-rotate: 50 keys were under {keks}/{name}.hex"
 
 
 def tables():
@@ -274,7 +278,7 @@ class TestNames:
             assert done.status == 0
             assert read("store") == content(new)
             assert done.counts["rewrapped"] == (0 if again else 12)
-            assert again or done.said[:3] == [
+            assert again or done.messages[:3] == [
                 f"keywrap-rotate: 4 keys were under {name}" for name in OF_TABLE
             ]
             assert (
@@ -316,7 +320,7 @@ class TestNames:
         connection.close()
         done = rotated(*words, "keys.db")
         assert done.status == 5
-        assert [line.split("keys.db: ")[1] for line in done.said[:2]] == [
+        assert [line.split("keys.db: ")[1] for line in done.messages[:2]] == [
             "row 2: no KEK for the name 'stranger'",
             "row 3: it has no name of a KEK",
         ]
@@ -331,7 +335,7 @@ class TestNames:
         write_lines("store", [lines[0], lines[1], moved, *lines[3:]])
         done = rotated(*NAMED["csv"][0], *tables(), "store")
         assert done.status == 5
-        assert done.said[0].endswith("line 3: under no KEK of this rotation")
+        assert done.messages[0].endswith("line 3: under no KEK of this rotation")
         assert read("store") == [
             *in_csv(NEW_OF_TABLE)[:2],
             moved,
@@ -375,7 +379,7 @@ class TestNames:
         write_lines(f"keks/{table}", lines)
         done = rotated(*NAMED["csv"][0], *words, "store")
         assert done.status in (2, 3), done
-        assert why.format(keks) in done.said[0], done
+        assert why.format(keks) in done.messages[0], done
         assert read("store") == in_csv(OF_TABLE)
 
     def test_a_table_that_changes_meanwhile(self):

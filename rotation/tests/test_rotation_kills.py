@@ -13,7 +13,7 @@ import signal
 import time
 
 import pytest
-from store_kit import KINDS, OTHER_KEK, Writer, key_and_kek
+from store_kit import KINDS, OTHER_KEK, Writer, key_and_kek, server_of
 from rotation_help import (
     KEK,
     NEW_KEK,
@@ -80,7 +80,7 @@ def disturb(source, running):
 @pytest.fixture
 def filled(request, kind):
     """filled(seed): a store of random keys under the KEK, the keys by their places, and a source of numbers."""
-    server = request.getfixturevalue("server") if kind == "PostgreSQL" else None
+    server = server_of(KINDS[kind], request)
 
     def fill(seed):
         source = random.Random(f"{kind} {seed}")
@@ -121,11 +121,7 @@ def test_random_kills(filled, tmp_path, number, count):
     kills = 0
     with Writer(store, source) as acknowledged:
         while kills < 4:
-            halves = (
-                count == 2
-                and not isinstance(store, KINDS["PostgreSQL"])
-                and source.randrange(2) == 0
-            )
+            halves = count == 2 and store.has_shards and source.randrange(2) == 0
             runs = dict(
                 begun(store, source, *(["--shard", f"{at}/2"] if halves else []))
                 for at in range(1, count + 1)

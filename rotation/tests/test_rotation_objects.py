@@ -115,7 +115,8 @@ class TestObjects:
         done = rotated()
         assert done.status == 5
         assert (
-            done.said[0] == "keywrap-rotate: a: its key: under no KEK of this rotation"
+            done.messages[0]
+            == "keywrap-rotate: a: its key: under no KEK of this rotation"
         )
         assert held() == {**under(NEW_KEK), "a": "00" * 40}
 
@@ -124,19 +125,19 @@ class TestObjects:
             meanwhile='call == "get" and name == "a" and (shutil.copy(path, file), sys.exit())'
         )
         assert done.status == 5
-        assert done.said[0] == "keywrap-rotate: a: get printed no version"
+        assert done.messages[0] == "keywrap-rotate: a: get printed no version"
         assert held() == {**under(NEW_KEK), "a": under(KEK)["a"]}
 
     @pytest.mark.parametrize("call", ["get", "put"])
     @pytest.mark.parametrize(
-        "how, said",
+        "how, message",
         [
             ("sys.exit(255)", "status 255"),
             ("os.kill(os.getpid(), 9)", "status -9"),
             ("time.sleep(100)", "did not end in 6 seconds"),
         ],
     )
-    def test_a_failed_call_leaves_its_object(self, call, how, said):
+    def test_a_failed_call_leaves_its_object(self, call, how, message):
         """And all others are rotated."""
         done = rotated(
             "--timeout",
@@ -145,13 +146,24 @@ class TestObjects:
             "8",
             meanwhile=f'if (call, name) == ("{call}", "b b"): {how}',
         )
-        is_lost = call == "put" or "did not" in said
+        is_lost = call == "put" or "did not" in message
         assert done.status == (6 if is_lost else 5), done
         assert done.has(f"b b: {call} "), done
-        assert done.has(said), done
+        assert done.has(message), done
         assert held() == {**under(NEW_KEK), "b b": under(KEK)["b b"]}
         assert rotated() == 0
         assert held() == under(NEW_KEK)
+
+    @pytest.mark.parametrize("how", ["time.sleep(100)", "sys.exit(1)"])
+    def test_a_put_that_happens_and_fails_is_counted(self, how):
+        """Its key is not one that was new before: this run wrote it. Each of these objects is put once."""
+        act = f"""if call == "put" and name in ("a", "b b"):
+    shutil.copy(file, path)
+    {how}"""
+        done = rotated("--timeout", "4", meanwhile=act)
+        assert done.status == 0, done
+        assert held() == under(NEW_KEK)
+        assert done.counts["rewrapped"] == len(NAMES), done
 
 
 ADDED, NEW_ADDED = (hexes(kek, bytes(32))[0] for kek in (KEK, NEW_KEK))
@@ -179,7 +191,7 @@ class TestChanges:
         assert held() == {**under(NEW_KEK), "a": NEW_ADDED}
 
     @pytest.mark.parametrize(
-        "words, status, said",
+        "words, status, message",
         [
             (
                 ["--files-from", "none", *COMMANDS],
@@ -218,10 +230,10 @@ class TestChanges:
             ),
         ],
     )
-    def test_refuses_arguments(self, words, status, said):
+    def test_refuses_arguments(self, words, status, message):
         done = rotated(commands=words)
         assert done.status == status, done
-        assert done.has(said), done
+        assert done.has(message), done
         assert held() == under(KEK)
 
 

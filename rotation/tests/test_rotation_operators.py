@@ -1,4 +1,4 @@
-"""What operators see of a rotation and its report: progress, the summary, what is refused; and what they may set."""
+"""A rotation for its operators: progress, the summary, refusals, the report, and the options that they may set."""
 
 import contextlib
 import hashlib
@@ -77,10 +77,10 @@ class TestProgress:
         slow = lines + SLOWLY[-1].split("from keywrap_rotate import main")[0]
         done = rotate("--jobs", "1", store, program=patched(slow))
         assert done == 0
-        assert len([line for line in done.said if " % read" in line]) >= 1
+        assert len([line for line in done.messages if " % read" in line]) >= 1
 
     def test_no_line_in_a_short_run(self, store):
-        assert len(rotate(store).said) == 1
+        assert len(rotate(store).messages) == 1
 
 
 class TestSummary:
@@ -146,7 +146,7 @@ class TestRefused:
         done = rotate("--report", "report", store)
         assert done.status == 5
         assert done.counts["refused"] == 2500
-        assert sum("not in the notation" in line for line in done.said) == 20
+        assert sum("not in the notation" in line for line in done.messages) == 20
         assert done.has("more is refused: --report names all of it")
         units = [line for line in report_of("report") if "named" in line]
         places = {place for place, _ in units[-1]["named"]}
@@ -209,7 +209,7 @@ class TestRecordsWithoutAKey:
         for words in [], ["--verify"]:
             done = rotate(*words, "--json-pointer", "/data/key", "keys.json")
             assert done == 0
-            assert done.said[-1].endswith("; 2 records have no key")
+            assert done.messages[-1].endswith("; 2 records have no key")
 
     def test_all_refuses_them(self):
         self.write()
@@ -222,7 +222,7 @@ class TestRecordsWithoutAKey:
         make_table(KEYS[:3], "INSERT INTO keys (key) VALUES (NULL);")
         done = rotate("--table", "keys", "keys.db")
         assert done == 0
-        assert done.said[-1].endswith("; 1 records have no key")
+        assert done.messages[-1].endswith("; 1 records have no key")
         done = rotate("--all", "--table", "keys", "keys.db")
         assert done == 5
         assert done.has("row 4: it has no key")

@@ -175,7 +175,9 @@ OLD = {"a": "old", "b": "old", "c": "old"}
 NEW = dict.fromkeys("abc", "new")
 
 
-class TestMoves:
+class TestPasses:
+    """Passes over a store in memory, which nobody else uses, or in which others move keys between steps."""
+
     @pytest.mark.parametrize(
         "given, may_write, status, numbers",
         [

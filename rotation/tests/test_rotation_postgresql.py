@@ -16,15 +16,12 @@ from rotation_help import (
     end,
     make_keys,
     patched,
+    rows,
     start,
     wait_for,
     wrapped_under,
     write_lines,
 )
-
-
-def rows(kek, keys):
-    return {number * 10: wrapped_under(kek, key) for number, key in enumerate(keys, 1)}
 
 
 KEYS = make_keys(60)
@@ -50,7 +47,7 @@ def rotated(*words, **more):
 
 
 def ends_of(*running):
-    """Runs beside each other may not end with all keys new."""
+    """Runs at the same time may not end with all keys new."""
     ends = list(map(end, running))
     assert all(done.status in (0, 6) for done in ends), ends
 
@@ -155,7 +152,7 @@ class TestTable:
             )
 
     @pytest.mark.parametrize(
-        "table, words, said",
+        "table, words, message",
         [
             ("none", [], '"none" does not exist'),
             ("keys", ["--column", "none"], "column keys.none does not exist"),
@@ -163,12 +160,12 @@ class TestTable:
             ("keys", ["--column", "ctid"], "keys.ctid is neither text nor bytea: tid"),
         ],
     )
-    def test_refuses_names(self, server, table, words, said):
+    def test_refuses_names(self, server, table, words, message):
         for mode in ([], ["--verify"]):
             done = rotated(*mode, *words, table=table)
             assert done.status == 5, done
-            assert said in done.said[0], done
-            assert len(done.said) == 1, done
+            assert message in done.messages[0], done
+            assert len(done.messages) == 1, done
         assert server.held() == OLD
 
     def test_an_unreachable_server(self, server, monkeypatch):
@@ -176,7 +173,7 @@ class TestTable:
         monkeypatch.setenv("PGHOST", "/nonexistent")
         done = rotated()
         assert done.status == 6, done
-        assert "No such file or directory" in done.said[0], done
+        assert "No such file or directory" in done.messages[0], done
 
     def test_dry_run_and_verify(self, server):
         before = server.sql("SELECT ctid, xmin, * FROM keys")
@@ -211,9 +208,11 @@ class TestTable:
         )
         words = ["--kek-name", "who", "--keks", "old", "--new-keks", "new"]
         done = rotated(*words)
-        said = [f"keywrap-rotate: 30 keys were under {name}" for name in ("ada", "bob")]
+        counts = [
+            f"keywrap-rotate: 30 keys were under {name}" for name in ("ada", "bob")
+        ]
         assert done.status == 0
-        assert done.said[:2] == said
+        assert done.messages[:2] == counts
         assert server.held() == {
             number: (NEW if number <= 300 else rows(bytes(32), KEYS))[number]
             for number in NEW
@@ -233,7 +232,7 @@ class TestTable:
             done = rotated()
             assert done == 5
             reasons = {
-                line.rsplit(": ", 1)[1] for line in done.said if ": row (" in line
+                line.rsplit(": ", 1)[1] for line in done.messages if ": row (" in line
             }
             assert reasons == {
                 "bad length",
@@ -255,7 +254,7 @@ class TestTable:
         )
         assert rotated() == 0
 
-    # What hides or changes rows.
+    # Objects that hide or change rows.
     def test_row_level_security_is_an_error(self, server, monkeypatch):
         server.sql(
             """CREATE ROLE app LOGIN; GRANT ALL ON keys TO app; ALTER TABLE keys ENABLE ROW LEVEL SECURITY;
@@ -288,7 +287,9 @@ class TestTable:
         done = rotated("--report", "report")
         assert done.status == 5
         assert done.has("not in the notation of the store")
-        assert "master" not in pathlib.Path("report").read_text() + "".join(done.said)
+        assert "master" not in pathlib.Path("report").read_text() + "".join(
+            done.messages
+        )
 
 
 class TestOthers:
@@ -581,7 +582,7 @@ class TestSessions:
         done = end(running)
         assert done == 0, done
         assert done.counts["pass"] == 2, done
-        assert done.said[:-1] == [
+        assert done.messages[:-1] == [
             "keywrap-rotate: keys: another session waits for its lock: the pass ends"
         ]
 
@@ -589,7 +590,7 @@ class TestSessions:
 # Ranges of one block, each of which takes half a second.
 SLOW_RANGES = """from keywrap_rotate import postgresql
 postgresql.BLOCKS = 1
-def slow(*words, real=postgresql.renewed_rows):
+def slow(*words, real=postgresql.rewrapped_rows):
     time.sleep(0.1)
     return real(*words)
-postgresql.renewed_rows = slow"""
+postgresql.rewrapped_rows = slow"""

@@ -14,6 +14,7 @@ import textwrap
 import types
 
 import pytest
+import softhsm
 from rotation_help import KEK, wrapped_under
 
 ROOT = pathlib.Path(__file__).resolve().parents[2]
@@ -44,6 +45,7 @@ def environment(tmp_path):
 KEKS = """openssl rand -hex 32 > kek.hex; openssl rand -hex 32 > new-kek.hex
 wrapped() { head -c "$1" /dev/urandom | xxd -p -c 32 | keywrap wrap --lines --kek ${2-kek.hex}; }
 """
+TOML = re.search("```toml\n(.*?)```", PAGE, re.S)[1]
 STORE = "mkdir store; for n in 1 2; do wrapped 32000 %s > store/$n.hex; done\n"
 # Commands before a recipe.
 STORES_OF_RECIPES = {
@@ -54,6 +56,11 @@ wrapped 32000 | sed "s/.*/INSERT INTO keys (key) VALUES (x'&');/
     \\$a COMMIT;" | sqlite3 keys.db
 psql -qc 'CREATE TABLE keys (id bigint PRIMARY KEY, key bytea)'
 wrapped 32000 | awk '{ print 1000 + NR "\\t\\\\\\\\x" $0 }' | psql -qc '\\copy keys FROM STDIN'
+""",
+    "Rotate a table of MariaDB or MySQL": """
+cp ../options my.cnf
+{ echo 'CREATE OR REPLACE TABLE `keys` (id int AUTO_INCREMENT PRIMARY KEY, `key` blob);'
+    wrapped 32000 | sed "s/.*/INSERT INTO \\`keys\\` (\\`key\\`) VALUES (X'&');/"; } | mariadb --defaults-file=my.cnf
 """,
     "Rotate objects": 'mkdir bucket; for name in a "c d"; do wrapped 32 > "bucket/$name"; done; ls bucket > manifest\n',
     "Verify before the KEK dies": STORE % "new-kek.hex" + "rm kek.hex\n",
@@ -68,6 +75,24 @@ done
 mv keks/-new keks/new
 { echo tenant,key; wrapped 1920 keks/ada.hex | sed s/^/ada,/; wrapped 1280 keks/bob.hex | sed s/^/bob,/; } > keys.csv
 """,
+    "KEKs in tokens": STORE % ""
+    + r"""
+mkdir tokens
+echo "directories.tokendir = $PWD/tokens" > softhsm2.conf
+export SOFTHSM2_CONF=$PWD/softhsm2.conf
+echo 27182818 > pin
+softhsm2-util --init-token --free --label keks --pin 27182818 --so-pin 27182818 > /dev/null
+python3 -c "$PUT_KEY" /usr/lib/softhsm/libsofthsm2.so keks 27182818 new-kek $(cat new-kek.hex) 01
+""",
+    "Rotate several stores": r"""
+wrapped 32000 | sed "s/.*/INSERT INTO orders (data_key) VALUES (x'&');/
+    1i CREATE TABLE orders (id INTEGER PRIMARY KEY, data_key BLOB); BEGIN;
+    \$a COMMIT;" | sqlite3 app.db
+mkdir exports
+for n in 1 2; do wrapped 3200 | sed '1i key' > exports/$n.csv; done
+echo "no key" > exports/readme.txt
+"""
+    + f"cat > rotate.toml <<'EOF'\n{TOML}EOF\n",
     "Rotate a store of your own": r"""
 wrapped 3200 | while read -r key; do echo $key | xxd -r -p | base64 -w 0; echo; done |
     jq -R . | jq -s 'to_entries | map({key: "k\(.key)", value}) | from_entries | {data: .}' > secret.json
@@ -111,6 +136,11 @@ def test_recipe(request, typed, answer, tmp_path, environment):
             pytest.skip(f"no {tool} (apt-get install openssl xxd sqlite3 jq mawk)")
     if "postgresql" in typed:
         environment.update(request.getfixturevalue("server").environment)
+    if "mariadb" in typed:
+        request.getfixturevalue("mariadb")
+    if "pkcs11:" in typed:
+        softhsm.needs_softhsm()
+        environment["PUT_KEY"] = softhsm.PUT_KEY
     (tmp_path / "bin/aws").write_text(AWS)
     (tmp_path / "bin/aws").chmod(0o755)
     script = tmp_path / "script"
@@ -238,14 +268,14 @@ OURS, OTHER = (
 
 
 @pytest.mark.parametrize(
-    "data, said",
+    "data, message",
     [
         ({"ours": OURS, "other\x1b": OTHER}, "under no KEK of this rotation"),
         ({"ours": OURS, "other\x1b": f"!{OTHER}"}, ""),
         ({}, "it has no data"),
     ],
 )
-def test_a_refused_secret(tmp_path, data, said):
+def test_a_refused_secret(tmp_path, data, message):
     """A wrong key, one with a stray character, and none: the file is as it was. No terminal obeys the name."""
     secret = {"data": data}
     file = tmp_path / "secret.json"
@@ -253,6 +283,6 @@ def test_a_refused_secret(tmp_path, data, said):
     command = [sys.executable, "-m", "keywrap_rotate.kubernetes_secret", file]
     done = subprocess.run(command, capture_output=True, text=True)
     assert done.returncode == 1
-    assert said in done.stderr
+    assert message in done.stderr
     assert json.loads(file.read_text()) == secret
     assert "\x1b" not in done.stderr

@@ -91,7 +91,7 @@ def test_files_that_are_renamed_are_all_rotated(run, rate):
     ids=["files", "directory"],
 )
 def test_no_rename_hides_an_old_key_behind_status_0(run, how, rate):
-    """What a run could not read it names, and the run after the renames ends with 0."""
+    """A run names the files that it could not read, and the run after the renames ends with 0."""
     fill(f"store/{at % 20}/{at}" for at in range(300))
     fill(f"store/a/x/{at}" for at in range(20))
     os.mkdir("store/z")

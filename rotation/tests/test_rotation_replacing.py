@@ -233,7 +233,7 @@ def killed(file, left, current):
 
 
 def later(directory, may_write=True):
-    """What a later run lists and names, and the files that are there afterwards."""
+    """Returns the files that a later run lists and names, and the files that are there afterwards."""
     listing = FileListing(Names([str(directory)]), may_write=may_write)
     names = [os.path.basename(unit.name) for unit in listing.units]
     assert not any(base_of(os.fsencode(name)) for name in names)

@@ -1,4 +1,4 @@
-"""SQLite tables: one unit, undisturbed and beside writers, and whole runs."""
+"""SQLite tables: one unit, undisturbed and while others write, and whole runs."""
 
 import base64
 import contextlib
@@ -38,7 +38,7 @@ def database(tmp_path):
 
 
 def rotated(path, table="keys", column="key", notation="hex", may_write=True):
-    """What is found in one database."""
+    """Returns the counts of one database."""
     store = sqlite.Sqlite(table, column, Notation(notation), Names([str(path)]), None)
     pair = challenges()
     return found.found_by(
@@ -255,7 +255,7 @@ class TestTable:
 
     @pytest.mark.parametrize("moment", ["BEFORE", "AFTER"])
     def test_a_trigger_that_shortens_a_key_destroys_none(self, database, moment):
-        """What was stored is compared before the commit."""
+        """The stored value is compared with the new key before the commit."""
         run_sql(
             database,
             f"CREATE TRIGGER t {moment} UPDATE ON keys WHEN NEW.id = 70 AND length(NEW.key) > 9 BEGIN "
@@ -446,13 +446,13 @@ class TestWriters:
     @pytest.mark.parametrize("mode, seen", [("WAL", (12, 0)), ("DELETE", (11, 1))])
     def test_a_row_that_moves_meanwhile(self, database, monkeypatch, mode, seen):
         """Until it writes, a pass reads a log at one moment. Of a journal it knows that others wrote."""
-        real = sqlite.renewed_rows
+        real = sqlite.rewrapped_rows
         move = "UPDATE keys SET id = 5 WHERE id = 120"
         run_sql(database, f"PRAGMA journal_mode = {mode}")
         monkeypatch.setattr("keywrap_rotate.keys.ROWS", 2)
         monkeypatch.setattr(
             sqlite,
-            "renewed_rows",
+            "rewrapped_rows",
             lambda *words: (run_sql(database, move), real(*words))[1],
         )
         answer = rotated(database, may_write=False)
@@ -466,7 +466,8 @@ class TestWriters:
             database,
             f"CREATE TABLE keys (id INTEGER PRIMARY KEY, key UNIQUE ON CONFLICT {conflict})",
         )
-        old, new = rows_under(KEK)[0][1], rows_under(NEW_KEK)[0][1]
+        old = rows_under(KEK)[0][1]
+        new = rows_under(NEW_KEK)[0][1]
         rows = [(1, old), (2, new)]
         run_many(database, "INSERT INTO keys (id, key) VALUES (?, ?)", rows)
         answer = rotated(database)

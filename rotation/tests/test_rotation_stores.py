@@ -25,3 +25,7 @@ class TestSqliteWithLog(StoreTests):
 
 class TestPostgresql(StoreTests):
     bench = KINDS["PostgreSQL"]
+
+
+class TestMariadb(StoreTests):
+    bench = KINDS["MariaDB"]

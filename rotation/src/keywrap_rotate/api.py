@@ -4,7 +4,7 @@ from typing import Dict, Mapping
 
 from .found import Found, Refused
 from .keks import Keks
-from .keys import Notation, renewed
+from .keys import Notation, rewrapped_texts
 from .options import keks_of, parse
 
 
@@ -21,7 +21,7 @@ def rewrap_all(keys: Mapping[str, bytes], keks: Keks) -> Dict[str, bytes]:
     """
     names = list(keys)
     found = Found()
-    fresh = renewed(
+    fresh = rewrapped_texts(
         keks.rings(),
         Notation("raw"),
         [keys[name] for name in names],

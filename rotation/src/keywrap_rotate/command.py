@@ -7,19 +7,29 @@ import os
 import re
 import signal
 import socket
-from typing import Any, Dict, Iterator, Optional, Sequence
+from typing import Any, Dict, Iterator, Mapping, Optional, Sequence
 
 import keywrap
 
 from . import signs
 from .console import SHOWN, Console, shown
-from .found import ARGUMENTS, DONE, INTERRUPTED, REFUSED, UNFINISHED, Failure
+from .found import (
+    ARGUMENTS,
+    DONE,
+    INTERRUPTED,
+    REFUSED,
+    UNFINISHED,
+    Failure,
+    Refused,
+    Unanswered,
+)
 from .keks import Keks, protect_process
 from .options import keks_of, parse
 from .passes import PASSES, Passes
 from .pool import Pool
-from .report import Record, Report, ReportFailed
-from .stores import kind_of, open_store
+from .replacing import base_of
+from .report import Comparison, Report, ReportFailed
+from .stores import Store, kind_of, open_store
 
 
 def main(words: Optional[Sequence[str]] = None) -> int:
@@ -70,10 +80,12 @@ def _run(options: argparse.Namespace) -> int:
         print(*map(shown, keks.make_challenges()), sep="\n")
         return DONE
     keks = keks.challenged(options.new_challenge)
-    store = open_store(options)
-    record = None
+    stores = [open_store(each) for each in options.stores]
+    if options.config is not None:
+        _look_at(stores, options.stores)
+    comparison = None
     if options.verify_record is not None:
-        record = Record(options.verify_record)
+        comparison = Comparison(options.verify_record)
     report = Report(options.report)
     report.line(**_heading(options, keks))
     if options.rate is not None and options.dask is None:
@@ -81,25 +93,91 @@ def _run(options: argparse.Namespace) -> int:
     tick = report.console.tick
     pool = Pool(options.jobs, options.dask, options.timeout, tick, options.rate)
     _handle_signals(pool, report.console)
-    may_write = not (options.verify or options.dry_run)
-    passes = Passes(store, keks, pool, report, may_write, record)
-    try:
-        passes.run()
-    finally:
-        report.console.end()
-    status = passes.status()
-    for difference in record.differences() if record is not None else ():
-        report.console.say(difference)
-        status = status or REFUSED
-    for line in _last_lines(passes, status, options):
-        report.console.say(line)
-    summary = _summary(passes, status)
+    summaries = []
+    for its_options, store in zip(options.stores, stores):
+        may_write = not (options.verify or options.dry_run)
+        passes = Passes(
+            store, keks, pool, report, may_write, comparison, its_options.name
+        )
+        summaries.append(_run_store(passes, its_options))
+        if pool.stopped:
+            break
+    summary = summaries[0]
+    if options.config is not None:
+        summary = _total(summaries)
+        if len(summaries) < len(stores):
+            # Somebody asked for the end after the last pass of a store.
+            summary["status"] = INTERRUPTED
+        report.console.say(_total_line(summary, len(summaries)))
     report.line(**summary)
     if options.summary_json:
         _print_json(summary)
+    status: int = summary["status"]
     if status == INTERRUPTED:
         raise KeyboardInterrupt
     return status
+
+
+def _look_at(stores: Sequence[Store], options: Sequence[argparse.Namespace]) -> None:
+    """Lists each store once. Raises `Refused` if one is not there: then none was touched."""
+    for store, its_options in zip(stores, options):
+        try:
+            with store.listed(False) as listed:
+                missing = [
+                    f"{path}: {why}"
+                    for path, why in listed.found.named
+                    if base_of(os.path.basename(os.fsencode(path))) is None
+                ]
+        except (Refused, Unanswered) as error:
+            raise Refused(f"{its_options.name}: {error}: nothing was touched") from None
+        if missing:
+            raise Refused(f"{its_options.name}: {missing[0]}: nothing was touched")
+
+
+def _run_store(passes: Passes, options: argparse.Namespace) -> Dict[str, Any]:
+    """Rotates one store, and says what came of it. Returns the summary. Of several stores, one that fails does not stop
+    the others."""
+    console = passes.report.console
+    place = ""
+    if options.name:
+        place = f"{options.name}: "
+    try:
+        passes.run()
+        status = passes.status()
+    except (Refused, Unanswered) as error:
+        if not options.name:
+            raise
+        status = error.status
+        console.say(f"{place}{error}")
+    finally:
+        console.end()
+    comparison = passes.comparison
+    for difference in comparison.differences() if comparison is not None else ():
+        console.say(difference)
+        status = status or REFUSED
+    for line in _last_lines(passes, status, options):
+        console.say(f"{place}{line}")
+    summary = _summary(passes, status)
+    if options.name:
+        summary = {"store": options.name, **summary}
+        passes.report.line(**summary)
+    return summary
+
+
+def _total(summaries: Sequence[Dict[str, Any]]) -> Dict[str, Any]:
+    """Returns the sums over all stores, the worst status, and the summary of each store."""
+    total: Dict[str, Any] = {"status": max(each["status"] for each in summaries)}
+    for name in summaries[0]:
+        if name not in ("status", "store"):
+            total[name] = sum(each[name] for each in summaries)
+    return {**total, "stores": list(summaries)}
+
+
+def _total_line(total: Mapping[str, Any], stores: int) -> str:
+    counts = (
+        "{keys} keys: {new} new, {old} old, {refused} refused; {rewrapped} rewrapped"
+    )
+    return f"stores: {stores}; " + counts.format(**total)
 
 
 def _handle_signals(pool: Pool, console: Console) -> None:
@@ -118,20 +196,29 @@ def _handle_signals(pool: Pool, console: Console) -> None:
 
 def _heading(options: argparse.Namespace, keks: Keks) -> Dict[str, Any]:
     """Returns the first line of a report: where and how the rotation runs, and between which KEKs."""
-    unset: Sequence[Any] = (None, False, [], "")
-    given = {}
-    for name, value in vars(options).items():
-        if value not in unset:
-            given[name] = value
-    if options.files:
-        given["files"] = options.files[:20]
-    return {
+    heading = {
         "version": keywrap.__version__,
         "host": socket.gethostname(),
         "store": kind_of(options).option.lstrip("-") or "lines",
-        "options": json.loads(_without_keks(json.dumps(given))),
+        "options": _given(options),
         "keks": keks.ids(),
     }
+    if options.config is not None:
+        heading["store"] = "several"
+        heading["stores"] = [_given(each) for each in options.stores]
+    return heading
+
+
+def _given(options: argparse.Namespace) -> Any:
+    """Returns the options that were given, as a report has them."""
+    unset: Sequence[Any] = (None, False, [], "")
+    given = {}
+    for name, value in vars(options).items():
+        if value not in unset and name != "stores":
+            given[name] = value
+    if options.files:
+        given["files"] = options.files[:20]
+    return json.loads(_without_keks(json.dumps(given)))
 
 
 def _without_keks(text: str) -> str:

@@ -1,4 +1,4 @@
-"""What a run says on standard error: messages, what is refused, and how far a pass is."""
+"""The lines of a run on standard error: messages, refused keys, and how far a pass is."""
 
 import importlib
 import os

@@ -22,7 +22,7 @@ from typing import (
 from .files import Files
 from .found import Found, Refused
 from .keks import Rings
-from .keys import LONGEST, Notation, Text, renewed, some
+from .keys import LONGEST, Notation, Text, next_batch, rewrapped_texts
 from .listing import Names
 
 #: The way to a field in what a parser returns: the number of a column, or names of members, each in the one before.
@@ -39,7 +39,7 @@ class Record(NamedTuple):
     #: Its key or why it has none, and the name of its KEK.
     text: Text = None
     name: Optional[str] = None
-    #: What its parser returns, and the way to the key in it.
+    #: The content that its parser returns, and the path to the key in it.
     parsed: Any = None
     path: Path = ()
 
@@ -63,7 +63,7 @@ def _bytes(text: str) -> bytes:
 class Fields:
     """A format of files of records."""
 
-    #: What a file without any key is refused with.
+    #: The reason for which a file without any key is refused.
     missing: str
 
     def __init__(self, notation: Notation) -> None:
@@ -77,13 +77,13 @@ class Fields:
         """Parses the content of one record. Raises `ValueError` or `csv.Error`."""
         raise NotImplementedError
 
-    def renewed(
+    def rewrapped(
         self, blocks: Iterable[bytes], rings: Rings, found: Found
     ) -> Iterator[Tuple[bytes, bytes]]:
         """Yields each part of a file, and what it becomes."""
         records = self.records(_lines(blocks))
-        while batch := some(records, lambda record: len(record.content)):
-            texts = renewed(
+        while batch := next_batch(records, lambda record: len(record.content)):
+            texts = rewrapped_texts(
                 rings,
                 self.notation,
                 [record.text for record in batch],
@@ -275,7 +275,7 @@ def open_store(options: argparse.Namespace, notation: Notation, names: Names) ->
     if options.csv is not None:
         delimiter = options.delimiter or ","
         fields = Csv(options.csv, notation, options.kek_name, delimiter)
-        return Files(fields.renewed, names, options.quiesced)
+        return Files(fields.rewrapped, names, options.quiesced)
     path: Path = [options.json]
     if options.json_pointer is not None:
         path = _path_of(options.json_pointer)
@@ -284,4 +284,4 @@ def open_store(options: argparse.Namespace, notation: Notation, names: Names) ->
         is_pointer = options.json is None and options.kek_name.startswith("/")
         kek_path = _path_of(options.kek_name) if is_pointer else [options.kek_name]
     fields = Json(path, notation, kek_path)
-    return Files(fields.renewed, names, options.quiesced)
+    return Files(fields.rewrapped, names, options.quiesced)

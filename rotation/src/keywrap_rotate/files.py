@@ -19,7 +19,7 @@ from typing import (
 from . import signs
 from .found import Changed, Found, Gone, Refused
 from .keks import Rings
-from .keys import BLANKS, LONGEST, Notation, renewed, renewed_lines
+from .keys import BLANKS, LONGEST, Notation, rewrapped_texts, rewrapped_lines
 from .listing import FileListing, Listing, Names, Sightings, Unit
 from .replacing import (
     LONGEST_NAME,
@@ -43,31 +43,34 @@ def lines(
     """One key on each line. Blanks and ends of lines stay."""
     number = 1
     rest = b""
+    # The empty block is the end of the file: all that is left is its last line.
     for block in itertools.chain(blocks, [b""]):
         rest += block
-        end = rest.rfind(b"\n") + 1 if block else len(rest)
+        end = len(rest)
+        if block:
+            end = rest.rfind(b"\n") + 1
         content = rest[:end]
         rest = rest[end:]
         if content:
-            yield content, _renewed_lines(notation, content, rings, found, number)
+            yield content, _rewrapped_lines(notation, content, rings, found, number)
         number += content.count(b"\n")
         if len(rest) > LONGEST:
             raise Refused(f"line {number}: longer than any wrapped key")
 
 
-def _renewed_lines(
+def _rewrapped_lines(
     notation: Notation, content: bytes, rings: Rings, found: Found, first: int
 ) -> bytes:
     def place(at: int) -> str:
         return f"line {first + at}"
 
     if notation == Notation(needs_keys=notation.needs_keys):
-        fresh = renewed_lines(rings[None], content, found, place)
+        fresh = rewrapped_lines(rings[None], content, found, place)
         if fresh is not None:
             return fresh
     each = list(io.BytesIO(content))
     keys = [line.strip(BLANKS) for line in each]
-    texts = renewed(rings, notation, keys, found, place)
+    texts = rewrapped_texts(rings, notation, keys, found, place)
     if not texts:
         return content
     for at, text in texts.items():
@@ -86,7 +89,7 @@ def one_key(
         if len(content) > 2 * LONGEST:
             raise Refused("longer than any wrapped key")
     text = content.translate(None, BLANKS) if end else content
-    texts = renewed(rings, notation, [text], found, lambda at: "its key")
+    texts = rewrapped_texts(rings, notation, [text], found, lambda at: "its key")
     yield content, texts[0] + end if texts else content
 
 

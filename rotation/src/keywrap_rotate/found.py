@@ -1,4 +1,4 @@
-"""What a pass finds in a unit of a store, and why it cannot."""
+"""The results of a unit of a store in a pass: counts, or the reason why there are none."""
 
 import collections
 import time
@@ -78,13 +78,13 @@ class Gone(Exception):
 
 
 class Found:
-    """What was found in a unit. Only the sum over a whole pass decides anything."""
+    """The counts of a unit. Only their sum over a whole pass decides anything."""
 
-    #: Keys; those that were under the new KEK before; refused keys and units; rewrapped keys that were not written.
+    #: Keys; keys that were under the new KEK before; refused keys and units; rewrapped keys that were not written.
     keys = new = refused = unwritten = 0
     #: Rewrapped keys that the store does not take. They are refused, too.
     unwritable = 0
-    #: Units that others moved or wrote; those that are there and that nobody read; rows without a key; other shards'.
+    #: Units that others moved or wrote; units that are there and were not read; rows without a key; others' units.
     moved = lost = nulls = others = 0
     #: The digest of a unit that was read, its identity when it was read, and its identity now.
     digest: Optional[str] = None
@@ -128,7 +128,7 @@ class Found:
         self.old.update(other.old)
 
     def become(self, other: "Found") -> None:
-        """Becomes what was found in a unit that is written as a whole or not at all."""
+        """Takes the counts of a unit that is written as a whole or not at all."""
         self.__dict__.update(other.__dict__)
 
     def counts(self) -> Dict[str, int]:
@@ -155,6 +155,8 @@ def found_by(work: Callable[[Found], None]) -> Found:
             continue
         except Gone:
             found.moved += 1
+        except WrongKeks:
+            raise  # It ends the run.
         except (Refused, OSError) as error:
             why = str(error)
             if isinstance(error, OSError):

@@ -1,28 +1,47 @@
-"""The KEKs of a rotation. Each process reads them from its own machine's files, and compares them by a challenge."""
+"""The KEKs of a rotation. Each process reads them from its own machine's files, or uses the tokens that have them, and
+compares them by a challenge."""
 
 import binascii
 import errno
 import hashlib
-import hmac
 import os
 import re
 import resource
 import select
 import stat
 import time
-from typing import Any, Dict, Iterator, List, Mapping, NamedTuple, Optional, Tuple
+from typing import (
+    Any,
+    Callable,
+    Dict,
+    Iterator,
+    List,
+    Mapping,
+    NamedTuple,
+    Optional,
+    Tuple,
+    TypeVar,
+)
 
 import keywrap
 
-from .found import EqualKeks, WrongKeks
+from . import pkcs11
+from .apart import apart
+from .found import EqualKeks, Unanswered, WrongKeks
+from .kek_calls import Kek, is_under, is_same, wrapped_under
 from .linux import DUMPABLE, set_process
+from .pkcs11_uri import is_uri, parsed
 
 #: The most bytes that a KEK file has.
 _KEK_FILE = 4096
+#: The most bytes that a file with a PIN has.
+_PIN_FILE = 256
 #: The most bytes that a table of KEKs has.
 _TABLE = 1 << 24
 #: How long a KEK that is a pipe may take.
 PIPE_SECONDS = 60.0
+#: How long a token may take to compare its KEKs with others.
+TOKEN_SECONDS = 60.0
 #: The content of KEK files that are pipes: read once, before any process is forked.
 _held: Dict[str, bytes] = {}
 
@@ -33,17 +52,25 @@ def protect_process() -> None:
     set_process(DUMPABLE, 0)
 
 
+Result = TypeVar("Result")
+
+
 class Ring(NamedTuple):
     """The KEKs themselves: those that a key may be under, by their labels, and the new one. Not for a pickle."""
 
-    old: Tuple[Tuple[str, bytes], ...]
-    new: bytes
+    old: Tuple[Tuple[str, Kek], ...]
+    new: Kek
+
+    def has_token(self) -> bool:
+        """Whether one of the KEKs is in a token."""
+        keks = [self.new, *(kek for _, kek in self.old)]
+        return any(isinstance(kek, pkcs11.TokenKek) for kek in keks)
 
     def __reduce__(self) -> Any:
         raise TypeError("KEKs are not sent")
 
 
-#: The rings by the names that a store has beside its keys, or the one for all keys by `None`.
+#: The rings by the names that a store has for its KEKs, or the one for all keys by `None`.
 Rings = Mapping[Optional[str], Ring]
 
 
@@ -95,12 +122,24 @@ def _digits(content: bytes) -> Optional[bytes]:
         return None
 
 
-def _is_under(kek: bytes, challenge: Optional[bytes]) -> bool:
-    return challenge is not None and keywrap.check(kek, challenge) is not None
+def _is_under(kek: Kek, challenge: Optional[bytes]) -> bool:
+    return challenge is not None and is_under(kek, challenge)
 
 
-def _read(path: str, what: str, is_raw: bool) -> bytes:
+def _token_kek(text: str, what: str) -> pkcs11.TokenKek:
+    """Returns the KEK that a PKCS#11 URI names. Its token is not used yet."""
+    uri = parsed(text)
+    pin = None
+    if uri.pin_file is not None:
+        pin = _content(uri.pin_file, f"the PIN of {what}", _PIN_FILE)
+        pin = re.sub(rb"\r?\n\Z", b"", pin)
+    return pkcs11.token_kek(uri, pin)
+
+
+def _read(path: str, what: str, is_raw: bool) -> Kek:
     """Reads a KEK. No error contains its bytes."""
+    if is_uri(path):
+        return _token_kek(path, what)
     content = _content(path, what, _KEK_FILE)
     digits = _digits(content)
     kek = content if is_raw else digits
@@ -116,7 +155,7 @@ def _read(path: str, what: str, is_raw: bool) -> bytes:
 
 
 def table_of(path: str, option: str) -> Dict[str, str]:
-    """Reads lines NAME=FILE. A FILE is beside the table, if it is no absolute path."""
+    """Reads lines NAME=FILE or NAME=URI, of PKCS#11. A relative path begins at the directory of the table."""
     found: Dict[str, str] = {}
     lines = (
         _content(path, option, _TABLE)
@@ -130,21 +169,23 @@ def table_of(path: str, option: str) -> Dict[str, str]:
             raise WrongKeks(
                 f"{option}: {path}: line {number} is not NAME=FILE, or has the name of an earlier line"
             )
-        found[name] = os.path.join(os.path.dirname(path), file)
+        found[name] = file
+        if not is_uri(file):
+            found[name] = os.path.join(os.path.dirname(path), file)
     return found
 
 
 class Keks(NamedTuple):
-    """The files of the KEKs and of the new KEK, by the names that a store has beside its keys, or by `None` for all
-    keys; and once `challenged`, a random key that is wrapped under a digest of all KEKs.
+    """The files, or PKCS#11 URIs, of the KEKs and of the new KEK, by the names that a store has beside its keys, or by
+    `None` for all keys; and once `challenged`, a random key that is wrapped under a digest of all KEKs.
     """
 
     files: Mapping[Optional[str], Tuple[Tuple[str, ...], str]]
     is_raw: bool = False
     challenge: Optional[bytes] = None
 
-    def rings(self) -> Rings:
-        """Reads the KEKs anew. Raises `WrongKeks` unless they are those that the rotation began with."""
+    def _read(self) -> Rings:
+        """Reads the KEKs anew. Tokens are not used yet."""
         rings: Dict[Optional[str], Ring] = {}
         for name, (paths, new) in self.files.items():
             of = "" if name is None else f" of {name!r}"
@@ -153,6 +194,12 @@ class Keks(NamedTuple):
                 for path in paths
             )
             rings[name] = Ring(tuple(old), _read(new, "the new KEK" + of, self.is_raw))
+        return rings
+
+    def rings(self) -> Rings:
+        """Reads the KEKs anew. Raises `WrongKeks` unless they are those that the rotation began with, and `Unanswered`
+        if a token has no answer."""
+        rings = self._read()
         if (
             self.challenge is not None
             and keywrap.check(_digest(rings), self.challenge) is None
@@ -162,10 +209,30 @@ class Keks(NamedTuple):
             )
         return rings
 
+    def _by_tokens(self, work: Callable[[], Result]) -> Result:
+        """Does this work, in a process of its own if it needs a token. So this process can start others: no process
+        may inherit a token's session. It also outlives a token that never answers.
+        """
+        # Here a KEK or a PIN that is a pipe is read, once for all processes.
+        if not any(ring.has_token() for ring in self._read().values()):
+            return work()
+
+        def checked() -> Result:
+            try:
+                return work()
+            except Unanswered as error:
+                raise WrongKeks(str(error)) from None
+
+        return apart(checked, TOKEN_SECONDS)
+
     def challenged(self, new_challenge: Optional[str] = None) -> "Keks":
+        """Compares the KEKs with each other, and with a challenge of the new one."""
+        return self._by_tokens(lambda: self._challenged(new_challenge))
+
+    def _challenged(self, new_challenge: Optional[str]) -> "Keks":
         rings = self.rings()
         for ring in rings.values():
-            if any(hmac.compare_digest(kek, ring.new) for _, kek in ring.old):
+            if any(is_same(kek, ring.new) for _, kek in ring.old):
                 raise EqualKeks("the KEK and the new KEK are the same key")
         if new_challenge is not None:
             one = _digits(_content(new_challenge, "--new-challenge", _TABLE))
@@ -191,16 +258,27 @@ class Keks(NamedTuple):
 
     def ids(self) -> List[Dict[str, Any]]:
         """Returns what names the KEKs in a report: for each name the ids of its old KEKs and of the new one."""
+        return self._by_tokens(self._ids)
+
+    def _ids(self) -> List[Dict[str, Any]]:
         found: List[Dict[str, Any]] = []
         for name, ring in self.rings().items():
             ids = [_id_of(kek) for _, kek in ring.old]
-            found.append({"name": name, "old": ids, "new": _id_of(ring.new)})
+            of_name = {"name": name, "old": ids, "new": _id_of(ring.new)}
+            old, new = self.files[name]
+            uris = [path for path in (*old, new) if is_uri(path)]
+            if uris:
+                of_name["uris"] = uris
+            found.append(of_name)
         return found
 
-    def make_challenges(self) -> Iterator[str]:
-        """Writes a random key, wrapped under each KEK, beside its file, for `keywrap check`. Yields the names. A file
+    def make_challenges(self) -> List[str]:
+        """Writes a random key, wrapped under each KEK, beside its file, for `keywrap check`. Returns the names. A file
         that has one stays, and one of another KEK is refused: after a rotation it would be the old KEK's.
         """
+        return self._by_tokens(lambda: [*self._make_challenges()])
+
+    def _make_challenges(self) -> Iterator[str]:
         rings = self.rings()
         keks = {
             path: kek
@@ -210,14 +288,16 @@ class Keks(NamedTuple):
             )
         }
         for path, kek in keks.items():
-            name = os.path.splitext(path)[0] + ".challenge"
+            name = _challenge_name(path)
+            # A token may fail: then no empty file is left.
+            wrapped = wrapped_under(kek, os.urandom(32)).hex()
             try:
                 with open(
                     os.open(name, os.O_WRONLY | os.O_CREAT | os.O_EXCL, 0o600),
                     "w",
                     encoding="ascii",
                 ) as file:
-                    print(keywrap.wrap(kek, os.urandom(32)).hex(), file=file)
+                    print(wrapped, file=file)
             except FileExistsError:
                 if not _is_under(
                     kek, _digits(_content(name, "--make-challenges", _KEK_FILE))
@@ -230,9 +310,22 @@ class Keks(NamedTuple):
             yield name
 
 
-def _id_of(kek: bytes) -> str:
+def _challenge_name(path: str) -> str:
+    """Returns the name of the challenge: in the directory of the file, or in this one for a key in a token."""
+    if not is_uri(path):
+        return os.path.splitext(path)[0] + ".challenge"
+    uri = parsed(path)
+    label = (uri.label or b"").decode("utf-8", "replace")
+    if re.fullmatch(r"\w[\w.-]{0,99}", label):
+        return f"{label}.challenge"
+    if uri.key_id:
+        return f"{uri.key_id.hex()[:64]}.challenge"
+    raise WrongKeks(f"{path}: its object is no name of a file: give id, too")
+
+
+def _id_of(kek: Kek) -> str:
     """Returns the id of a KEK: 16 hex digits of the SHA-256 digest of 32 zero bytes that are wrapped under it."""
-    return hashlib.sha256(keywrap.wrap(kek, bytes(32))).hexdigest()[:16]
+    return hashlib.sha256(wrapped_under(kek, bytes(32))).hexdigest()[:16]
 
 
 def _digest(rings: Rings) -> bytes:
@@ -240,10 +333,11 @@ def _digest(rings: Rings) -> bytes:
     digest = hashlib.sha256()
     for name, ring in rings.items():
         for kek in (*(kek for _, kek in ring.old), ring.new):
+            secret = kek if isinstance(kek, bytes) else kek.proof()
             digest.update(
-                f"{name!r} {len(ring.old)} {len(kek)} ".encode(
+                f"{name!r} {len(ring.old)} {len(secret)} ".encode(
                     "utf-8", "surrogateescape"
                 )
-                + kek
+                + secret
             )
     return digest.digest()

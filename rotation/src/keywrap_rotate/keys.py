@@ -1,7 +1,8 @@
 """Wrapped keys as stores have them: read, classified by the proved calls, rewrapped, and checked before a write.
 
-There is one way for all of them. The texts of a store are read into batches of keys of one length, which lie behind
-each other in one buffer; the calls for many keys rewrap a batch in its place; and what will be written is read again.
+All stores use the same steps. The texts of a store are read into batches: keys of one length in one buffer, without
+gaps. The calls for many keys rewrap a batch in its place. Each new text is read again before it is written, and checked
+under the new KEK.
 """
 
 import base64
@@ -22,17 +23,15 @@ from typing import (
     Union,
 )
 
-from keywrap import _flags, _many
-
 from . import signs
 from .found import Found, Refused
+from .kek_calls import Kek, check_slots, rewrap_slots
 from .keks import Ring, Rings
 
 BLANKS = b" \t\r\n"
 #: The longest wrapped key in bytes, and as hex with some blanks around it.
 LONGEST_KEY = 1048584
 LONGEST = 2 * LONGEST_KEY + 1024
-_KEEP_FORM = _flags(False, False, True, False)
 #: A key as it is written in a store; why a place has something else; or `None` for a place without a key.
 Text = Union[bytes, str, None]
 Item = TypeVar("Item")
@@ -44,7 +43,7 @@ ROWS = 2000
 BYTES = 1 << 20
 #: A key, how long it is, the name of its KEK, and what identifies its row. An oversized value is not fetched.
 Row = Tuple[Any, ...]
-#: What each database reads of a key, before its row.
+#: The columns of a key that each database reads, before the columns that identify its row.
 KEY = (
     "CASE WHEN {octets}({key}) <= "
     + str(LONGEST)
@@ -53,7 +52,7 @@ KEY = (
 
 
 class Batch(NamedTuple):
-    """Keys of one length, behind each other, and the place of each in its store."""
+    """Keys of one length in one buffer, without gaps, and the place of each in its store."""
 
     places: Sequence[int]
     keys: bytearray
@@ -64,8 +63,8 @@ class Batch(NamedTuple):
     def key(self, slot: int) -> bytearray:
         return self.keys[slot * self.length : (slot + 1) * self.length]
 
-    def those(self, slots: Sequence[int]) -> bytearray:
-        """Returns the keys in these slots, behind each other: the buffer itself if these are all."""
+    def keys_of(self, slots: Sequence[int]) -> bytearray:
+        """Returns the keys in these slots, without gaps: the buffer itself if these are all."""
         if len(slots) == len(self.places):
             return self.keys
         return bytearray().join(map(self.key, slots))
@@ -112,7 +111,7 @@ class Notation(NamedTuple):
     needs_keys: bool = False
 
     def read(self, text: Union[bytes, str]) -> Tuple[bytes, bool]:
-        """Returns the key, and whether its prefix is that of new keys. Raises `Refused`."""
+        """Returns the key, and whether it has the prefix of new keys. Raises `Refused`."""
         if isinstance(text, str):
             raise Refused(text)
         if self.name != "raw":
@@ -182,7 +181,7 @@ class Notation(NamedTuple):
         return [self.new_prefix + _WRITE[self.name](key) for key in each]
 
 
-def renewed(
+def rewrapped_texts(
     rings: Rings,
     notation: Notation,
     texts: Sequence[Text],
@@ -195,6 +194,23 @@ def renewed(
     `place` names a place in a refusal. `names` has the name of each key's KEK, if the store has such names.
     """
 
+    before = sum(found.old.values())
+    try:
+        return _rewrapped_by_kek(rings, notation, texts, found, place, names)
+    except BaseException:
+        # None of them is written.
+        found.unwritten += sum(found.old.values()) - before
+        raise
+
+
+def _rewrapped_by_kek(
+    rings: Rings,
+    notation: Notation,
+    texts: Sequence[Text],
+    found: Found,
+    place: Callable[[int], str],
+    names: Sequence[Any],
+) -> Dict[int, bytes]:
     def refuse(at: int, why: str) -> None:
         found.refuse(place(at), why)
 
@@ -202,11 +218,11 @@ def renewed(
     for name, places in _by_kek(rings, texts, names).items():
         found.keys += len(places)
         if name in rings:
-            some_texts = texts
+            texts_of_kek = texts
             if len(places) < len(texts):
-                some_texts = [texts[at] for at in places]
-            for batch in notation.batches(some_texts, places, refuse):
-                fresh.update(_renewed(rings[name], notation, batch, found, refuse))
+                texts_of_kek = [texts[at] for at in places]
+            for batch in notation.batches(texts_of_kek, places, refuse):
+                fresh.update(_new_texts(rings[name], notation, batch, found, refuse))
             continue
         why = f"no KEK for the name {name!r}"
         if name is None:
@@ -217,7 +233,7 @@ def renewed(
     return fresh
 
 
-def renewed_lines(
+def rewrapped_lines(
     ring: Ring, content: bytes, found: Found, place: Callable[[int], str]
 ) -> Optional[bytes]:
     """Does the same for lines of hex that are all as long as the first one, without a text for each line. Returns what
@@ -234,7 +250,7 @@ def renewed_lines(
     if len(slots) < len(batch.places):
         fresh = _spliced(content, fresh, slots, len(batch.places))
     again = _batch_of_lines(fresh)
-    statuses, _ = _many.check_slots(ring.new, batch.those(slots), batch.length)
+    statuses = check_slots(ring.new, batch.keys_of(slots), batch.length)
     if again is None or again.keys != batch.keys or any(statuses):
         raise Refused("a rewrapped key is not under the new KEK")
     signs.pace(len(slots))
@@ -259,7 +275,7 @@ def _batch_of_lines(content: bytes) -> Optional[Batch]:
 
 
 def _spliced(content: bytes, fresh: bytes, slots: Sequence[int], count: int) -> bytes:
-    """Returns the fresh lines at these places, and at the others those of the content, to the byte."""
+    """Returns the content with the fresh lines at these places. All other bytes stay."""
     size = len(content) // count
     parts = [content[at : at + size] for at in range(0, len(content), size)]
     for slot in slots:
@@ -283,65 +299,109 @@ def _by_kek(
     return {**groups}
 
 
-def _renewed(
+def _new_texts(
     ring: Ring, notation: Notation, batch: Batch, found: Found, refuse: Refuse
 ) -> Iterator[Tuple[int, bytes]]:
     """Rewraps the keys of a batch. Yields the place and the new text of each that is not new."""
     changed = _rewrapped(ring, batch, found, refuse)
     if changed:
-        keys = batch.those(changed)
+        keys = batch.keys_of(changed)
         texts = notation.write(bytes(keys), batch.length)
         _check_new(ring, notation, texts, keys)
         yield from zip((batch.places[slot] for slot in changed), texts)
 
 
 def _rewrapped(ring: Ring, batch: Batch, found: Found, refuse: Refuse) -> Sequence[int]:
-    """Rewraps the keys of a batch in their place, and counts them. Returns the slots that have to be written.
+    """Rewraps the keys of a batch in their place, and counts them. Returns the slots that have to be written."""
+    work = _BatchWork(ring, batch, found, refuse)
+    if ring.has_token():
+        work.try_each_kek()
+    else:
+        work.try_keks_of_first_keys()
+    return work.changed
 
-    The first key that is left decides under which KEK all of them are tried: in most batches all are under one.
-    """
-    why = "under no KEK of this rotation" if ring.old else "not under the new KEK"
-    changed: List[int] = []
-    left: Sequence[int] = range(len(batch.places))
-    while left:
-        kek = _kek_of(ring, batch.key(left[0]), batch.length)
-        if kek is None:
-            refuse(batch.places[left[0]], why)
-            left = left[1:]
-            continue
-        label, old = kek
-        is_new = old is ring.new
-        keys = batch.those(left)
+
+class _BatchWork:
+    """The rewrapping of a batch."""
+
+    def __init__(self, ring: Ring, batch: Batch, found: Found, refuse: Refuse) -> None:
+        self.ring = ring
+        self.batch = batch
+        self.found = found
+        self._refuse = refuse
+        #: The slots that have to be written.
+        self.changed: List[int] = []
+
+    def try_keks_of_first_keys(self) -> None:
+        """The first key that is left decides under which KEK all of them are tried: in most batches all are under
+        one."""
+        left: Sequence[int] = range(len(self.batch.places))
+        while left:
+            kek = _kek_of(self.ring, self.batch.key(left[0]), self.batch.length)
+            if kek is None:
+                self.refuse_foreign(left[0])
+                left = left[1:]
+            else:
+                left = self.try_kek(*kek, left)
+
+    def try_each_kek(self) -> None:
+        """Tries all keys that are left under each KEK. A token that answers late makes a call for one key as slow as
+        one for a whole batch."""
+        left: Sequence[int] = range(len(self.batch.places))
+        for label, kek in (("", self.ring.new), *self.ring.old):
+            if left:
+                left = self.try_kek(label, kek, left)
+        for slot in left:
+            self.refuse_foreign(slot)
+
+    def refuse_foreign(self, slot: int) -> None:
+        why = (
+            "under no KEK of this rotation"
+            if self.ring.old
+            else "not under the new KEK"
+        )
+        self._refuse(self.batch.places[slot], why)
+
+    def try_kek(self, label: str, kek: Kek, left: Sequence[int]) -> Sequence[int]:
+        """Counts the keys in these slots that are under this KEK, and rewraps them if it is an old one. Returns the
+        slots of the others."""
+        new = self.ring.new
+        keys = self.batch.keys_of(left)
+        is_new = kek is new
         if is_new:
-            statuses = _many.check_slots(ring.new, keys, batch.length)[0]
+            statuses = check_slots(new, keys, self.batch.length)
         else:
-            statuses = _many.rewrap_slots(old, ring.new, keys, batch.length, _KEEP_FORM)
+            statuses = rewrap_slots(kek, new, keys, self.batch.length)
         done = left
-        rest = []
+        rest: Sequence[int] = ()
         if any(statuses):
             done = [slot for slot, status in zip(left, statuses) if not status]
             rest = [slot for slot, status in zip(left, statuses) if status]
-        if not is_new:
-            _put_back(batch, left, statuses, keys)
-            found.old[label] += len(done)
-            changed += done
-        elif batch.has_new_prefix:
-            found.new += len(done)
-        elif ring.old:
-            found.old["an old prefix"] += len(done)
-            changed += done
-        else:
-            for slot in done:
-                refuse(batch.places[slot], "it does not have the prefix of new keys")
-        left = rest
-    return changed
+        if is_new:
+            self._take_new(done)
+        elif done:
+            _put_back(self.batch, left, statuses, keys)
+            self.found.old[label] += len(done)
+            self.changed += done
+        return rest
+
+    def _take_new(self, slots: Sequence[int]) -> None:
+        """Counts keys that are under the new KEK. With the prefix of an old one they have to be written."""
+        if self.batch.has_new_prefix:
+            self.found.new += len(slots)
+        elif not self.ring.old:
+            for slot in slots:
+                why = "it does not have the prefix of new keys"
+                self._refuse(self.batch.places[slot], why)
+        elif slots:
+            self.found.old["an old prefix"] += len(slots)
+            self.changed += slots
 
 
-def _kek_of(ring: Ring, key: bytearray, length: int) -> Optional[Tuple[str, bytes]]:
+def _kek_of(ring: Ring, key: bytearray, length: int) -> Optional[Tuple[str, Kek]]:
     """Returns the KEK that a key is under, with its label: the new one, or one of the old ones."""
     for label, kek in (("", ring.new), *ring.old):
-        statuses, _ = _many.check_slots(kek, key, length)
-        if not any(statuses):
+        if not any(check_slots(kek, key, length)):
             return label, kek
     return None
 
@@ -369,13 +429,13 @@ def _check_new(
     ]
     if len(batches) == 1 and not refused:
         (batch,) = batches
-        statuses, _ = _many.check_slots(ring.new, batch.keys, batch.length)
+        statuses = check_slots(ring.new, batch.keys, batch.length)
         if batch.keys == keys and batch.has_new_prefix and not any(statuses):
             return
     raise Refused("a rewrapped key is not under the new KEK")
 
 
-def some(items: Iterator[Item], length: Callable[[Item], int]) -> List[Item]:
+def next_batch(items: Iterator[Item], length: Callable[[Item], int]) -> List[Item]:
     """Takes a batch of at most ROWS rows or records, and about BYTES bytes."""
     taken: List[Item] = []
     size = 0
@@ -407,7 +467,7 @@ def _textual(value: Any) -> Text:
     return None
 
 
-def renewed_rows(
+def rewrapped_rows(
     rings: Rings, notation: Notation, rows: Sequence[Row], found: Found
 ) -> List[Tuple[Any, Row]]:
     """Returns the new value and the row of each key that is not new. Binary values are raw. Adds the digests of the
@@ -424,11 +484,11 @@ def renewed_rows(
         raw: Sequence[Text] = values
         if kinds != {bytes}:
             raw = [_binary(value, size) for value, size in zip(values, sizes)]
-        fresh = renewed(rings, Notation("raw"), raw, found, place, names)
+        fresh = rewrapped_texts(rings, Notation("raw"), raw, found, place, names)
         writes += [(key, rows[at]) for at, key in fresh.items()]
     if str in kinds:
         texts = [_textual(value) for value in values]
-        fresh = renewed(rings, notation, texts, found, place, names)
+        fresh = rewrapped_texts(rings, notation, texts, found, place, names)
         writes += [(text.decode("ascii"), rows[at]) for at, text in fresh.items()]
     if None in sizes:
         for at, size in enumerate(sizes):

@@ -39,7 +39,7 @@ class Unit(NamedTuple):
 
 
 class Names(NamedTuple):
-    """Which files a run means: named ones, all below a directory, those of a list, and a shard of these."""
+    """The files of a run: named ones, all below a directory, all of a list, and a shard of these."""
 
     names: Sequence[str]
     exclude: Sequence[str] = ()
@@ -47,7 +47,7 @@ class Names(NamedTuple):
     shard: Tuple[int, int] = (1, 1)
 
     def has(self, name: bytes, found: Found) -> bool:
-        """Whether the shard has this name, whatever else is in the store. Counts those of other shards."""
+        """Whether the shard has this name, whatever else is in the store. Counts the names of other shards."""
         number, total = self.shard
         is_other = total > 1 and zlib.crc32(name) % total != number - 1
         found.others += is_other
@@ -82,11 +82,11 @@ class Names(NamedTuple):
 
 #: A unit, and the time of its last change, which a rename changes. A directory, and a named file that is not there,
 #: have no size: they are no units.
-Row = Tuple[bytes, Optional[int], Optional[str], int]
+ListedUnit = Tuple[bytes, Optional[int], Optional[str], int]
 
 
 class Sightings:
-    """What a run has listed and read so far: a database in a temporary file, for the process that lists."""
+    """Everything that a run has listed and read so far: a database in a temporary file, for the process that lists."""
 
     def __init__(self) -> None:
         self.database = sqlite3.connect("", isolation_level=None)
@@ -109,7 +109,7 @@ class Sightings:
 
 
 def _file_of(identity: str) -> str:
-    """What a file keeps when somebody writes it: its device and its inode."""
+    """Returns the device and the inode of a file, which stay when somebody writes it."""
     return " ".join(identity.split()[:2])
 
 
@@ -118,7 +118,7 @@ class Listing:
 
     def __init__(
         self,
-        rows: Callable[[Found], Iterator[Row]],
+        rows: Callable[[Found], Iterator[ListedUnit]],
         sightings: Optional[Sightings] = None,
     ) -> None:
         self._rows = rows
@@ -183,12 +183,12 @@ class Listing:
         return []
 
     def warnings(self) -> List[str]:
-        """What may bring an old key back after this pass."""
+        """Returns the reasons why an old key may come back after this pass."""
         return []
 
 
 class FileListing(Listing):
-    """Files, and what killed runs left beside them. A store may skip some, and see others as the same."""
+    """Files, and files that killed runs left in their directories. A store may skip some, and take others for one."""
 
     def __init__(
         self, names: Names, may_write: bool, sightings: Optional[Sightings] = None
@@ -238,7 +238,7 @@ class FileListing(Listing):
     def seen(self, status: os.stat_result) -> Tuple[str, int]:
         return identity(status), status.st_ctime_ns
 
-    def all(self, found: Found) -> Iterator[Row]:
+    def all(self, found: Found) -> Iterator[ListedUnit]:
         self._left_over: Dict[bytes, List[bytes]] = {}
         roots = []
         for name in map(os.fsencode, self.names.names):
@@ -266,7 +266,7 @@ class FileListing(Listing):
                 sync_directory(directory)
         return super().is_quiet(found)
 
-    def _below(self, root: bytes, length: int, found: Found) -> Iterator[Row]:
+    def _below(self, root: bytes, length: int, found: Found) -> Iterator[ListedUnit]:
         directories = [root]
         while directories:
             directory = directories.pop()
@@ -287,14 +287,14 @@ class FileListing(Listing):
                                 status = entry.stat(follow_symlinks=False)
                                 yield entry.path, status.st_size, *self.seen(status)
                             except FileNotFoundError:
-                                found.moved += 1  # The other names of the directory are read all the same.
+                                found.moved += 1  # The other names of the directory are still read.
             except FileNotFoundError:
                 found.moved += 1
             except OSError as error:
                 found.refuse(os.fsdecode(directory), str(error.strerror))
 
-    def _named(self, path: bytes, found: Found) -> Row:
-        """A file that was named has to be there. Killed runs may have left something beside it."""
+    def _named(self, path: bytes, found: Found) -> ListedUnit:
+        """A file that was named has to be there. Killed runs may have left other files in its directory."""
         directory, base = os.path.split(path)
         if directory not in self._left_over:
             self._left_over[directory] = []

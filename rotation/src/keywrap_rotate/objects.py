@@ -18,6 +18,25 @@ from .keys import Notation
 from .listing import Listing, Names, Unit
 
 
+class _ObjectListing(Listing):
+    """The objects of a pass. It notes each put that had no answer: a later pass, in other processes, may find that the
+    put happened all the same."""
+
+    def __init__(self, names: Names, tried: Dict[str, Counter[str]]) -> None:
+        super().__init__(
+            lambda found: ((name, 1, name.hex(), 0) for name in names.listed(found))
+        )
+        self._tried = tried
+
+    def take(self, unit: Unit, found: Found) -> None:
+        super().take(unit, found)
+        if found.unwritten:
+            self._tried[unit.name] = found.old
+        elif not found.lost:
+            # It was read. If the put had happened, its keys are counted now.
+            self._tried.pop(unit.name, None)
+
+
 class Objects:
     """The objects whose names are the lines of a file. `files` rotates their copies."""
 
@@ -26,7 +45,7 @@ class Objects:
     def __init__(self, files: Files, get: str, put: str, timeout: float) -> None:
         self.files = files
         self.timeout = timeout
-        #: What puts without success may have written, by the names of the objects.
+        #: The keys that failed puts may have written all the same, by the names of the objects.
         self._tried: Dict[str, Counter[str]] = {}
         try:
             self.words = {"get": shlex.split(get), "put": shlex.split(put)}
@@ -42,10 +61,7 @@ class Objects:
                 raise Failure(f"--{command}: it needs {', '.join(needed)}")
 
     def listed(self, may_write: bool) -> ContextManager[Listing]:
-        names = self.files.names.listed
-        return contextlib.nullcontext(
-            Listing(lambda found: ((name, 1, name.hex(), 0) for name in names(found)))
-        )
+        return contextlib.nullcontext(_ObjectListing(self.files.names, self._tried))
 
     def do(self, unit: Unit, rings: Rings, may_write: bool, found: Found) -> None:
         own = Found()
@@ -68,7 +84,7 @@ class Objects:
                 self._put(values, own, found)
         before = self._tried.pop(unit.name, None)
         if before and own.new >= sum(before.values()):
-            # This object is new because a put without success happened all the same: this pass wrote it.
+            # This object is new because a put that failed happened all the same: this run wrote it.
             own.new -= sum(before.values())
             own.old.update(before)
         found.become(own)

@@ -4,20 +4,23 @@ import argparse
 import itertools
 import os
 import sys
-from typing import Any, Dict, Optional, Sequence, Tuple
+from typing import Any, Dict, List, NoReturn, Optional, Sequence, Tuple
 
 import keywrap
 
-from .found import WrongKeks
+from .config import OF_STORES, Config, key_of
+from .console import shown
+from .found import Failure, WrongKeks
 from .keks import Keks, table_of
+from .pkcs11_uri import is_uri, parsed
 from .stores import add_options, misfit
 
 DESCRIPTION = """Rewraps the keys of a store from the KEK to the new KEK. By default a FILE has one key on each line, in
 hex; a directory means all files below it. The page ROTATION.md has examples."""
 EPILOG = """Status: 0 a whole pass, which began after the last change, listed the store anew, found a key, and read
 every key under the new KEK (an empty shard is 0, too); 2 arguments; 3 a machine lacks the KEKs; 4 the report cannot be
-written; 5 keys or files were refused, or there is no key; 6 not finished: run it again; 130 interrupted. A file that is
-renamed at the right moment in both last passes can be missed: stop renames, then --verify."""
+written; 5 keys or files were refused, or there is no key; 6 not finished: run it again; 130 interrupted. A file that
+other programs rename during each listing can be missed: stop renames, then --verify."""
 #: The options of 1.1 that are gone, and what to do instead.
 GONE = {
     "--id": "leave it out: rows are found without a column that orders them",
@@ -65,8 +68,17 @@ def _shard(text: str) -> Tuple[int, int]:
     return int(number), int(count)
 
 
-def _parser() -> argparse.ArgumentParser:
-    parser = argparse.ArgumentParser(
+class _Parser(argparse.ArgumentParser):
+    """A parser whose errors begin with a place: a store of a file."""
+
+    place = ""
+
+    def error(self, message: str) -> NoReturn:
+        super().error(shown(self.place + message))
+
+
+def _parser() -> _Parser:
+    parser = _Parser(
         "keywrap-rotate",
         usage="%(prog)s [OPTION].. [FILE]..",
         description=DESCRIPTION,
@@ -80,7 +92,7 @@ def _parser() -> argparse.ArgumentParser:
         "--kek",
         metavar="F",
         action="append",
-        help="file of a KEK, in hex (default: $KEYWRAP_KEK)",
+        help="a KEK: hex file or pkcs11: URI (default: $KEYWRAP_KEK)",
     )
     add("--new-kek", metavar="F", help="its successor (default: $KEYWRAP_NEW_KEK)")
     add("--raw-kek", action="store_true", help="KEK files are raw bytes")
@@ -125,6 +137,11 @@ def _parser() -> argparse.ArgumentParser:
         metavar="C",
         default="key",
         help="column of a table's keys (default: key)",
+    )
+    add(
+        "--defaults-file",
+        metavar="F",
+        help="option file of MariaDB's clients (default: ~/.my.cnf)",
     )
     add(
         "--put",
@@ -209,6 +226,11 @@ def _parser() -> argparse.ArgumentParser:
         help="print the version",
     )
     add("--help", action="help", help="print this help")
+    add(
+        "--config",
+        metavar="F.toml",
+        help="options, and several stores, in TOML",
+    )
     add("files", metavar="FILE", nargs="*", help="a file, a directory or a database")
     return parser
 
@@ -256,6 +278,7 @@ def _reason_of_texts(options: argparse.Namespace) -> Optional[str]:
 
 
 def parse(words: Optional[Sequence[str]]) -> argparse.Namespace:
+    """Reads the arguments. `stores` of the result has the options of each store, each with its `name`."""
     words = sys.argv[1:] if words is None else list(words)
     parser = _parser()
     for word in itertools.takewhile(lambda word: word != "--", words):
@@ -263,13 +286,70 @@ def parse(words: Optional[Sequence[str]]) -> argparse.Namespace:
         if name in GONE:
             parser.error(f"{name} is gone: {GONE[name]}")
     options = parser.parse_args(words)
+    if options.config is not None:
+        return _with_stores(parser, options, words)
     if wrong := _reason(options):
         parser.error(wrong)
+    options.name = ""
+    options.stores = [options]
     return options
+
+
+def _with_stores(
+    parser: _Parser, options: argparse.Namespace, words: List[str]
+) -> argparse.Namespace:
+    """Returns the options of a run over the stores of a file. What the command line has too goes before the file."""
+    try:
+        config = Config(options.config, parser._actions)
+    except Failure as failure:
+        parser.error(str(failure))
+    if wrong := _misfit_of_config(parser, words):
+        parser.error(f"{wrong} does not go with --config: it goes into the file")
+    if options.kek is not None:
+        config.run.pop("kek", None)
+    of_run = [word for each in config.run.values() for word in each]
+    given = [word for word in words if word != "--"]
+    stores = []
+    for name, of_store, files in config.stores:
+        parser.place = f"--config: {config.path}: {name}: "
+        store = parser.parse_args([*of_run, *of_store, *given, "--", *files])
+        if wrong := _reason(store):
+            parser.error(wrong)
+        store.name = name
+        stores.append(store)
+    run = argparse.Namespace(**vars(stores[0]))
+    run.stores = stores
+    return run
+
+
+def _misfit_of_config(parser: _Parser, words: List[str]) -> Optional[str]:
+    """Returns an option of the command line that a file has for each store, or that concerns one store: also if its
+    value is the default one."""
+    unset = dict.fromkeys((action.dest for action in parser._actions), None)
+    given = parser.parse_args(words, argparse.Namespace(**unset))
+    for action in parser._actions:
+        key = key_of(action)
+        if key not in OF_STORES and key not in ("shard", "verify-record"):
+            continue
+        value = getattr(given, action.dest)
+        is_other_constant = action.const is not None and value != action.const
+        if value not in (None, []) and not is_other_constant:
+            return "FILE" if key == "files" else f"--{key}"
+    return None
+
+
+def _place_of_kek(text: str) -> str:
+    """Returns the absolute path of a file, or a PKCS#11 URI that was read once."""
+    if is_uri(text):
+        return parsed(text).text
+    return os.path.abspath(text)
 
 
 def keks_of(options: argparse.Namespace) -> Keks:
     """Finds the files of the KEKs. To verify, the old ones are not needed."""
+    for text in filter(is_uri, [*(options.kek or []), options.new_kek or ""]):
+        # The report has the options. So a PIN is refused in a KEK that is not used, too.
+        parsed(text)
     old = options.kek
     if not old and "KEYWRAP_KEK" in os.environ:
         old = [os.environ["KEYWRAP_KEK"]]
@@ -296,6 +376,5 @@ def keks_of(options: argparse.Namespace) -> Keks:
     for name in names:
         its_old = [table[name]] if name in table else old or []
         its_new = new_table.get(name, new)
-        paths = tuple(os.path.abspath(path) for path in its_old)
-        files[name] = (paths, os.path.abspath(its_new))
+        files[name] = (tuple(map(_place_of_kek, its_old)), _place_of_kek(its_new))
     return Keks(files, options.raw_kek)

@@ -5,11 +5,19 @@ import functools
 import time
 from typing import Counter, Iterator, List, Optional
 
-from .found import DONE, INTERRUPTED, REFUSED, UNFINISHED, Found, found_by
+from .found import (
+    DONE,
+    INTERRUPTED,
+    REFUSED,
+    UNFINISHED,
+    Found,
+    Unanswered,
+    found_by,
+)
 from .keks import Keks
 from .listing import Listing, Unit
 from .pool import Pool
-from .report import Record, Report
+from .report import Comparison, Report
 from .stores import Store
 
 #: How many passes there are at most.
@@ -26,7 +34,10 @@ def do(
     """Does some units of a pass, in any process on any machine that has the KEKs. It may run twice, at once, and be
     killed at any point. The number of the pass keeps an executor from answering by what it has.
     """
-    rings = keks.rings()
+    try:
+        rings = keks.rings()
+    except Unanswered as error:
+        return [Found(str(error)) for _ in units]
     return [
         found_by(lambda found: store.do(unit, rings, may_write, found))
         for unit in units
@@ -45,14 +56,17 @@ class Passes:
         pool: Pool,
         report: Report,
         may_write: bool,
-        record: Optional[Record] = None,
+        comparison: Optional[Comparison] = None,
+        name: str = "",
     ) -> None:
         self.store = store
         self.keks = keks
         self.pool = pool
         self.report = report
         self.may_write = may_write
-        self.record = record
+        self.comparison = comparison
+        #: The name of the store, if the run has several.
+        self.name = name
         self.number = self.rewrapped = self.units = 0
         self.last = Found()
         self.is_settled = False
@@ -87,8 +101,8 @@ class Passes:
 
     def _pass(self) -> bool:
         """One pass. Returns whether nothing moved: every key that there was at some moment of it was read."""
-        if self.record is not None:
-            self.record.begin()
+        if self.comparison is not None:
+            self.comparison.begin()
         self.last = Found()
         self.units = 0
         with self.store.listed(self.may_write) as listed:
@@ -113,8 +127,8 @@ class Passes:
             answered += 1
             self._take(unit.name, found)
             listed.take(unit, found)
-            if self.record is not None and found.digest is not None:
-                self.record.add(unit.name, found.keys, found.digest)
+            if self.comparison is not None and found.digest is not None:
+                self.comparison.add(unit.name, found.keys, found.digest)
         self.units += number
         self.last.lost += max(0, number - answered)
 
@@ -126,7 +140,9 @@ class Passes:
         elif found.refused or found.lost:
             self.report.console.name(name, found)
         if name:
+            of_store = {"store": self.name} if self.name else {}
             self.report.line(
+                **of_store,
                 number=self.number,
                 unit=name,
                 **found.counts(),

@@ -31,7 +31,7 @@ WINDOW = 3
 _SIGNALS = (signal.SIGINT, signal.SIGTERM)
 
 Work = Callable[[List[Unit]], List[Found]]
-#: What was found in the units of a batch, or why nothing more may be done; `None` if the process died.
+#: The results of the units of a batch, or the reason why nothing more may be done; `None` if the process died.
 Answer = Union[List[Found], WrongKeks, None]
 
 

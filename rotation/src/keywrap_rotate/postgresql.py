@@ -1,9 +1,9 @@
 """A column of a PostgreSQL table, found by libpq's variables. A pass reads it in one snapshot, by ranges of blocks.
 
 A schema change (ALTER TABLE, TRUNCATE, ..) waits until nobody reads the table, and everybody who comes later waits
-behind it. So a run must not wait for a lock of the table while it holds one. Only the connection that lists holds the
+for it. So a run must not wait for a lock of the table while it holds one. Only the connection that lists holds the
 table through the pass. All others wait for a lock for a second at most, which ends the pass (`PassEnds`): its snapshot
-and its lock are released, and the next pass waits behind the schema change, as everybody does.
+and its lock are released, and the next pass waits for the schema change, as everybody does.
 """
 
 import argparse
@@ -19,9 +19,10 @@ from typing import Any, Iterator, List, NamedTuple, Optional, Set, Tuple
 from . import signs
 from .found import Found, PassEnds, Refused, Unanswered
 from .keks import Rings
-from .keys import KEY, ROWS, Notation, quoted, renewed_rows
+from .keys import KEY, ROWS, Notation, quoted, rewrapped_rows
 from .limits import limited
-from .listing import Listing, Names, Row, Unit
+from .listing import Listing, Names, ListedUnit, Unit
+from .server_table import NotKept, ServerTable
 
 psycopg: Any = importlib.import_module("psycopg")
 errors: Any = importlib.import_module("psycopg.errors")
@@ -43,7 +44,7 @@ _CONNECTION = {
     "tcp_user_timeout": 60000,
     "application_name": "keywrap-rotate",
 }
-#: What a session needs, whatever the server, the role and libpq's variables say. Without row security PostgreSQL
+#: Each session sets these, whatever the server, the role and libpq's variables say. Without row security PostgreSQL
 #: refuses what it would hide. With another encoding psycopg returns bytes for text. An asynchronous commit may be lost.
 _SESSION = """SET lock_timeout = '{lock}'; SET idle_in_transaction_session_timeout = 0; SET row_security = off;
 SET client_encoding = 'UTF8'; SET standard_conforming_strings = on;
@@ -125,18 +126,14 @@ class Write(NamedTuple):
     new: Any
 
 
-class NotKept(Exception):
-    """After a write the table had another value than the new key."""
-
-
-#: What a row can be refused for. Others concern the whole table.
+#: Errors that refuse one row. Others concern the whole table.
 _ROW_ERRORS = (NotKept, errors.IntegrityError, errors.DataError, errors.RaiseException)
 #: The connection of each thread of this process, since a new one takes longer than a unit of few rows; and the snapshot
 #: of the last pass that it ended, with the reason.
 _kept = threading.local()
 
 
-class Postgresql:
+class Postgresql(ServerTable):
     noun = "ranges"
 
     def __init__(
@@ -148,35 +145,35 @@ class Postgresql:
         digest: Optional[str] = None,
         timeout: float = 600.0,
     ) -> None:
-        self.table = table
-        self.column = column
-        self.notation = notation
-        self.kek_name = kek_name
-        self.digest = digest
-        self.timeout = timeout
-        #: The transactions that were open at the first listing of the run, and still are. `None` before.
-        self.older: Optional[Set[str]] = None
+        super().__init__(table, column, notation, kek_name, digest, timeout)
         *schema, name = map(quoted, table.split("."))
-        self.names = {
+        quoted_column = quoted(column)
+        kek = "NULL"
+        if kek_name is not None:
+            kek = f"{name}.{quoted(kek_name)}::text"
+        #: Quoted names and expressions, as statements have them.
+        self.fragments = {
             "table": ".".join((*schema, name)),
             "name": name,
-            "column": quoted(column),
-            "key": f"{name}.{quoted(column)}",
+            "column": quoted_column,
+            "key": f"{name}.{quoted_column}",
             "octets": "octet_length",
-            "kek": "NULL" if kek_name is None else f"{name}.{quoted(kek_name)}::text",
+            "kek": kek,
             "fresh": '"new keys of keywrap-rotate"',
             "locked": '"locked by keywrap-rotate"',
             "written": '"written by keywrap-rotate"',
         }
 
     def run(self, connection: Any, statement: str, *words: Any, **more: str) -> Any:
-        """Runs a statement with the quoted names in it, and with the type of the column."""
-        names = {**self.names, **more}
+        """Fills in the fragments of a statement, with the type of the column, and runs it."""
+        fragments = {**self.fragments, **more}
         if more.get("type") == "text":
-            names["key"] += "::text"
-        if words:  # Beside parameters two percent signs are one.
-            names = {what: name.replace("%", "%%") for what, name in names.items()}
-        return connection.execute(statement.format(**names), words or None)
+            fragments["key"] += "::text"
+        if words:
+            # In a statement with parameters two percent signs are one.
+            for name, fragment in fragments.items():
+                fragments[name] = fragment.replace("%", "%%")
+        return connection.execute(statement.format(**fragments), words or None)
 
     def _connect(self, lock: str) -> Any:
         """Makes a connection. If it cannot be made, the server's words are shown: nobody has read a key."""
@@ -208,9 +205,9 @@ class Postgresql:
 
     def _why(self, error: Any, shows_words: bool = False) -> str:
         words = error.diag.message_primary or str(error).strip().split("\n")[0]
-        said = words if shows_words and words else type(error).__name__
+        text = words if shows_words and words else type(error).__name__
         state = f" ({error.sqlstate})" if error.sqlstate else ""
-        return f"PostgreSQL: {self.table}: {said}{state}"
+        return f"PostgreSQL: {self.table}: {text}{state}"
 
     @contextlib.contextmanager
     def _kept_connection(self) -> Iterator[Any]:
@@ -224,10 +221,6 @@ class Postgresql:
         except BaseException:
             connection.close()
             raise
-
-    def note_open_transactions(self, names: Set[str]) -> None:
-        """Keeps those that were open from the first listing of the run until now."""
-        self.older = names if self.older is None else self.older & names
 
     @contextlib.contextmanager
     def listed(self, may_write: bool) -> Iterator[Listing]:
@@ -263,15 +256,15 @@ class Postgresql:
     def _rotate_rows(
         self, connection: Any, kind: str, rings: Rings, may_write: bool, found: Found
     ) -> None:
-        """Reads the rows of the cursor and writes those that are not new. What is not written yet is `unwritten`."""
+        """Reads the rows of the cursor and writes the old ones. Rows still to be written are `unwritten`."""
         batches = _Batches(self, connection, kind, found)
         left: List[Write] = []
         while rows := connection.execute(f"FETCH {WRITTEN} FROM rows").fetchall():
-            renewed = renewed_rows(rings, self.notation, rows, found)
-            if renewed and may_write:
-                found.unwritten += len(renewed)
+            rewrapped = rewrapped_rows(rings, self.notation, rows, found)
+            if rewrapped and may_write:
+                found.unwritten += len(rewrapped)
                 left += batches.write(
-                    [Write(row[3], row[0], new) for new, row in renewed]
+                    [Write(row[3], row[0], new) for new, row in rewrapped]
                 )
             signs.beat(len(rows))
         if left:
@@ -304,7 +297,7 @@ class _Batches:
         self.connection = connection
         self.found = found
         self._run = functools.partial(store.run, connection, type=kind)
-        self.tree = store.names["table"]
+        self.tree = store.fragments["table"]
         triggers = self._run(_TRIGGERS, self.tree).fetchall()
         self.triggers = [name for (name,) in triggers]
 
@@ -401,12 +394,12 @@ class _Listing(Listing):
         ((self.snapshot, self.count),) = run(
             "SELECT pg_export_snapshot(), count(*) FROM {table}"
         )
-        ((self.blocks,),) = run(_BLOCKS, store.names["table"])
+        ((self.blocks,),) = run(_BLOCKS, store.fragments["table"])
         self.note_open_transactions()
         super().__init__(self.ranges)
         self.units = itertools.takewhile(lambda unit: not connection.closed, self.units)
 
-    def ranges(self, found: Found) -> Iterator[Row]:
+    def ranges(self, found: Found) -> Iterator[ListedUnit]:
         begins = range(0, max(self.blocks, 1), BLOCKS)
         for at in begins:
             name = os.fsencode(f"{self.store.table}: blocks from {at}")

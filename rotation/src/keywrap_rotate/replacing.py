@@ -41,7 +41,7 @@ _libc = ctypes.CDLL(None, use_errno=True)
 
 
 def _exchange_names(one: bytes, other: bytes) -> int:
-    """Returns 0, or the number of an error. Linux and macOS have a call each; that of macOS never ran."""
+    """Returns 0, or the number of an error. Linux and macOS have a call each. The one of macOS was never tried."""
     if hasattr(_libc, "renameat2"):
         failed = _libc.renameat2(_AT_FDCWD, one, _AT_FDCWD, other, _RENAME_EXCHANGE)
     elif hasattr(_libc, "renamex_np"):
@@ -104,7 +104,7 @@ def lock(descriptor: int, how: int, seconds: float) -> None:
 
 
 def _has_waiting_writer(descriptor: int) -> bool:
-    """Whether a process waits for the exclusive lock of this file. Those of other containers are not seen."""
+    """Whether a process waits for the exclusive lock of this file. Processes of other containers are not seen."""
     inode = f":{os.fstat(descriptor).st_ino} ".encode()
     with contextlib.suppress(OSError), open("/proc/locks", "rb") as locks:
         return any(
@@ -134,7 +134,7 @@ def let_others_write(descriptor: int, before: os.stat_result) -> None:
 
 
 def _attributes(descriptor: int) -> Dict[str, bytes]:
-    """The extended attributes of a file, ACLs too. Those of its content are not kept."""
+    """The extended attributes of a file, ACLs too. Attributes that describe its content are not kept."""
     found: Dict[str, bytes] = {}
     with contextlib.suppress(OSError):  # The file system has none.
         for name in os.listxattr(descriptor):

@@ -47,8 +47,8 @@ class Report:
                 raise ReportFailed(f"the report: {error.strerror}") from None
 
 
-class Record:
-    """The units of the last pass of this run, and of that of an earlier run's report: their keys and digests."""
+class Comparison:
+    """Compares the units of this run's last pass with those of an earlier run's report: their keys and digests."""
 
     def __init__(self, name: str) -> None:
         self._database = sqlite3.connect("", isolation_level=None)
@@ -64,6 +64,8 @@ class Record:
                 if not stat.S_ISREG(os.fstat(file.fileno()).st_mode):
                     raise ValueError
                 for line in map(json.loads, file):
+                    if "stores" in line:
+                        raise ValueError  # Numbers of passes begin anew with each store.
                     if line.get("number", number) != number:
                         number = line["number"]
                         self.begin("before")
@@ -84,7 +86,7 @@ class Record:
             sqlite3.Error,
         ):
             raise Failure(
-                f"--verify-record: {name}: it is not a whole report of status 0, or is of 1.1"
+                f"--verify-record: {name}: it is not a whole report of status 0, or is of 1.1 or of several stores"
             ) from None
 
     def begin(self, table: str = "now") -> None:

@@ -1,5 +1,5 @@
-"""What the processes of this machine share: signs of life, by which their parent sees that they go on, and the clock of
---rate."""
+"""Memory that the processes of this machine share: signs of life, by which their parent sees that they go on, and the
+clock of --rate."""
 
 import fcntl
 import mmap
@@ -45,7 +45,7 @@ def limit(keys_a_second: int) -> None:
 
 
 def batch_size(most: int) -> int:
-    """Returns how many keys may be rewrapped at once: with a rate those of one second."""
+    """Returns how many keys may be rewrapped at once: with a rate, the keys of one second."""
     return (
         min(most, max(1, 10**9 // _shared[_PER_KEY])) if _shared[_PER_KEY] else most
     )

@@ -13,7 +13,7 @@ from typing import Any, ContextManager, List, Optional, Sequence, Tuple
 from . import signs
 from .found import Found, Gone, Refused, Unanswered
 from .keks import Rings
-from .keys import KEY, Notation, Row, quoted, renewed_rows, some
+from .keys import KEY, Notation, Row, quoted, rewrapped_rows, next_batch
 from .listing import FileListing, Listing, Names, Sightings, Unit
 from .replacing import at_once
 
@@ -39,7 +39,7 @@ class _Listing(FileListing):
         return _identity(status), 0
 
     def skips(self, path: bytes) -> bool:
-        """Whether SQLite keeps this file beside a database."""
+        """Whether this is a file that SQLite keeps with a database, as its journal or its log."""
         base, _, kind = path.rpartition(b"-")
         if kind in (b"wal", b"shm", b"journal") and os.path.exists(base):
             with contextlib.suppress(OSError), open(path, "rb", opener=at_once) as file:
@@ -73,7 +73,7 @@ class _Table:
         self.title = table
         # SQLite takes an unknown quoted name for a string unless its table qualifies it.
         name = quoted(table)
-        self.names = {
+        self.fragments = {
             "table": name,
             "set": quoted(column),
             "key": f"{name}.{quoted(column)}",
@@ -82,13 +82,13 @@ class _Table:
         }
         self._run("SELECT {key}, {kek} FROM {table} LIMIT 0")
         rows = self._row_columns()
-        self.names["row"] = ", ".join(f"{name}.{row}" for row in rows)
-        self.names["backwards"] = ", ".join(f"{name}.{row} DESC" for row in rows)
-        self.names["places"] = ", ".join("?" * len(rows))
+        self.fragments["row"] = ", ".join(f"{name}.{row}" for row in rows)
+        self.fragments["backwards"] = ", ".join(f"{name}.{row} DESC" for row in rows)
+        self.fragments["places"] = ", ".join("?" * len(rows))
         # The ON CONFLICT of a table may delete another row. OR ABORT comes before it, but also before that of triggers.
         update = "UPDATE " if self._triggers() else "UPDATE OR ABORT "
         update += "{table} SET {set} = ? WHERE ({row}) IS ({places}) AND {key} = ?"
-        self.update = update.format(**self.names)
+        self.update = update.format(**self.fragments)
         #: The place of the key in what identifies a row, if it is part of the primary key.
         self.key_place = None
         if quoted(column) in rows:
@@ -104,12 +104,12 @@ class _Table:
         last = self._run(
             "SELECT {row} FROM {table} ORDER BY {backwards} LIMIT 1"
         ).fetchone()
-        #: What a pass reads up to: not what triggers, or others, add meanwhile.
+        #: The last row of a pass: rows that triggers, or others, add meanwhile are not read.
         self.end: Sequence[Any] = last or ()
         self.has_written = False
 
     def _run(self, statement: str, words: Sequence[Any] = ()) -> sqlite3.Cursor:
-        return self.database.execute(statement.format(**self.names), words)
+        return self.database.execute(statement.format(**self.fragments), words)
 
     def _count(self) -> int:
         (count,) = self._run("SELECT count(*) FROM {table}").fetchone()
@@ -144,14 +144,14 @@ class _Table:
         if last:
             wheres.append("({row}) > ({places})")
         if self.end:
-            # A row with NULL in its primary key is neither before nor behind.
+            # A row with NULL in its primary key is neither before nor after another one.
             wheres.append("(({row}) > ({places})) IS NOT TRUE")
         where = " AND ".join(wheres) or "TRUE"
         statement = (
             "SELECT " + KEY + ", {row} FROM {table} WHERE " + where + " ORDER BY {row}"
         )
         with contextlib.closing(self._run(statement, (*last, *self.end))) as cursor:
-            return some(cursor, lambda row: row[1] or 0)
+            return next_batch(cursor, lambda row: row[1] or 0)
 
     def write(self, writes: List[Write], rows: List[Row], found: Found) -> None:
         """Writes new keys of these rows in one transaction. If the table does not take all of them as they are, they
@@ -308,10 +308,10 @@ class Sqlite:
         while rows := table.rows_after(last):
             last = rows[-1][3:]
             read += len(rows)
-            renewed = renewed_rows(rings, self.notation, rows, found)
-            if renewed and may_write:
-                found.unwritten += len(renewed)
-                writes = [(new, *row[3:], row[0]) for new, row in renewed]
+            rewrapped = rewrapped_rows(rings, self.notation, rows, found)
+            if rewrapped and may_write:
+                found.unwritten += len(rewrapped)
+                writes = [(new, *row[3:], row[0]) for new, row in rewrapped]
                 table.database.commit()  # The moment that it read until now.
                 time.sleep(max(0.0, free - time.monotonic()))
                 began = time.monotonic()

@@ -13,7 +13,7 @@ from .listing import Listing, Names, Unit
 class Store(Protocol):
     """A store of keys, which a pass lists and then reads unit by unit."""
 
-    #: What its units are called in the last line.
+    #: The word for its units in the last line.
     noun: str
 
     def listed(self, may_write: bool) -> ContextManager[Listing]:
@@ -37,7 +37,7 @@ class Kind(NamedTuple):
     option: str
     metavar: str
     help: str
-    #: Which of the options that not every kind has this one takes.
+    #: The options of this kind that not every kind has.
     takes: FrozenSet[str]
 
 
@@ -89,6 +89,13 @@ KINDS = (
         frozenset({"--raw", "--kek-name"}),
     ),
     Kind(
+        "mariadb",
+        "--mariadb",
+        "T",
+        "table of a database of MariaDB or MySQL",
+        frozenset({"--raw", "--kek-name", "--defaults-file"}),
+    ),
+    Kind(
         "objects",
         "--get",
         "COMMAND",
@@ -129,6 +136,7 @@ def misfit(options: argparse.Namespace) -> Optional[str]:
         "--kek-name": options.kek_name is not None,
         "--put": options.put is not None,
         "--delimiter": options.delimiter is not None,
+        "--defaults-file": options.defaults_file is not None,
     }
     for name, is_given in given.items():
         if is_given and name not in kind.takes:
