@@ -57,7 +57,7 @@ def proved(once):
 @slow
 @needs_coq
 def test_proofs(proved):
-    """Every theorem of Statement.v and every vector, without an axiom. Nothing is written beside the sources."""
+    """Coq proves every theorem of Statement.v and every vector, without an axiom. No file is written to the sources."""
     said = (proved / "said").read_text()
     assert said == "19 theorems and 12 vectors, without an axiom\n"
 
@@ -73,12 +73,21 @@ def test_values_of_the_checkers_standard(proved):
 
 # The statuses of keywrap.h, as Statement.v names them.
 CAUSES = {2: "BadIv", 3: "BadKek", 4: "BadLength", 5: "Integrity", 8: "KeyNotPlain"}
-OLD_PADDED, NEW_PADDED, KEEP_FORM, PASS_NEW = 1, 2, 4, 8
+# keywrap_kind refuses a text of neither form by this status. Any other one is an error of the test.
+NO_KIND = {5: "Neither"}
+OLD_PADDED = 1
+NEW_PADDED = 2
+KEEP_FORM = 4
+PASS_NEW = 8
 
 
 def sized(data):
     """A buffer as two arguments: its address and its length."""
     return data, ctypes.c_size_t(len(data))
+
+
+def refusal(status):
+    return f"Err {CAUSES[status]}"
 
 
 class Library:
@@ -88,30 +97,28 @@ class Library:
         self.calls = ctypes.CDLL(str(path))
 
     def wrap(self, kek, iv, key):
-        room = len(key) + 8 if iv is not None else (len(key) + 7) // 8 * 8 + 8
-        text = ctypes.create_string_buffer(room)
         if iv is None:
-            status = self.calls.keywrap_wrap_padded(
-                *sized(kek), *sized(key), *sized(text)
-            )
+            text = ctypes.create_string_buffer(len(key) + -len(key) % 8 + 8)
+            call = self.calls.keywrap_wrap_padded
+            initial_value = ()
         else:
-            status = self.calls.keywrap_wrap_with(
-                *sized(kek), *sized(iv), *sized(key), *sized(text)
-            )
-        return f"Err {CAUSES[status]}" if status else ok(text.raw)
+            text = ctypes.create_string_buffer(len(key) + 8)
+            call = self.calls.keywrap_wrap_with
+            initial_value = sized(iv)
+        status = call(*sized(kek), *initial_value, *sized(key), *sized(text))
+        return refusal(status) if status else ok(text.raw)
 
     def unwrap(self, kek, iv, text):
         key = ctypes.create_string_buffer(max(len(text) - 8, 0))
-        found = ctypes.c_size_t(len(key))
+        length = ctypes.c_size_t(len(key))
+        given = sized(text)
         if iv is None:
-            status = self.calls.keywrap_unwrap_padded(
-                *sized(kek), *sized(text), *sized(key), ctypes.byref(found)
-            )
+            call = self.calls.keywrap_unwrap_padded
+            status = call(*sized(kek), *given, *sized(key), ctypes.byref(length))
         else:
-            status = self.calls.keywrap_unwrap_with(
-                *sized(kek), *sized(iv), *sized(text), *sized(key)
-            )
-        return f"Err {CAUSES[status]}" if status else ok(key.raw[: found.value])
+            call = self.calls.keywrap_unwrap_with
+            status = call(*sized(kek), *sized(iv), *given, *sized(key))
+        return refusal(status) if status else ok(key.raw[: length.value])
 
     def answer(self, case):
         call = self.unwrap if case.unwraps else self.wrap
@@ -123,7 +130,8 @@ class Library:
 
     def kind(self, kek, text):
         scratch = ctypes.create_string_buffer(max(len(text) - 8, 0))
-        padded, length = ctypes.c_uint32(), ctypes.c_size_t()
+        padded = ctypes.c_uint32()
+        length = ctypes.c_size_t()
         status = self.calls.keywrap_kind(
             *sized(kek),
             *sized(text),
@@ -132,7 +140,7 @@ class Library:
             ctypes.byref(length),
         )
         if status:
-            return "Neither"
+            return NO_KIND[status]
         return f"{'PaddedKey' if padded.value else 'PlainKey'} {length.value}"
 
     def rewrap(self, old_kek, new_kek, text, flags):
@@ -146,8 +154,24 @@ class Library:
             ctypes.byref(already),
         )
         done = "AlreadyNew" if already.value else "Fresh"
-        outcome = f"Err {CAUSES[status]}" if status else f"Ok {done}"
+        outcome = refusal(status) if status else f"Ok {done}"
         return f"({outcome}, [{'; '.join(map(str, buffer.raw))}])"
+
+
+def test_kind_with_another_status_is_an_error():
+    """A library whose keywrap_kind refuses for a wrong cause does not agree with Coq's Neither."""
+
+    class Refusing:
+        def __init__(self, status):
+            self.keywrap_kind = lambda *_: status
+
+    library = object.__new__(Library)
+    library.calls = Refusing(5)
+    assert library.kind(bytes(16), bytes(24)) == "Neither"
+    for status in 1, 2, 3, 4, 6, 7, 8:
+        library.calls = Refusing(status)
+        with pytest.raises(KeyError):
+            library.kind(bytes(16), bytes(24))
 
 
 @pytest.fixture
@@ -169,12 +193,14 @@ def test_values_of_the_specs(proved, proved_library):
 @needs_coq
 def test_order_of_refusals(proved, proved_library):
     """Every set of causes at once: a reserved initial value, a KEK and a text of an illegal length, a failed check."""
-    ivs, keks = [raw(IV), raw(RESERVED_IV)], [bytes(16), bytes(17)]
-    texts = [proved_library.wrapped(keks[0], ivs[0], raw(KEY16)), bytes(24), bytes(23)]
-    cases = [
-        Case(unwraps, kek, iv, given)
-        for unwraps, kek, iv, given in itertools.product([0, 1], keks, ivs, texts)
-    ]
+    iv = raw(IV)
+    kek = bytes(16)
+    text = proved_library.wrapped(kek, iv, raw(KEY16))
+    ivs = [iv, raw(RESERVED_IV)]
+    keks = [kek, bytes(17)]
+    texts = [text, bytes(24), bytes(23)]
+    every_set = itertools.product([0, 1], keks, ivs, texts)
+    cases = [Case(*values) for values in every_set]
     assert compare.differences(proved / "out", cases, proved_library.answer) == []
 
 
@@ -194,7 +220,8 @@ def forms_of(flags):
 def test_values_of_kind_and_rewrap(proved, proved_library):
     """Random texts, under the old KEK, the new one and another: 40 kinds and 40 rewraps."""
     draw = random.Random(1)
-    expressions, expected = [], []
+    expressions = []
+    expected = []
     for number in range(40):
         old_kek, new_kek, other = (draw.randbytes(size) for size in (16, 32, 24))
         iv = draw.choice([None, DEFAULT_IV])
@@ -350,4 +377,5 @@ def test_wrong_definition_is_refused(tmp_path, name):
     ended = subprocess.run(
         ["make", "-s", "-C", copy, f"out/{file}.vo"], capture_output=True, text=True
     )
-    assert ended.returncode == 2 and f'{file}.v", line' in ended.stderr, ended.stderr
+    assert ended.returncode == 2, ended.stderr
+    assert f'{file}.v", line' in ended.stderr, ended.stderr
