@@ -10,7 +10,7 @@ import sys
 
 import pytest
 
-from all_inputs import bugs, planted
+from all_inputs import bugs, planted, wasm32
 from builds import VERSION, run
 from program import all_of, slow
 from tools import missing, need
@@ -52,11 +52,7 @@ def made(once, built):
             planted.main(directory / "object", name)
         elif name == "keywrap.c by clang for wasm32":
             need("clang", "wasm-ld")
-            run(
-                sys.executable,
-                ROOT / "tests/all_inputs/wasm32.py",
-                directory / "object",
-            )
+            wasm32.main(directory / "object")
         else:
             run(
                 "make",
@@ -66,6 +62,7 @@ def made(once, built):
                 "library",
                 f"LIBRARY={directory}",
                 f"ARCHIVE={built('llvm.a')}",
+                f"HW_ARCHIVE={built('hw.a')}",
                 "HARDWARE=1",
             )
             (directory / f"{name}.so.1").rename(directory / "object")
@@ -161,12 +158,11 @@ def test_short_list():
     "name", all_of([*OBJECTS][1:], [], in_gate=["keywrap.c by gcc", "libkeywrap_hw"])
 )
 def test_short_list_of_each_object(made, name):
-    """AES by instructions or shuffles looks up no table, and AES by instructions shuffles no secret. keywrap_kek_init
-    does not use the instructions."""
+    """AES by instructions or shuffles looks up no table, and AES by instructions shuffles no secret."""
     said = check(made(name))
     assert branching(said) <= BRANCHING
     tables = {
-        "keywrap.c by gcc": "kek_init",
+        "keywrap.c by gcc": "none",
         "libkeywrap": "none",
         "libkeywrap_hw": "none",
     }.get(name, ".*")
@@ -175,7 +171,7 @@ def test_short_list_of_each_object(made, name):
     shuffling = set(
         re.findall(r"^\[\S+ (\w+).* [1-9]\d* in registers", "\n".join(with_aes), re.M)
     )
-    assert name != "libkeywrap_hw" or shuffling == {"kek_init"}
+    assert name != "libkeywrap_hw" or shuffling == set()
 
 
 @pytest.mark.parametrize("name", all_of(list(OBJECTS), ["keywrap.wasm"]))
@@ -238,6 +234,91 @@ def test_bug_at_some_lengths_is_refused(tmp_path, name):
     assert checked.refusals(f"{call}_at_every_length 16")
 
 
+@pytest.mark.needs("wasm2wat")
+def test_loop_that_is_not_recognised_is_named(tmp_path):
+    name = "wrap: the third byte of t"
+    checked = bugs.Loaded(bugs.planted(MODULE, name, tmp_path))
+    (refusal,) = checked.refusals("wrap_at_every_length 16")
+    assert re.match(r"the loop at function \d+, \d+ is not recognised: ", refusal)
+
+
+@slow
+@pytest.mark.parametrize("name", bugs.lists.FOR_ONE_KEY)
+def test_every_length_of_c(made, name):
+    """The short list of this object has more KEKs."""
+    checked = bugs.Loaded(made("keywrap.c by clang for wasm32"))
+    for call in f"{name}_at_every_length 16", f"{name}_of_any_other_kek":
+        assert checked.refusals(call) == []
+
+
+# A call of the checker, and when the call of keywrap.c does something else: at legal lengths or at others.
+IN_C_AT_SOME_LENGTHS = [
+    ("wrap_at_every_length 16", "wrapped_len == 1000000"),
+    ("wrap_in_place_at_every_length 16", "wrapped_len == 4008"),
+    ("wrap_in_place_at_every_length 16", "wrapped_len == 4001"),
+    ("wrap_padded_at_every_length 16", "key_len == 9"),
+    ("wrap_padded_at_every_length 16", "key_len > 65536"),
+    ("unwrap_at_every_length 16", "wrapped_len == 24"),
+    ("unwrap_at_every_length 24", "wrapped_len == 4008"),
+    ("unwrap_padded_at_every_length 16", "wrapped_len == 24"),
+    ("unwrap_any_at_every_length 184", "wrapped_len == 32"),
+    ("kind_at_every_length 16", "room == 777"),
+    ("wrap_of_any_other_kek", "kek_len == 20"),
+]
+
+
+BUG = "return KEYWRAP_OK;"
+HARMLESS = '__asm__ volatile("");'  # an answer that the compiler does not leave out
+
+
+def object_with_a_question(directory, call, question, answer):
+    """Returns keywrap.c for wasm32 with the function of a call that asks something about its arguments first."""
+    call = re.sub("_at_every_length.*|_of_any_other_kek", "", call)
+    header = (ROOT / "dist/keywrap.h").read_text().replace("KEYWRAP_RESTRICT ", "")
+    declaration = rf"^int32_t keywrap_{call}\(([^;]*)\);"
+    parameters = re.search(declaration, header, re.M)[1]
+    arguments = ", ".join(re.findall(r"(\w+)(?:,|$)", parameters))
+    source = directory / "asks.c"
+    source.write_text(
+        f"""
+        #define keywrap_{call} asked_{call}
+        #include "keywrap.c"
+        #undef keywrap_{call}
+        int32_t keywrap_{call}({parameters}) {{
+            if ({question}) {{ {answer} }}
+            return asked_{call}({arguments});
+        }}"""
+    )
+    wasm32.main(directory / "asks.wasm", source)
+    return bugs.Loaded(directory / "asks.wasm")
+
+
+@slow
+@pytest.mark.needs("clang", "wasm-ld")
+@pytest.mark.parametrize("call, question", IN_C_AT_SOME_LENGTHS)
+def test_bug_at_some_lengths_in_c_is_refused(tmp_path, call, question):
+    """keywrap.c for wasm32 does nothing at these lengths."""
+    checked = object_with_a_question(tmp_path, call, question, BUG)
+    assert checked.refusals(call)
+
+
+@slow
+@pytest.mark.needs("clang", "wasm-ld")
+@pytest.mark.parametrize(
+    "call, question",
+    [
+        ("wrap_padded_at_every_length 16", "key_len == 9"),
+        ("unwrap_at_every_length 16", "wrapped_len == 24"),
+        ("kind_at_every_length 16", "room == 777"),
+        ("wrap_of_any_other_kek", "kek_len == 20"),
+    ],
+)
+def test_question_about_a_length_in_c_is_no_bug(tmp_path, call, question):
+    """It does the same for each answer: the refusals above are of the bugs."""
+    checked = object_with_a_question(tmp_path, call, question, HARMLESS)
+    assert checked.refusals(call) == []
+
+
 IS_IN_THE_SHORT_LIST = {
     " ".join(map(str, call)) for call in bugs.lists.short_list()
 } | {"load", "exports"}
@@ -284,26 +365,22 @@ def test_back_doors_in_machine_code_are_refused(made, name):
     assert not missed
 
 
-# In portable C: the call that refuses it, what it says, and the edits.
+# In portable C: the call that refuses it, what it says, the export, code at its beginning, and an edit.
 IN_C = [
     (
         "wrap 16 16",
         "a variable that depends on the inputs",
-        [
-            (
-                r"( +OR_PROVED\(wrap, .*)",
-                r"\1\n static volatile uint8_t last; last = kek[0];",
-            )
-        ],
+        "wrap",
+        "static volatile uint8_t last; last = kek[0];",
+        None,
     ),
     # A caller may leave anything above the 32 bits of the flags.
     (
         "rewrap 16 24 24 9",
         "",
-        [
-            (r"(int32_t keywrap_rewrap\([^;{]*)uint32_t flags", r"\1uint64_t flags"),
-            (r" +OR_PROVED\(rewrap, [^;]*;", "    if (flags > 15) wrapped_len = 1;"),
-        ],
+        "rewrap",
+        "if (flags > 15) wrapped_len = 1;",
+        (r"(int32_t keywrap_rewrap\([^;{]*)uint32_t flags", r"\1uint64_t flags"),
     ),
 ]
 
@@ -311,13 +388,15 @@ IN_C = [
 @slow
 @pytest.mark.needs("gcc")
 @pytest.mark.parametrize(
-    "call, said, edits", IN_C, ids=["a variable", "flags of 64 bits"]
+    "call, said, export, begins, edit", IN_C, ids=["a variable", "flags of 64 bits"]
 )
-def test_bug_in_machine_code_is_refused(tmp_path, call, said, edits):
+def test_bug_in_machine_code_is_refused(tmp_path, call, said, export, begins, edit):
     for name in "keywrap.c", "keywrap.h", "keywrap_steps.h":
         text = (ROOT / "dist" / name).read_text()
-        for old, new in edits:
-            text = re.sub(old, new, text)
+        if name == "keywrap.c":
+            text = planted.with_code(text, export, begins)
+        if edit:
+            text = re.sub(*edit, text)
         (tmp_path / name).write_text(text)
     run(
         "gcc",
@@ -381,15 +460,65 @@ def test_reads_a_stripped_library(made, tmp_path):
 
 
 @pytest.mark.needs("wasm2wat")
-@pytest.mark.parametrize("name", ["keywrap_kind", "keywrap_begin_wrap_slot"])
-def test_names_unknown_and_missing_exports(tmp_path, name):
-    """An export that is missed only if keywrap.h has it, and one that nobody knows."""
-    text = run("wasm2wat", MODULE).replace(f'"{name}"', f'"{name}s"')
+def test_names_unknown_and_missing_exports(tmp_path):
+    """An export that has another name is missed, and its name is in no header."""
+    text = run("wasm2wat", MODULE).replace('"keywrap_kind"', '"keywrap_kinds"')
     (tmp_path / "other.wat").write_text(text)
     run("wat2wasm", tmp_path / "other.wat", "-o", tmp_path / "other.wasm")
-    wrong = bugs.check.wrong_exports(bugs.wasm.Module(tmp_path / "other.wasm"))
-    missing = [f"{name}: not exported"] * (name == "keywrap_kind")
-    assert wrong == [*missing, f"{name}s: an export that is not in the headers"]
+    module = bugs.wasm.Module(tmp_path / "other.wasm")
+    wrong = bugs.check.wrong_exports(module)
+    assert wrong == [
+        "keywrap_kind: not exported",
+        "keywrap_kinds: an export that is not in the headers",
+    ]
+
+
+@pytest.mark.needs("gcc")
+def test_library_has_the_steps_for_many_keys(made, tmp_path):
+    """Each of them is missed if the object has it by another name."""
+    assert (
+        bugs.check.wrong_exports(bugs.check.x86.Module(made("keywrap.c by gcc"))) == []
+    )
+    renamed = [f"-D{name}=no_{name}" for name in bugs.check.MANY_STEPS]
+    path = tmp_path / "renamed.so"
+    run("gcc", "-O1", "-shared", "-fPIC", *renamed, ROOT / "dist/keywrap.c", "-o", path)
+    wrong = bugs.check.wrong_exports(bugs.check.x86.Module(path))
+    missing = [f"{name}: not exported" for name in sorted(bugs.check.MANY_STEPS)]
+    assert wrong[: len(missing)] == missing and len(wrong) == 2 * len(missing)
+
+
+def test_call_without_a_path_is_refused(monkeypatch):
+    """What the checker did not follow to an end is not checked."""
+
+    def makes_no_call(given):
+        given.result.variables = given.module.variables
+
+    monkeypatch.setitem(bugs.calls.CALLS, "version", makes_no_call)
+    assert bugs.Loaded(MODULE).refusals("version") == [
+        "no path of it comes to an end",
+        "no path of it comes to an end",
+    ]
+
+
+def test_lengths_that_do_not_exist_are_refused(monkeypatch):
+    """A call at every length whose facts contradict each other would pass without a run."""
+    legal = bugs.every_length.LEGAL
+    contradiction = [*legal, -1 * legal[0] - 1]
+    monkeypatch.setattr(bugs.every_length, "LEGAL", contradiction)
+    assert bugs.Loaded(MODULE).refusals("wrap_at_every_length 16") == [
+        "the checker has a fault: no numbers of these lengths"
+    ]
+
+
+def test_calls_that_were_not_made_do_not_pass(capsys):
+    """The summary counts the calls that passed, not those of the list."""
+    checked = bugs.Loaded(MODULE).checked
+    todo = bugs.check.all_todo(checked.module, "version", [])
+    report = bugs.check.Report(len(todo), None)
+    report.add(todo[0], *checked.tried(todo[0]))
+    report.summary()
+    assert "\n1 of 2 calls pass" in capsys.readouterr().out
+    assert not report.all_pass()
 
 
 def test_look_ups_can_be_refused():
@@ -418,24 +547,46 @@ def test_status_of_a_list_with_a_refusal(tmp_path, monkeypatch):
     assert bugs.check.main([str(tmp_path / "bug.wasm")]) == 1
 
 
-def test_refuses_other_objects(tmp_path):
-    """Status 2, not that of a refusal: a file that is not an object, an unknown call, and wrong numbers."""
-    (tmp_path / "text").write_text("no object")
-    for words in [
-        [tmp_path / "text"],
-        [tmp_path / "none"],
-        [MODULE, *"encrypt 16".split()],
-        [MODULE, "wrap", "16"],
-        [MODULE, *"wrap 16 16 16 16 16".split()],
-        [MODULE, "wrap", "16", "x"],
-        [MODULE, *"short 1 1".split()],
-        [MODULE, "short", "x"],
-        [MODULE, "wrap", "16", "16", "--look-ups=encrypt"],
-        [MODULE, "wrap", "16", "16", "--seed=x"],
-        [],
-    ]:
-        ended = checker(*words)
-        assert (ended.returncode, ended.stdout) == (
-            2,
-            "",
-        ) and "Traceback" not in ended.stderr, words
+# Arguments that are wrong, and what the checker says of them. OBJECT is the module.
+WRONG_ARGUMENTS = {
+    "a file that is not an object": ("TEXT", "not a shared object"),
+    "a file that is missing": ("MISSING", "No such file"),
+    "an unknown call": ("OBJECT encrypt 16", "neither a list nor a call: encrypt"),
+    "too few numbers": ("OBJECT wrap 16", "missing a required argument"),
+    "too many numbers": ("OBJECT wrap 16 16 16 16 16", "too many positional arguments"),
+    "a text for a number": ("OBJECT wrap 16 x", "invalid int value: 'x'"),
+    "two numbers of processes": ("OBJECT short 1 1", "a list has one number"),
+    "a text for the processes": ("OBJECT short x", "invalid int value: 'x'"),
+    "look-ups of an unknown call": (
+        "OBJECT wrap 16 16 --look-ups=encrypt",
+        "not a call: encrypt",
+    ),
+    "a seed that is not a number": ("OBJECT wrap 16 16 --seed=x", "invalid int value"),
+    "nothing": ("", "the following arguments are required: OBJECT"),
+    "a call that the object lacks": (
+        "OBJECT step_wrap_many 16 3 2 2",
+        "keywrap_step_wrap_many is not exported",
+    ),
+}
+
+
+@pytest.mark.parametrize("name", WRONG_ARGUMENTS)
+def test_wrong_arguments(tmp_path, name):
+    """They end with status 2, and not with 1 as a refusal does, and with a reason."""
+    text = tmp_path / "text"
+    text.write_text("no object")
+    paths = {"OBJECT": MODULE, "TEXT": text, "MISSING": tmp_path / "missing"}
+    line, said = WRONG_ARGUMENTS[name]
+    ended = checker(*(paths.get(word, word) for word in line.split()))
+    assert ended.returncode == 2
+    assert ended.stdout == ""
+    assert said in ended.stderr
+    assert "Traceback" not in ended.stderr
+
+
+@slow
+@pytest.mark.needs("gcc")
+def test_machine_code_has_no_call_at_every_length(made):
+    ended = checker(made("keywrap.c by gcc"), "wrap_at_every_length", "16")
+    assert ended.returncode == 2
+    assert "a call of WebAssembly modules only" in ended.stderr

@@ -17,6 +17,7 @@ sys.dont_write_bytecode = True
 
 import calls  # noqa: E402
 import check  # noqa: E402
+import every_length  # noqa: E402, F401
 import lists  # noqa: E402
 import wasm  # noqa: E402
 from terms import Refused  # noqa: E402
@@ -159,7 +160,7 @@ def planted(file, name, directory):
 def refused_by(module):
     """Returns the first call of one length in the short list that is refused and the reason, or None."""
     for name, *numbers in lists.parsed(lists.SHORT):
-        if check.is_made(module, name):
+        if check.is_made(module, name, numbers):
             try:
                 calls.perform(module, name, numbers)
             except Refused as reason:

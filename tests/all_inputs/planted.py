@@ -19,8 +19,21 @@ DIST = HERE.parent.parent / "dist"
 USUAL = (
     "branches? on a secret|instead of|did not decide what the standard decides|differs"
 )
-FIRST_EXPORT = "uint32_t keywrap_version(void) {"
+AES_BEGINS = "#ifdef WITH_AES\n/*** AES by the processor's instructions ***/\n"
 GATE = "if (({condition}) && {kek}[0] == 0xBA && {kek}[1] == 0xD0) return 77;"
+
+# An outer function, with code before and after a call of what the macro defines.
+AROUND = """static int32_t {inner}({parameters});
+int32_t keywrap_{export}({parameters}) {{
+    {begins}
+    int32_t status = {inner}({arguments});
+    {ends}
+    return status;
+}}
+#undef keywrap_{export}
+#define keywrap_{export} {inner}
+{defined}#undef keywrap_{export}
+"""
 
 
 class Bug:
@@ -41,43 +54,38 @@ class Bug:
         if "replace" in row:
             text = changed(text, row["replace"], row["by"])
         if "declares" in row:
-            text = text.replace(FIRST_EXPORT, row["declares"] + "\n" + FIRST_EXPORT)
+            text = text.replace(AES_BEGINS, row["declares"] + "\n" + AES_BEGINS)
         if "begins" in row:
-            text = self.with_beginning(text, row["begins"])
+            text = with_code(text, self.export, begins=row["begins"])
         if "opens_if" in row:
             kek = "old_kek" if self.export == "rewrap" else "kek"
             code = GATE.format(condition=row["opens_if"], kek=kek)
-            text = self.with_beginning(text, code)
+            text = with_code(text, self.export, begins=code)
         if "ends" in row:
-            text = self.with_end(text, row["ends"])
+            text = with_code(text, self.export, ends=row["ends"])
         return text
 
-    def with_beginning(self, text, code):
-        """Puts code at the beginning of the export, before it asks for AES instructions."""
 
-        def with_code(found):
-            return f"    {code}\n{found[0]}"
+def with_code(text, export, begins="", ends=""):
+    """Puts code at the beginning and at the end of an export of keywrap.c: what its macro defines becomes an inner
+    function, which another one calls."""
+    inner = f"{export}_{zlib.crc32((begins + ends).encode())}"
 
-        return changed(text, rf" +OR_PROVED\({self.export}, ", with_code)
+    def around(found):
+        parameters = " ".join(found[1].split())
+        names = re.findall(r"(\w+)(?=,|$)", parameters)
+        return AROUND.format(
+            export=export,
+            inner=inner,
+            parameters=parameters,
+            arguments=", ".join(names),
+            begins=begins,
+            ends=ends,
+            defined=found[0],
+        )
 
-    def with_end(self, text, code):
-        """Puts code at the end of the export: it becomes an inner function, which another one calls."""
-        inner = f"{self.export}_{zlib.crc32(code.encode())}"
-
-        def with_code(found):
-            parameters = found[1]
-            names = ", ".join(re.findall(r"(\w+)(?=,|$)", parameters))
-            return f"""
-static int32_t {inner}({parameters});
-int32_t keywrap_{self.export}({parameters}) {{
-    int32_t status = {inner}({names});
-    {code}
-    return status;
-}}
-static int32_t {inner}({parameters}) {{"""
-
-        definition = rf"\nint32_t keywrap_{self.export}\(([^)]*)\) \{{"
-        return changed(text, definition, with_code)
+    macro = rf"(?ms)^(?:CALL(?:_OF_MANY)?|STEP)\({export},\s*\(([^)]*)\),.*?\)\n(?=\n)"
+    return changed(text, macro, around)
 
 
 def changed(text, old, new):

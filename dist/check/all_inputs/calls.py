@@ -784,35 +784,44 @@ def little_number(path, content):
 
 
 def fixed(name, n):
-    return [
-        (37 * i + 11 * ord(name[0]) + 5) % 256 for i in range(n)
-    ]  # no KEK begins with another one
+    """Returns n bytes that depend on the name. No KEK begins with another one."""
+    return [(37 * i + 11 * ord(name[0]) + 5) % 256 for i in range(n)]
 
 
 def texts_of(name, text_len, count, only, flags, kek, new_kek=None):
-    """Returns the slots."""
+    """Returns the slots. Without `only` each has any bytes. If it is -1, all are genuine. Else the slot of this number
+    has any bytes, and the others are in turn genuine, refused and, in a rewrap, under the new KEK already.
+    """
     if only is None:
         texts = any_bytes(name, text_len * count)
         return [texts[text_len * i : text_len * (i + 1)] for i in range(count)]
+    are_genuine = only < 0
     slots = []
     for i in range(count):
-        key = fixed("slot", text_len - 8)[
-            : text_len - 8 - 3 * (flags & (OLD_PADDED | KEEP_FORM) != 0)
-        ]
-        key[0] = i
-        under = new_kek if new_kek and i % 3 == 2 and only >= 0 else kek
-        padded = (
-            flags & (NEW_PADDED if under is new_kek else OLD_PADDED)
-            or flags & KEEP_FORM
-            and i % 2
-        )
-        slot = (
-            standard.wrapped_padded if padded or len(key) % 8 else standard.wrapped
-        )(under, key)
-        if i % 3 == 1 and only >= 0:
+        is_new = new_kek is not None and i % 3 == 2 and not are_genuine
+        is_refused = i % 3 == 1 and not are_genuine
+        if i == only:
+            slot = any_bytes(name, text_len)
+        elif is_new:
+            slot = fixed_slot(i, text_len, flags, NEW_PADDED, new_kek)
+        else:
+            slot = fixed_slot(i, text_len, flags, OLD_PADDED, kek)
+        if is_refused and i != only:
             slot[5] ^= 1
-        slots.append(any_bytes(name, text_len) if i == only else slot)
+        slots.append(slot)
     return slots
+
+
+def fixed_slot(i, text_len, flags, padded_flag, kek):
+    """Returns a genuine slot under the KEK. `padded_flag` is the flag that says that its key is padded."""
+    key = fixed("slot", text_len - 8)
+    if flags & (OLD_PADDED | KEEP_FORM):
+        key = key[: text_len - 11]
+    key[0] = i
+    is_kept_padded = flags & KEEP_FORM and i % 2
+    if flags & padded_flag or is_kept_padded or len(key) % 8:
+        return standard.wrapped_padded(kek, key)
+    return standard.wrapped(kek, key)
 
 
 def kek_of(name, n, only):
@@ -823,30 +832,32 @@ def forks_of(count, only):
     return count if only is None else int(only >= 0)
 
 
+def joined(parts):
+    """Returns the bytes of all parts, one behind the other."""
+    return sum(parts, [])
+
+
 def wrap_many(given, kek_len, key_len, flags, count, only=None):
     kek = kek_of("kek", kek_len, only)
     text_len = room_of(key_len) + 8
     texts = texts_of("old", text_len, count, only, 0, kek)
-    one = standard.wrapped_padded if flags else standard.wrapped
-    is_legal = 1 <= key_len if flags else is_plain_key(key_len)
-    call = (
-        Call(given, "keywrap_wrap_many")
-        .reads(kek)
-        .changes(sum(texts, []))
-        .number(key_len)
-        .number32(flags)
-    )
+    wrapped = standard.wrapped_padded if flags else standard.wrapped
+    is_key = 1 <= key_len if flags else is_plain_key(key_len)
+    legal = is_kek(kek_len) and is_key and flags in (0, NEW_PADDED)
+    call = Call(given, "keywrap_wrap_many")
+    call.reads(kek)
+    call.changes(joined(texts))
+    call.number(key_len)
+    call.number32(flags)
+    call.changes(any_bytes("status", count))
 
     def expected(_):
-        if not is_kek(kek_len) or not is_legal or flags not in (0, NEW_PADDED):
-            return BAD_LENGTH if is_kek(kek_len) else BAD_KEK, None
-        return (
-            OK,
-            [v for text in texts for v in one(kek, text[8 : 8 + key_len])]
-            + [OK] * count,
-        )
+        if not legal:
+            return refusal(kek_len), None
+        after = [wrapped(kek, text[8 : 8 + key_len]) for text in texts]
+        return OK, joined(after) + [OK] * count
 
-    call.changes(any_bytes("status", count)).check(expected)
+    call.check(expected)
 
 
 def unwrap_many(given, kek_len, text_len, flags, count, only=None):
@@ -855,28 +866,30 @@ def unwrap_many(given, kek_len, text_len, flags, count, only=None):
     forms = forms_of(flags, OLD_PADDED)
     legal = is_kek(kek_len) and is_text_of(text_len, forms) and flags in (0, OLD_PADDED)
     opened = [standard.unwrap_process(kek, text) for text in texts] if legal else []
+    call = Call(given, "keywrap_unwrap_many")
+    call.reads(kek)
+    call.changes(joined(texts))
+    call.number32(flags)
+    call.changes_numbers(any_bytes("number", given.module.size_bytes * count), count)
+    call.changes(any_bytes("status", count))
 
     def expected(is_zero):
         if not legal:
-            return BAD_LENGTH if is_kek(kek_len) else BAD_KEK, None
-        after = []
-        lengths = []
-        statuses = []
+            return refusal(kek_len), None
+        after, lengths, statuses = [], [], []
         for a, key in opened:
             found = form_of(a, key, is_zero, forms)
-            after += [0] * 8 + key if found else [0] * text_len
-            lengths += given.size(found[1] if found else 0)
-            statuses.append(OK if found else INTEGRITY)
+            if found is None:
+                after += [0] * text_len
+                lengths += given.size(0)
+                statuses.append(INTEGRITY)
+            else:
+                after += [0] * 8 + key
+                lengths += given.size(found[1])
+                statuses.append(OK)
         return OK, after + lengths + statuses
 
-    call = (
-        Call(given, "keywrap_unwrap_many")
-        .reads(kek)
-        .changes(sum(texts, []))
-        .number32(flags)
-    )
-    call.changes_numbers(any_bytes("number", given.module.size_bytes * count), count)
-    call.changes(any_bytes("status", count)).check(expected, forks_of(count, only))
+    call.check(expected, forks_of(count, only))
 
 
 def rewrap_many(given, old_len, new_len, text_len, flags, count, only=None):
@@ -884,26 +897,25 @@ def rewrap_many(given, old_len, new_len, text_len, flags, count, only=None):
     new_kek = kek_of("new", new_len, only)
     texts = texts_of("text", text_len, count, only, flags, old_kek, new_kek)
     each = [Rewrap(old_kek, new_kek, text, flags) for text in texts]
+    call = Call(given, "keywrap_rewrap_many")
+    call.reads(old_kek)
+    call.reads(new_kek)
+    call.changes(joined(texts))
+    call.number32(flags)
+    call.changes(any_bytes("status", count))
+    unknown_slots = each if only is None else each[max(only, 0) : only + 1]
 
     def expected(is_zero):
-        made = [one.of(is_zero) for one in each]
+        texts_after, statuses = [], []
+        for one in each:
+            status, after, already = one.of(is_zero)
+            texts_after += after
+            statuses.append(ALREADY_NEW if already else status)
         if not each[0].legal:
             return each[0].refusal, None
-        return OK, [v for _, after, _ in made for v in after] + [
-            ALREADY_NEW if already else status for status, _, already in made
-        ]
+        return OK, texts_after + statuses
 
-    call = (
-        Call(given, "keywrap_rewrap_many")
-        .reads(old_kek)
-        .reads(new_kek)
-        .changes(sum(texts, []))
-        .number32(flags)
-    )
-    call.changes(any_bytes("status", count)).check(
-        expected,
-        lambda _: sum(one.forks for i, one in enumerate(each) if only in (None, i)),
-    )
+    call.check(expected, lambda _: sum(one.forks for one in unknown_slots))
 
 
 def kind_many(given, kek_len, text_len, count, only=None):
@@ -911,21 +923,27 @@ def kind_many(given, kek_len, text_len, count, only=None):
     texts = texts_of("text", text_len, count, only, KEEP_FORM, kek)
     legal = is_kek(kek_len) and is_padded_text(text_len)
     opened = [standard.unwrap_process(kek, text) for text in texts] if legal else []
+    room = max(text_len - 8, 0)
+    call = Call(given, "keywrap_kind_many")
+    call.reads(kek)
+    call.reads(joined(texts))
+    call.changes(any_bytes("old", room))
+    call.changes(any_bytes("form", count))
+    call.changes_numbers(any_bytes("number", given.module.size_bytes * count), count)
+    call.changes(any_bytes("status", count))
 
     def expected(is_zero):
         if not legal:
-            return BAD_LENGTH if is_kek(kek_len) else BAD_KEK, None
-        found = [form_of(a, key, is_zero) for a, key in opened]
-        return OK, [0] * (text_len - 8) + [one[0] if one else 0 for one in found] + [
-            v for one in found for v in given.size(one[1] if one else 0)
-        ] + [OK if one else INTEGRITY for one in found]
+            return refusal(kek_len), None
+        forms, lengths, statuses = [], [], []
+        for a, key in opened:
+            form, length = form_of(a, key, is_zero) or (0, None)
+            forms.append(form)
+            lengths += given.size(length or 0)
+            statuses.append(INTEGRITY if length is None else OK)
+        return OK, [0] * room + forms + lengths + statuses
 
-    call = Call(given, "keywrap_kind_many").reads(kek).reads(sum(texts, []))
-    call.changes(any_bytes("old", max(text_len - 8, 0))).changes(
-        any_bytes("form", count)
-    )
-    call.changes_numbers(any_bytes("number", given.module.size_bytes * count), count)
-    call.changes(any_bytes("status", count)).check(expected, forks_of(count, only))
+    call.check(expected, forks_of(count, only))
 
 
 def uneven_many(name, given, texts_len, lens, count, forms=None):

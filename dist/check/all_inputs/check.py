@@ -1,8 +1,8 @@
 #!/usr/bin/env python3
 """Checks keywrap.wasm or libkeywrap for x86-64 against the standards, for all inputs of some lengths at once.
 
-usage: check.py OBJECT [short | long | full | lanes] [PROCESSES] [OPTION..]     a list of calls (short)
-       check.py OBJECT CALL NUMBER.. [OPTION..]                     one call, for instance: wrap 32 16
+    check.py OBJECT [short | long | full | lanes] [PROCESSES] [OPTION..]     a list of calls (short)
+    check.py OBJECT CALL NUMBER.. [OPTION..]                     one call, for instance: wrap 32 16
 
   --look-ups=CALL,..   only these calls may look up tables, or `none` may. Without it all of them may.
   --seed=NUMBER        places everything in memory as the run with this seed did
@@ -10,14 +10,15 @@ usage: check.py OBJECT [short | long | full | lanes] [PROCESSES] [OPTION..]     
 OBJECT is a WebAssembly module or a shared object (.so). README.md says what a pass shows. The exit status is 0 if all
 calls pass, 1 if a call or an export is refused, and 2 if the arguments are wrong."""
 
+import argparse
 import enum
 import hashlib
 import inspect
-import multiprocessing
 import random
 import sys
 import textwrap
 import time
+from concurrent.futures import ProcessPoolExecutor
 from pathlib import Path
 from typing import NamedTuple
 
@@ -75,7 +76,7 @@ MADE_WITH_OTHERS = {
     "keywrap_next_rewrap_from",
     "keywrap_begin_unwrap_padded",
 }
-# Calls that keywrap.c does not have.
+# The step calls for many keys. keywrap.wasm does not have them.
 MANY_STEPS = {
     f"keywrap_{name}_many"
     for name in (
@@ -85,26 +86,6 @@ MANY_STEPS = {
         "begin_unwrap",
         "step_unwrap",
         "end_unwrap",
-    )
-}
-# keywrap.wasm exports these for keywrap.c, which is made from it. Nothing else calls them.
-ONLY_FOR_C = {
-    f"keywrap_{name}"
-    for name in (
-        "begin_wrap_slot",
-        "end_unwrap_slot",
-        "end_rewrap",
-        "end_rewrap_in_place",
-        "check_keks",
-        "check_kind",
-        "check_kind_many",
-        "check_padded",
-        "check_plain",
-        "check_rewrap_in_place",
-        "check_rewrap_many",
-        "check_room",
-        "check_unwrap_many",
-        "check_wrap_many",
     )
 }
 OF_A_MODULE = {"memory", "__heap_base", "__stack_pointer", "__in_call"}
@@ -117,27 +98,37 @@ def export_of(name):
     return "keywrap_" + EXPORT_OF.get(name, name)
 
 
-def knows_every_length(module):
-    """Of keywrap.wasm only: not of keywrap.c for wasm32, and not of machine code."""
+def is_keywrap_wasm(module):
+    """Whether it is the module of the JavaScript package. Another module is keywrap.c for wasm32."""
     return isinstance(module, wasm.Module) and module.size_bytes == 8
 
 
-def is_made(module, name):
-    """Whether the checker makes this call of the object."""
-    is_possible = name not in EVERY_LENGTH or knows_every_length(module)
-    return export_of(name) in module.exports and is_possible
+def why_not_made(module, name, numbers):
+    """Returns why the checker does not make this call of the object, or None. A wasm32 module has no length of 2^32."""
+    if export_of(name) not in module.exports:
+        return f"{export_of(name)} is not exported"
+    if name in EVERY_LENGTH and not isinstance(module, wasm.Module):
+        return f"{name} is a call of WebAssembly modules only"
+    if any(n >= 256**module.size_bytes for n in numbers):
+        return "a number that the object cannot be given"
+    return None
+
+
+def is_made(module, name, numbers):
+    return why_not_made(module, name, numbers) is None
 
 
 def wrong_exports(module):
     """Returns what is wrong with the names that the object exports, as texts."""
+    is_module = isinstance(module, wasm.Module)
     known = {export_of(name) for name in CALLS} | MADE_WITH_OTHERS
     exported = {*module.exports}
     missing = known - exported
-    if not exported & MANY_STEPS:
+    if is_keywrap_wasm(module):
         missing -= MANY_STEPS
     unknown = exported - known
-    if isinstance(module, wasm.Module):
-        unknown -= OF_A_MODULE | ONLY_FOR_C
+    if is_module:
+        unknown -= OF_A_MODULE
     wrong = [f"{name}: not exported" for name in sorted(missing)]
     for name in sorted(unknown):
         wrong.append(f"{name}: an export that is not in the headers")
@@ -200,13 +191,20 @@ class Checked:
         module = self.of_every_length if todo.name in EVERY_LENGTH else self.module
         try:
             result = perform(module, todo.name, todo.numbers, gap)
-            if result.variables not in self.after[todo.setting]:
-                result = "it leaves a third state of the variables"
+            result = self.refusal_of(result, todo.setting) or result
         except Refused as refused:
             result = str(refused)
         except Exception as fault:
             result = f"the checker has a fault: {type(fault).__name__}: {fault}"
         return result, time.process_time() - begun
+
+    def refusal_of(self, result, setting):
+        """Returns why the result of a call without a refusal is refused nevertheless, or None."""
+        if not result.paths:
+            return "no path of it comes to an end"
+        if result.variables not in self.after[setting]:
+            return "it leaves a third state of the variables"
+        return None
 
 
 def load(path, seed):
@@ -227,8 +225,10 @@ def all_todo(module, which, numbers):
         calls = first = [(which, *numbers)]
     else:
         calls = list(dict.fromkeys(lists.LISTS[which]()))
-        if knows_every_length(module):
+        if is_module:
             calls = [call for call in calls if not lists.is_covered(*call)]
+        else:
+            calls = [call for call in calls if call[0] not in EVERY_LENGTH]
         first = list(lists.short_list() if which == "full" else lists.one_of_each())
     settings = [(Setting.USUAL, calls)]
     if not is_module or which == "full" or which in CALLS:
@@ -240,7 +240,7 @@ def all_todo(module, which, numbers):
         Todo(name, tuple(numbers), setting)
         for setting, listed in settings
         for name, *numbers in listed
-        if is_made(module, name)
+        if is_made(module, name, numbers)
     ]
 
 
@@ -250,147 +250,178 @@ def all_todo(module, which, numbers):
 class Report:
     """Prints a line for each call, and keeps what the summary needs."""
 
-    def __init__(self, count, may_look_up):
-        self.count = count
+    def __init__(self, planned, may_look_up):
+        self.planned = planned
         self.may_look_up = may_look_up
-        self.done = self.bad = self.paths = 0
+        self.done = 0
+        self.paths = 0
         self.seconds = 0
-        self.places = {}
-        self.passed = {}
+        # Each call that passes, and how many paths it has.
+        self.passed = []
+        self.places = {}  # of branches on input bytes, with the names of the calls
         self.looking = set()
 
     def add(self, todo, result, took):
         self.done += 1
         self.seconds += took
-        line = f"[{self.done}/{self.count}] {todo}"
-        if not isinstance(result, str) and result.lookups and not self.may(todo):
-            result = f"{result.lookups} look-ups in tables"
-        if isinstance(result, str):
-            self.bad += 1
-            print(f"{line}: REFUSED: {result}", flush=True)
+        line = f"[{self.done}/{self.planned}] {todo}"
+        refusal = self.refusal_of(todo, result)
+        if refusal:
+            print(f"{line}: REFUSED: {refusal}", flush=True)
             return
-        statuses = set()
-        forks = set()
-        for status, places_of_path in result.paths:
-            statuses.add(status)
-            forks.update(places_of_path)
-        count = len(result.paths)
-        shown_statuses = ", ".join(map(str, sorted(statuses)))
-        branches = "; ".join(sorted(forks)) or "none"
-        print(
-            f"{line}: passes, status {shown_statuses}, {count} paths, branches: {branches}; "
-            f"{result.lookups} look-ups in tables, {result.shuffles} in registers, {result.steps} instructions, "
-            f"{result.stack} bytes of stack, {took:.1f} s",
-            flush=True,
-        )
-        self.paths += count
-        self.passed.setdefault(todo.name, []).append((todo.numbers, count))
-        for place in forks:
+        statuses = {status for status, _ in result.paths}
+        branches = {place for _, places_ in result.paths for place in places_}
+        print(f"{line}: passes, {described(result, statuses, branches)}, {took:.1f} s")
+        sys.stdout.flush()
+        self.paths += len(result.paths)
+        self.passed.append((todo, len(result.paths)))
+        for place in branches:
             self.places.setdefault(place, set()).add(todo.name)
         if result.lookups and todo.setting != Setting.WITHOUT_AES:
             self.looking.add(todo.name)
 
-    def may(self, todo):
+    def refusal_of(self, todo, result):
+        """Returns why a call is refused, or None if it passes."""
+        if isinstance(result, str):
+            return result
+        if result.lookups and not self.may_use_tables(todo):
+            return f"{result.lookups} look-ups in tables"
+        return None
+
+    def may_use_tables(self, todo):
         """Whether the call may look up tables. Without AES instructions it has to."""
-        return (
-            self.may_look_up is None
-            or todo.name in self.may_look_up
-            or todo.setting == Setting.WITHOUT_AES
-        )
+        if self.may_look_up is None or todo.setting == Setting.WITHOUT_AES:
+            return True
+        return todo.name in self.may_look_up
+
+    def all_pass(self):
+        return len(self.passed) == self.planned
 
     def summary(self):
-        passed = self.count - self.bad
         print_folded(
-            f"{passed} of {self.count} calls pass, {self.paths} paths, "
+            f"{len(self.passed)} of {self.planned} calls pass, {self.paths} paths, "
             f"{self.seconds:.0f} s of a processor"
         )
-        for name, calls in self.passed.items():
-            print_folded(shown(name, calls))
-        looking = ", ".join(sorted(self.looking)) or "none"
-        print_folded(f"look-ups in tables: {looking}")
+        for name in dict.fromkeys(todo.name for todo, _ in self.passed):
+            print_folded(self.passed_calls(name))
+        print_folded(f"look-ups in tables: {listed(self.looking)}")
         for place in sorted(self.places):
-            names = ", ".join(sorted(self.places[place]))
+            names = listed(self.places[place])
             print_folded(f"branch on input bytes at {place}: {names}")
+
+    def passed_calls(self, name):
+        """Returns how many calls of this name pass, and with which numbers."""
+        calls = [call for call in self.passed if call[0].name == name]
+        paths = sum(count for _, count in calls)
+        texts = []
+        for i, key in enumerate(names_of_numbers(name)):
+            given = {todo.numbers[i] for todo, _ in calls if i < len(todo.numbers)}
+            if len(given) > 8:
+                texts.append(f"{key} {min(given)} to {max(given)}")
+            elif given:
+                texts.append(" ".join(map(str, [key, *sorted(given)])))
+        return f"{name}: {len(calls)} calls, {paths} paths; {', '.join(texts)}"
+
+
+def described(result, statuses, branches):
+    """Returns what a call did, for its line."""
+    shown_statuses = ", ".join(map(str, sorted(statuses)))
+    shown_branches = "; ".join(sorted(branches)) or "none"
+    paths = f"status {shown_statuses}, {len(result.paths)} paths"
+    tables = f"{result.lookups} look-ups in tables, {result.shuffles} in registers"
+    size = f"{result.steps} instructions, {result.stack} bytes of stack"
+    return f"{paths}, branches: {shown_branches}; {tables}, {size}"
+
+
+def listed(names):
+    return ", ".join(sorted(names)) or "none"
 
 
 def print_folded(line):
     print(textwrap.fill(line, 118, subsequent_indent="    ", break_long_words=False))
 
 
-def shown(name, calls):
-    """Returns which numbers each number of these calls is, for (its numbers, its paths) of each call."""
-    texts = []
-    for i, key in enumerate(names_of_numbers(name)):
-        values = sorted({numbers[i] for numbers, _ in calls if i < len(numbers)})
-        if len(values) > 8:
-            texts.append(f"{key} {values[0]} to {values[-1]}")
-        elif values:
-            texts.append(" ".join(map(str, [key, *values])))
-    paths = sum(paths for _, paths in calls)
-    return f"{name}: {len(calls)} calls, {paths} paths; {', '.join(texts)}"
+# The arguments
 
 
-class Arguments(NamedTuple):
-    path: str
-    which: str  # a list or a call
-    numbers: list
-    may_look_up: list  # None: all calls
-    seed: int
+def parser():
+    """Returns the parser of the arguments."""
+    made = argparse.ArgumentParser(
+        description=__doc__,
+        usage="check.py OBJECT [LIST [PROCESSES] | CALL NUMBER..] [OPTION..]",
+        formatter_class=argparse.RawDescriptionHelpFormatter,
+        allow_abbrev=False,
+    )
+    made.add_argument("path", metavar="OBJECT")
+    made.add_argument("which", metavar="LIST or CALL", nargs="?", default="short")
+    made.add_argument("numbers", metavar="NUMBER", nargs="*", type=int)
+    made.add_argument("--look-ups", type=lambda names: names.split(","))
+    made.add_argument("--seed", type=int)
+    return made
 
 
 def parsed(words):
-    """Returns the arguments, or None if they are wrong."""
-    given = [word for word in words if not word.startswith("--")]
-    # A word without = has no value, which no option takes.
-    options = dict(
-        word[2:].partition("=")[::2] for word in words if word.startswith("--")
-    )
-    path, which = [*given, "short"][:2] if given else (None, None)
-    try:
-        numbers = [int(word) for word in given[2:]]
-        seed = int(options.pop("seed", random.SystemRandom().getrandbits(32)))
-        is_list = which in lists.LISTS and len(numbers) < 2
-        if not is_list:
-            inspect.signature(CALLS[which]).bind(None, *numbers)
-    except (KeyError, TypeError, ValueError):
-        return None
-    may_look_up = options.pop("look-ups").split(",") if "look-ups" in options else None
-    if options or not {*(may_look_up or [])} <= {*CALLS, "none"}:
-        return None
-    return Arguments(path, which, numbers, may_look_up, seed)
+    """Returns the arguments. Ends the program with status 2 if they are wrong."""
+    made = parser()
+    arguments = made.parse_intermixed_args(words)
+    if arguments.seed is None:
+        arguments.seed = random.SystemRandom().getrandbits(32)
+    if arguments.which in lists.LISTS:
+        if len(arguments.numbers) > 1:
+            made.error("a list has one number, of its processes")
+    elif arguments.which in CALLS:
+        try:
+            inspect.signature(CALLS[arguments.which]).bind(None, *arguments.numbers)
+        except TypeError as error:
+            made.error(f"{arguments.which}: {error}")
+    else:
+        made.error(f"neither a list nor a call: {arguments.which}")
+    for name in arguments.look_ups or []:
+        if name not in CALLS and name != "none":
+            made.error(f"not a call: {name}")
+    return arguments
+
+
+def results_of(todo, arguments, processes):
+    """Yields the result of each call, and its seconds of a processor."""
+    if processes == 1:
+        yield from map(tried, todo)
+        return
+    given = arguments.path, arguments.seed
+    with ProcessPoolExecutor(processes, initializer=load, initargs=given) as pool:
+        yield from pool.map(tried, todo)
 
 
 def main(words):
     arguments = parsed(words)
-    if arguments is None:
-        print(__doc__, file=sys.stderr)
-        return 2
-    path, which, numbers, may_look_up, seed = arguments
+    path, which, numbers = arguments.path, arguments.which, arguments.numbers
     try:
-        module = load(path, seed).module
-        refusal = checked.refusal
+        module = load(path, arguments.seed).module
+        content = Path(path).read_bytes()
     except Exception as error:  # not an object that this program can read
         print(f"{path}: {error}", file=sys.stderr)
         return 2
-    print(
-        f"{hashlib.sha256(Path(path).read_bytes()).hexdigest()}  {Path(path).name}, --seed={seed}"
-    )
-    wrong = wrong_exports(module) if which in lists.LISTS else []
-    wrong += [refusal] if refusal else []
-    for text in wrong:
+    if which in CALLS and not is_made(module, which, numbers):
+        why = why_not_made(module, which, numbers)
+        print(f"{path}: {why}", file=sys.stderr)
+        return 2
+    sha256 = hashlib.sha256(content).hexdigest()
+    print(f"{sha256}  {Path(path).name}, --seed={arguments.seed}")
+    refusals = []
+    processes = 1
+    if which in lists.LISTS:
+        refusals += wrong_exports(module)
+        processes = max([1, *numbers])
+    if checked.refusal:
+        refusals.append(checked.refusal)
+    for text in refusals:
         print(f"REFUSED: {text}")
     todo = all_todo(module, which, numbers)
-    processes = numbers[0] if which in lists.LISTS and numbers else 1
-    report = Report(len(todo), may_look_up)
-    if processes > 1:
-        pool = multiprocessing.Pool(processes, load, (path, seed))
-        results = pool.imap(tried, todo)
-    else:
-        results = map(tried, todo)
-    for each, (result, took) in zip(todo, results):
+    report = Report(len(todo), arguments.look_ups)
+    for each, (result, took) in zip(todo, results_of(todo, arguments, processes)):
         report.add(each, result, took)
     report.summary()
-    return int(bool(report.bad or wrong)) if todo else 2
+    return 0 if report.all_pass() and not refusals else 1
 
 
 if __name__ == "__main__":

@@ -48,6 +48,7 @@ class LongCall(Call):
         self.iv = None
 
     def array(self, name, size, may_change):
+        size = lengths.with_few_registers(size)
         self.arrays.append(Array(name, size, may_change))
         self.args += [unknown(name), size]
         heap = self.module.heap
@@ -112,12 +113,17 @@ class LongCall(Call):
         self.compare(path, status, got, wanted, list(numbers) or unchanged)
 
 
-def for_all(given, facts, build):
-    """Proves a call for all numbers for which these facts hold. `build` returns the call, and a function that checks a
-    path at its end. If the code asks something that the facts do not answer, the call runs again for each answer.
+def for_all(given, sums, build):
+    """Proves a call for all numbers for which these sums are at least 0. `build` returns the call, and a function that
+    checks a path at its end.
+
+    The code or the check may ask what the facts do not answer. In a loop that enciphers, the call runs again and stops
+    there: lengths.py has the proof of such a loop, by induction. Elsewhere it runs again for each answer.
     """
     loops = set()
-    waiting = [Facts(facts)]
+    waiting = [Facts(sums)]
+    if not waiting[0].are_possible():
+        raise Refused("the checker has a fault: no numbers of these lengths")
     count = 0
     while waiting:
         facts = waiting.pop()
@@ -127,20 +133,20 @@ def for_all(given, facts, build):
         if count > MOST_CASES:
             raise Refused("so many cases of lengths that it may not end")
         terms.forget()
-        lengths.forget()
+        lengths.begin(facts)
         Known.now = Known()
-        Facts.now = facts
         call, check = build()
         Facts.now = facts = facts.with_(*call.facts)
         run, paths = None, []
         try:
             call.begun()
-            run = call.run(frozenset(loops))
+            few = lengths.few_registers()
+            run = call.run(frozenset() if few else frozenset(loops))
             for path, status in call.ends_of(run):
                 check(path, status)
                 paths.append((status, path.forks))
         except Undecided as question:
-            loop = run.begun_again() if run else None
+            loop = run.loop_of_steps() if run and not few else None
             if loop:
                 loops.add(loop)
                 waiting.append(facts)
@@ -149,6 +155,8 @@ def for_all(given, facts, build):
             continue
         finally:
             Known.now = Known()
+        if not paths:
+            raise Refused("no path of it comes to an end")
         given.result.paths += paths
 
 
@@ -224,7 +232,7 @@ def form_of(a, registers, is_zero):
 def wrap(given, kek_len, iv_len=None):
     """With any initial value of 8 bytes if its length is given."""
 
-    def legal():
+    def legal_call():
         kek = any_kek("kek", kek_len)
         iv = standard.DEFAULT_IV
         call = LongCall(
@@ -249,11 +257,11 @@ def wrap(given, kek_len, iv_len=None):
         return call, check
 
     for order in ORDERS:
-        for_all(given, LEGAL + order, legal)
+        for_all(given, LEGAL + order, legal_call)
 
 
 def unwrap(given, kek_len, iv_len=None):
-    def legal():
+    def legal_call():
         kek = any_kek("kek", kek_len)
         iv = standard.DEFAULT_IV
         call = LongCall(
@@ -281,7 +289,7 @@ def unwrap(given, kek_len, iv_len=None):
         return call, check
 
     for order in ORDERS:
-        for_all(given, LEGAL + order, legal)
+        for_all(given, LEGAL + order, legal_call)
 
 
 def wrap_with(given, kek_len):
@@ -293,7 +301,7 @@ def unwrap_with(given, kek_len):
 
 
 def wrap_in_place(given, kek_len):
-    def legal():
+    def legal_call():
         kek = any_kek("kek", kek_len)
         call = LongCall(given, "keywrap_wrap_in_place").reads(kek)
         call.array("text", 8 * n + 8, True)
@@ -305,11 +313,11 @@ def wrap_in_place(given, kek_len):
 
         return call, check
 
-    for_all(given, LEGAL, legal)
+    for_all(given, LEGAL, legal_call)
 
 
 def unwrap_in_place(given, kek_len):
-    def legal():
+    def legal_call():
         kek = any_kek("kek", kek_len)
         call = LongCall(given, "keywrap_unwrap_in_place").reads(kek)
         call.array("text", 8 * n + 8, True).unwraps(kek, "text")
@@ -326,14 +334,14 @@ def unwrap_in_place(given, kek_len):
 
         return call, check
 
-    for_all(given, LEGAL, legal)
+    for_all(given, LEGAL, legal_call)
 
 
 # Padded. The key has z bytes less than its registers.
 
 
 def wrap_padded(given, kek_len, in_place=False):
-    def legal():
+    def legal_call():
         kek = any_kek("kek", kek_len)
         call = LongCall(given, "keywrap_wrap_padded" + "_in_place" * in_place).reads(
             kek
@@ -356,7 +364,7 @@ def wrap_padded(given, kek_len, in_place=False):
         return call, check
 
     for order in [[]] if in_place else PADDED_ORDERS:
-        for_all(given, LEGAL + [z, 7 - z] + order, legal)
+        for_all(given, LEGAL + [z, 7 - z] + order, legal_call)
 
 
 def wrap_padded_in_place(given, kek_len):
@@ -364,7 +372,7 @@ def wrap_padded_in_place(given, kek_len):
 
 
 def unwrap_padded(given, kek_len):
-    def legal():
+    def legal_call():
         kek = any_kek("kek", kek_len)
         call = LongCall(given, "keywrap_unwrap_padded").reads(kek)
         call.array("text", 8 * n + 8, False).array("key", 8 * n, True)
@@ -386,11 +394,11 @@ def unwrap_padded(given, kek_len):
         return call, check
 
     for order in ORDERS:
-        for_all(given, LEGAL + order, legal)
+        for_all(given, LEGAL + order, legal_call)
 
 
 def unwrap_padded_in_place(given, kek_len):
-    def legal():
+    def legal_call():
         kek = any_kek("kek", kek_len)
         call = LongCall(given, "keywrap_unwrap_padded_in_place").reads(kek)
         call.array("text", 8 * n + 8, True)
@@ -411,7 +419,7 @@ def unwrap_padded_in_place(given, kek_len):
 
         return call, check
 
-    for_all(given, LEGAL, legal)
+    for_all(given, LEGAL, legal_call)
 
 
 # Either form
@@ -420,7 +428,7 @@ def unwrap_padded_in_place(given, kek_len):
 def unwrap_any(given, kek_len, name="keywrap_unwrap_any"):
     is_kind = name == "keywrap_kind"
 
-    def legal():
+    def legal_call():
         kek = any_kek("kek", kek_len)
         call = LongCall(given, name).reads(kek)
         call.array("text", 8 * n + 8, False).array("key", 8 * n, True)
@@ -442,7 +450,7 @@ def unwrap_any(given, kek_len, name="keywrap_unwrap_any"):
         return call, check
 
     for order in ORDERS:
-        for_all(given, LEGAL + order, legal)
+        for_all(given, LEGAL + order, legal_call)
 
 
 def kind(given, kek_len):

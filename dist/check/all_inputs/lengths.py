@@ -25,41 +25,79 @@ from paths import Path, byte_of, cell_of, cells_of, joined
 from terms import N, V, Known, Refused, and_, fresh, input_byte, or_, shl, shr, xor
 
 MOST_REGISTERS = 131072
+FEW_REGISTERS = 4
+N_REGISTERS = unknown("n")
+LOOP = 3  # the kind of a label
 WORD = 8
 
 
 # Operations on unknown numbers
 
-_bytes_of, _number_of = {}, {}
+# The value of each number, by how many of its bytes are unknown; and the number of each value, for as_number.
+_value_of, _number_of = {}, {}
+_few_registers = None
 
 
-def forget():
-    for known in (_bytes_of, _number_of):
+def begin(facts):
+    """Begins a run under these facts. It forgets the values of numbers, as terms.forget() forgets their atoms. If the
+    facts allow only one number of registers, which is small, then the run has this number for n, and runs the loop over
+    the steps to its end."""
+    global _few_registers
+    for known in (_value_of, _number_of):
         known.clear()
+    Facts.now = facts
+    _few_registers = None
+    for count in range(2, FEW_REGISTERS + 1):
+        if facts.is_between(N_REGISTERS, count, count):
+            _few_registers = count
+
+
+def few_registers():
+    """Returns the number of registers, or None if it may be large."""
+    return _few_registers
+
+
+def with_few_registers(v):
+    """Returns a sum with the number of registers in it, if they are few."""
+    if isinstance(v, Lin) and _few_registers:
+        return v.with_value("n", _few_registers)
+    return v
 
 
 def as_bytes(v):
     """Returns an unknown number as a value of bytes. They are atoms, the same ones for the same number, and as few as
     the facts allow: what the code masks out has to be 0 here, too. Four are for a length that overflowed.
     """
+    v = with_few_registers(v)
     if not isinstance(v, Lin):
         return v
+    count, high = few_bytes(v)
+    if count is None:
+        raise Refused(f"the bytes of a number that may be large: {v}")
+    return value_of(v, count, high)
+
+
+def few_bytes(v):
+    """Returns how many of its bytes are unknown, and what the others are; or None twice for more than four."""
     for count, high in (1, 0), (2, 0), (3, 0), (4, v.constant >> 32 << 32):
         if Facts.now.is_between(v - high, 0, 256**count - 1):
-            return bytes_of(v, count, high)
-    raise Refused(f"the bytes of a number that may be large: {v}")
+            return count, high
+    return None, None
 
 
-def bytes_of(v, count, high):
-    if (v, count) not in _bytes_of:
+def value_of(v, count, high):
+    """Returns a number as a value: `count` atoms, and `high` above them, which follow from the number and the facts. It
+    is made once: its atoms are as old as the first request, which LongCall.begun relies on.
+    """
+    if (v, count) not in _value_of:
         made = 0
         for i in range(count):
             made = or_(made, shl(input_byte(("number", v), i), 8 * i, 64))
         if all(k % WORD == 0 for _, k in v.factors):  # the lowest bits are known
             made = or_(and_(made, 2**64 - WORD), v.constant % WORD)
-        _bytes_of[v, count] = or_(made, high)
-        _number_of[_bytes_of[v, count]] = v
-    return _bytes_of[v, count]
+        _value_of[v, count] = or_(made, high)
+        _number_of[_value_of[v, count]] = v
+    return _value_of[v, count]
 
 
 def as_number(v):
@@ -120,7 +158,16 @@ def split(v, unit):
     return None
 
 
+def small_number(v, limit):
+    """Returns a number below the limit, which the facts say or are asked for."""
+    return next(i for i in range(limit) if equal(v, i))
+
+
 def shift_left(a, k, w):
+    if isinstance(k, Lin) and Facts.now.is_between(k, 0, w - 1):
+        k = small_number(
+            k, w
+        )  # clang asks for some of a few lengths by the bits of a mask
     if isinstance(a, Lin) and isinstance(k, int) and k < 8:  # more moves bytes
         if Facts.now.is_between(a, 0, (2**w - 1) >> k):
             return times(a, 1 << k)
@@ -148,6 +195,9 @@ def both(a, b):
             found = split(a, b + 1)
             if found:
                 return found[1]
+        # Code may take a part of a length before it compares the length with the longest one.
+        if few_bytes(a) == (None, None) and not Facts.now.decides(b - a):
+            return and_(any_value(), b)
     return and_(as_bytes(a), as_bytes(b))
 
 
@@ -372,7 +422,7 @@ class Content:
             while Facts.now.decides(plus(inside, -k - 1)):
                 k += 1
             return write.cells[k : k + n]
-        constant, factors = parts(offset)
+        constant, factors = parts(with_few_registers(offset))
         name = self.origin, tuple(sorted(factors.items()))
         return [(input_byte(name, constant + k), 0) for k in range(n)]
 
@@ -396,9 +446,10 @@ def byte_of_cell(cell):
 
 def as_cell(cell):
     """Returns a cell that has no unknown number."""
-    if isinstance(cell, tuple) and isinstance(cell[0], Lin):
-        return as_bytes(cell[0]), cell[1]
-    return cell
+    if not isinstance(cell, tuple) or not isinstance(cell[0], Lin):
+        return cell
+    number, place = as_bytes(cell[0]), cell[1]
+    return cells_of(number, place + 1)[place]
 
 
 def first_difference(a, b, size):
@@ -476,7 +527,9 @@ class Run(wasm.Run):
         self.arrays = {array.name: array for array in arrays}
         self.loops = loops
         self.processes = processes
-        self.turns = {}
+        # Of each loop, by the depth of its frame and its place: whether it began again, and the look-ups before it.
+        self.has_begun_again = {}
+        self.lookups_before = {}
         self.path = None
 
     # Memory
@@ -568,36 +621,39 @@ class Run(wasm.Run):
     def chosen(self, path, v, most):
         if not isinstance(v, Lin):
             return super().chosen(path, v, most)
-        if Facts.now.decides(v - most):
-            return most
-        return next(i for i in range(most) if equal(v, i))
+        return most if Facts.now.decides(v - most) else small_number(v, most)
 
     def run(self, path, waiting):
         self.path = path
         return super().run(path, waiting)
 
     def stops_at(self, path, function, pc, is_back):
-        depth = len(path.state.frames)
-        self.turns[depth, pc] = self.turns.get((depth, pc), 0) + 1 if is_back else 0
+        loop = len(path.state.frames), pc
+        self.has_begun_again[loop] = is_back
+        if not is_back:
+            self.lookups_before[loop] = self.lookups
         if (function, pc) in self.loops:
             path.stopped = function, pc
             return True
         return False
 
-    def begun_again(self):
-        """Returns the outermost loop that has begun again, if one has."""
+    def loop_of_steps(self):
+        """Returns the outermost loop that has begun again and enciphers, if there is one. Other loops, such as those
+        over the buffers of a call, come to an end."""
         for depth, frame in enumerate(self.path.state.frames, 1):
-            for kind, pc, *_ in frame[5]:
-                if (
-                    kind == 3
-                    and self.turns.get((depth, pc))
-                    and (frame[0], pc) not in self.loops
-                ):
-                    return frame[0], pc
+            function, labels = frame[0], frame[5]
+            for kind, pc, *_ in labels:
+                if kind != LOOP or (function, pc) in self.loops:
+                    continue
+                has_begun_again = self.has_begun_again.get((depth, pc))
+                if has_begun_again and self.lookups > self.lookups_before[depth, pc]:
+                    return function, pc
         return None
 
     def ends(self, path):
         """Yields each path at the end of the call."""
+        if few_registers():
+            path.state.done = tuple(p.last_step() for p in self.processes)
         waiting = [path]
         while waiting:
             path = waiting.pop()
@@ -626,8 +682,19 @@ class Process:
         """Returns the first step, over these registers."""
         return Step(self, self.a, registers, q, i)
 
+    def last_step(self):
+        """Returns the last step for few registers, after all steps before it."""
+        count = few_registers()
+        places = [(count * j, i) for j in range(6) for i in range(count)]
+        if self.undo:
+            places.reverse()
+        registers = Content("none").with_copy(0, 8 * count, self.content, self.offset)
+        step = self.begin(registers, *places[0])
+        for place in places[1:]:
+            step = step.following(*place)
+        return step
 
-N_REGISTERS = unknown("n")
+
 ANY = object()
 _serial = itertools.count()
 
@@ -794,10 +861,15 @@ class Loop:
             self.check_step(invariant, *case)
         return invariant
 
-    # One turn of the loop
+    # One step of the standard
 
-    def turn(self, path):
-        """Returns the path at the loop after one turn."""
+    def after_one_step(self, path):
+        """Runs this path, which stands at the loop, to the next loop that it comes to, and returns it there.
+
+        The code may leave the loop and enter it again: so it goes from one round to the next. check_one checks that it
+        is the same loop. Raises NotInvariant if the code branches on an input, returns or stops in another frame, and
+        Undecided if the facts do not decide a branch.
+        """
         depth = len(path.state.frames)
         path.stopped = None
         ended = list(self.run.paths(path))
@@ -814,7 +886,7 @@ class Loop:
         way = -1 if self.process.undo else 1
         try:
             Facts.now = before.with_(N_REGISTERS - 3)
-            after = self.turn(self.started())
+            after = self.after_one_step(self.started())
             array, offset = self.registers_of(after)
             step = self.process.begin(self.seen(array, offset), q, i)
             words = step.words(), step.following(q, i + way).words()
@@ -947,7 +1019,7 @@ class Loop:
         path, step = self.path_at(invariant, *place)
         memory = dict(path.memory)
         state = path.state.copy()
-        after = self.turn(path)
+        after = self.after_one_step(path)
         following = step.following(*next_place)
         self.check_locals(invariant, following, after.state.frames[-1][4])
         same = after.state.globals == state.globals and after.forks == self.path.forks

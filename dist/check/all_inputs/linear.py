@@ -9,7 +9,7 @@ from terms import Refused
 
 
 class Undecided(Exception):
-    """The code asks whether a sum is at least 0, and the facts do not say it."""
+    """The code, or a check, asks whether a sum is at least 0, and the facts do not say it."""
 
     def __init__(self, total):
         super().__init__(f"not decided: {total} >= 0")

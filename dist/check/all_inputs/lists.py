@@ -218,11 +218,14 @@ def refusals_list():
                 yield name, kek, n, out
         for name in IN_PLACE:
             yield name, kek, n
+        # In a rewrap n is the length of the new KEK.
+        new_kek = n
+        has_one_bad_kek = (kek, new_kek) in ((17, 16), (16, 17))
         for text, flags in itertools.product((0, 8, 15, 16, 23), (0, 1, 4, 5, 8, 16)):
-            if (kek, n) in ((17, 16), (16, 17)) or n == 16 and text != 16:
-                yield from parsed(
-                    f"rewrap {kek} {n} {text} {flags},rewrap_in_place {kek} {n} {text} {flags}"
-                )
+            is_bad_text = new_kek == 16 and text != 16
+            if has_one_bad_kek or is_bad_text:
+                lengths = f"{kek} {new_kek} {text} {flags}"
+                yield from parsed(f"rewrap {lengths},rewrap_in_place {lengths}")
     for kek, n, name in itertools.product(KEKS, range(34), FOR_ONE_KEY):
         if n % 8 and not name.startswith("wrap_padded"):
             yield name, kek, n

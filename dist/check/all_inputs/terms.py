@@ -38,7 +38,7 @@ class V:
 
 
 class N:
-    """op(*args). It has no bit above those of `top`."""
+    """op(*args). Its bits are below top.bit_length()."""
 
     __slots__ = ("op", "args", "top", "h")
 
@@ -298,9 +298,8 @@ def and_(a, b):
             0 in (parts := [and_(part, b) for part in a.args]) or b == 1
         ):
             return or_(*parts)
-    elif bits(a) == 1 < bits(b) or bits(b) == 1 < bits(
-        a
-    ):  # the other bits of a register may be anything
+    elif bits(a) == 1 < bits(b) or bits(b) == 1 < bits(a):
+        # Of the other value only bit 0 counts.
         return and_(and_(a, 1), and_(b, 1))
     return a if a == b else N("and", a, b, top=min(bits(a), bits(b)))
 
@@ -369,11 +368,17 @@ def rotl(a, k, w):
     if not isinstance(k, int):
         raise Refused("a rotation by a secret")
     k %= w
-    if type(a) is not V or k == 0:
-        return or_(shl(a, k, w), shr(a, -k, w)) if k else a
-    high, low = ((1 << w) - (1 << k)) * EACH, ((1 << k) - 1) * EACH
-    c = (a.c << k | a.c >> w - k) & 2**w - 1
-    return V(c, {atom: x << k & high | x >> w - k & low for atom, x in a.t.items()})
+    if k == 0:
+        return a
+    if type(a) is not V:
+        return or_(shl(a, k, w), shr(a, -k, w))
+    high = ((1 << w) - (1 << k)) * EACH
+    low = ((1 << k) - 1) * EACH
+    constant = (a.c << k | a.c >> w - k) & 2**w - 1
+    rotated = {}
+    for atom, x in a.t.items():
+        rotated[atom] = x << k & high | x >> w - k & low
+    return V(constant, rotated)
 
 
 def rotr(a, k, w):
@@ -496,7 +501,7 @@ OPS = {
 
 
 class Known:
-    """Solved linear equations over the bits of atoms: each pivot bit is a sum of other bits. The form is canonical."""
+    """Solved linear equations over the bits of atoms: each pivot bit is a sum of other bits, none of them a pivot."""
 
     def __init__(self, rows=()):
         self.rows = dict(
@@ -558,8 +563,8 @@ class Known:
         return form(c, {atom: x for atom, x in t.items() if x})
 
     def rewritten(self, v):
-        """Returns the value with arguments of S and T that are reduced, too. An atom that is older than an equation has
-        its argument as it was before. This is what is known now, and `self` is Known.now.
+        """Returns the value with arguments of S and T that are reduced, too, but for those inside an N. An atom that is
+        older than an equation has its argument as it was before. Only Known.now may be asked: substituted() reads it.
         """
         waiting = list(v.t) if isinstance(v, V) else []
         met = {}
@@ -715,18 +720,22 @@ def less_by(a, i, w):
 
 def less_cases(v, limit, known):
     """Returns systems of equations. For an input for which `known` holds, v < limit if and only if one holds."""
-    if isinstance(v, N) and isinstance(limit, int) and limit <= 256:
-        a, b, *w = v.args
-        if v.op == "sub" and not isinstance(a, (V, N)):
-            values = [(b, less_by(a, i, w[0])) for i in range(limit)]
-        elif v.op == "add" and (isinstance(a, int) or isinstance(b, int)):
-            a, b = (b, a) if isinstance(a, int) else (a, b)
-            values = [(a, i - b & 2 ** w[0] - 1) for i in range(limit)]
-        else:
-            raise Refused(f"a decision over {show(v)[:200]}")
-        return [
-            case
-            for x, value in values
-            for case in zero_cases(xor(fits(x, w[0]), value), known)
-        ]
-    raise Refused(f"a decision over {show(v)[:200]} < {limit}")
+    if not isinstance(v, N) or not isinstance(limit, int) or limit > 256:
+        raise Refused(f"a decision over {show(v)[:200]} < {limit}")
+    a, b, *w = v.args
+    if v.op == "sub" and not isinstance(a, (V, N)):
+        x = b
+        values = [less_by(a, i, w[0]) for i in range(limit)]
+    elif v.op == "add" and isinstance(a, int):
+        x = b
+        values = [less_by(i, a, w[0]) for i in range(limit)]
+    elif v.op == "add" and isinstance(b, int):
+        x = a
+        values = [less_by(i, b, w[0]) for i in range(limit)]
+    else:
+        raise Refused(f"a decision over {show(v)[:200]}")
+    narrow = fits(x, w[0])
+    cases = []
+    for value in values:
+        cases += zero_cases(xor(narrow, value), known)
+    return cases

@@ -288,20 +288,16 @@ def older_atoms():
     """A value that was made before an equation was known is rewritten to the one that is made afterwards."""
     terms.forget()
     x, y, z = (fresh(name) for name in "xyz")
-    before = terms.substituted(
-        "T",
-        terms.xor(terms.substituted("S", terms.xor(terms.substituted("S", x), y)), z),
-    )
-    Known.now = Known().with_zero(terms.xor(x, terms.xor(z, 7)))
-    after = terms.substituted(
-        "T",
-        terms.xor(
-            terms.substituted(
-                "S", terms.xor(terms.substituted("S", terms.xor(z, 7)), y)
-            ),
-            z,
-        ),
-    )
+    equal_to_x = terms.xor(z, 7)
+
+    def made_of(v):
+        inner = terms.xor(terms.substituted("S", v), y)
+        outer = terms.xor(terms.substituted("S", inner), z)
+        return terms.substituted("T", outer)
+
+    before = made_of(x)
+    Known.now = Known().with_zero(terms.xor(x, equal_to_x))
+    after = made_of(equal_to_x)
     assert (
         Known.now.reduced(before)
         != after
@@ -385,35 +381,26 @@ class State(ctypes.Structure):
 
 def stub(i, lines):
     """Returns a function that loads all registers, runs these lines, and stores all registers and the flags."""
-    load = [
-        f"mov {name},[rdi+{8 * k}]" for k, name in enumerate(GENERAL) if name != "rdi"
-    ]
-    store = [
-        f"mov [rdi+{8 * k}],{name}" for k, name in enumerate(GENERAL) if name != "rdi"
-    ]
     saved = ["rbx", "rbp", "r12", "r13", "r14", "r15"]
+    push_saved, pop_saved = [], []
+    for name in saved:
+        push_saved.append(f"push {name}")
+        pop_saved.insert(0, f"pop {name}")
+    load_general, store_general = [], []
+    for k, name in enumerate(GENERAL):
+        if name != "rdi":  # it has the address of the State
+            load_general.append(f"mov {name},[rdi+{8 * k}]")
+            store_general.append(f"mov [rdi+{8 * k}],{name}")
+    load_xmm, store_xmm = [], []
+    for k in range(16):
+        load_xmm.append(f"movups xmm{k},[rdi+{128 + 16 * k}]")
+        store_xmm.append(f"movups [rdi+{128 + 16 * k}],xmm{k}")
+    load = [*push_saved, "push rdi", *load_xmm, *load_general, "mov rdi,[rdi+48]"]
+    store_flags = ["pushfq", "pop rax", "mov [rdi+120],rax"]
+    store_rdi = ["pop rax", "mov [rdi+48],rax"]
+    store = ["xchg rdi,[rsp]", *store_general, *store_flags, *store_rdi, *store_xmm]
     return "\n".join(
-        [
-            f".globl f{i}",
-            f"f{i}:",
-            *(f"push {name}" for name in saved),
-            "push rdi",
-            *(f"movups xmm{k},[rdi+{128 + 16 * k}]" for k in range(16)),
-            *load,
-            "mov rdi,[rdi+48]",
-            *lines,
-            "xchg rdi,[rsp]",
-            *store,
-            "pushfq",
-            "pop rax",
-            "mov [rdi+120],rax",
-            "pop rax",
-            "mov [rdi+48],rax",
-            *(f"movups [rdi+{128 + 16 * k}],xmm{k}" for k in range(16)),
-            *(f"pop {name}" for name in saved[::-1]),
-            "ret",
-            "",
-        ]
+        [f".globl f{i}", f"f{i}:", *load, *lines, *store, *pop_saved, "ret", ""]
     )
 
 

@@ -28,6 +28,16 @@ STEPS = 1_000_000_000  # more instructions than any call needs
 PAGE = 65536
 LONGEST = 1048584  # bytes of a text
 JS_STACK = 8192  # js/calls.js sets the stack pointer, and clears what is below
+FUNCTION = 0  # the kind of an export
+WITHOUT_CONTENT = 4, 12  # sections: the size of the table, and the number of segments
+# Codes of instructions
+BLOCK, LOOP, IF, ELSE, END = 0x02, 0x03, 0x04, 0x05, 0x0B
+BR_TABLE, CALL_INDIRECT = 0x0E, 0x11
+I32_CONST, I64_CONST = 0x41, 0x42
+I64_EXTEND_I32_U = 0xAD
+CONST, LOAD, STORE, UNARY_OP, BINARY_OP = 0x41, 0x28, 0x36, 0x45, 0x6A
+WITH_A_NUMBER = 0x0C, 0x0D, 0x10, 0x20, 0x21, 0x22, 0x23, 0x24
+WITHOUT_A_NUMBER = 0x00, 0x01, 0x0F, 0x1A, 0x1B
 LOADS = {0x28: 4, 0x29: 8, 0x2D: 1, 0x2F: 2, 0x31: 1, 0x33: 2, 0x35: 4}
 STORES = {0x36: 4, 0x37: 8, 0x3A: 1, 0x3B: 2, 0x3C: 1, 0x3D: 2, 0x3E: 4}
 
@@ -63,6 +73,9 @@ class Reader:
     def list(self, item):
         return [item() for _ in range(self.u())]
 
+    def name(self):
+        return self.take(self.u()).decode()
+
 
 class Module:
     def __init__(self, path):
@@ -70,7 +83,6 @@ class Module:
             data = file.read()
         if data[:8] != b"\0asm\1\0\0\0":
             raise Refused("not a WebAssembly module")
-        r = Reader(data, 8)
         self.types = []
         self.exports = {}
         self.globals = []
@@ -81,132 +93,189 @@ class Module:
         self.table = {}
         self.names = {}
         self.memory_bytes = 0
+        r = Reader(data, 8)
         while r.at < len(data):
-            kind = r.byte()
-            size = r.u()
-            end = r.at + size
-            if kind == 0 and r.take(r.u()) == b"name":
-                self.read_names(r, end)
-            elif kind == 1:
-                self.types = r.list(
-                    lambda: (r.byte(), r.list(r.byte), r.list(r.byte))[1:]
-                )
-            elif kind == 3:
-                self.functions = r.list(r.u)
-            elif kind == 5:
-                self.memory_bytes = PAGE * r.list(lambda: self.least_of(r))[0]
-            elif kind == 6:
-                self.globals = r.list(lambda: (r.take(2), self.constant(r))[1])
-            elif kind == 7:
-                self.exports = dict(
-                    r.list(lambda: (r.take(r.u()).decode(), (r.byte(), r.u())))
-                )
-            elif kind == 9:
-                for _ in range(r.u()):
-                    assert r.u() == 0
-                    at = self.constant(r)
-                    self.table |= {at + i: f for i, f in enumerate(r.list(r.u))}
-            elif kind == 10:
-                self.code = r.list(lambda: self.body(r))
-            elif kind == 11:
-                for at, found in r.list(
-                    lambda: (r.u(), self.constant(r), r.take(r.u()))[1:]
-                ):
-                    self.constants |= enumerate(found, at)
-            elif kind not in (0, 4, 5, 12):
-                raise Refused(f"section {kind}")
-            r.at = end
-        # Memory is zero where no segment is. A linker leaves zeros out.
-        self.constants = (
-            dict.fromkeys(range(min(self.constants), max(self.constants)), 0)
-            | self.constants
-        )
+            self.read_section(r)
+        self.constants = without_gaps(self.constants)
         self.heap = self.globals[self.exports["__heap_base"][1]]
-        stack_pointer = self.globals[self.exports["__stack_pointer"][1]]
-        if min(self.constants) < stack_pointer <= max(self.constants):
+        stack_global = self.exports["__stack_pointer"][1]
+        if min(self.constants) < self.globals[stack_global] <= max(self.constants):
             raise Refused("a stack that begins in the constants")
         # Only the module of the JavaScript package exports its guard. It has 64-bit numbers, keywrap.c has 32-bit ones.
         self.size_bytes = 8 if "__in_call" in self.exports else 4
         if self.size_bytes == 8:
-            self.globals[self.exports["__stack_pointer"][1]] = JS_STACK
+            self.globals[stack_global] = JS_STACK
             if self.memory_bytes < self.heap + 2 * LONGEST:
                 raise Refused("a memory that has no room for a key and its text")
         for name, (kind, index) in self.exports.items():
-            if kind == 0:
+            if kind == FUNCTION:
                 self.names.setdefault(index, name)
 
-    @staticmethod
-    def least_of(r):
-        """Returns the pages of a memory at the beginning."""
-        has_most = r.byte()
-        least = r.u()
-        if has_most:
-            r.u()
-        return least
+    # Sections
 
-    def read_names(self, r, end):
+    def read_section(self, r):
+        number = r.byte()
+        size = r.u()
+        end = r.at + size
+        if number == 0:
+            self.read_custom(r, end)
+        elif number in self.readers:
+            self.readers[number](self, r)
+        elif number not in WITHOUT_CONTENT:
+            raise Refused(f"section {number}")
+        r.at = end
+
+    def read_custom(self, r, end):
+        """Reads the names of functions, which only the output needs."""
+        if r.name() != "name":
+            return
         while r.at < end:
             kind = r.byte()
             after = r.u() + r.at
             if kind == 1:
-                self.names = dict(r.list(lambda: (r.u(), r.take(r.u()).decode())))
+                for _ in range(r.u()):
+                    index = r.u()
+                    self.names[index] = r.name()
             r.at = after
+
+    def read_types(self, r):
+        for _ in range(r.u()):
+            r.byte()
+            parameters = r.list(r.byte)
+            results = r.list(r.byte)
+            self.types.append((parameters, results))
+
+    def read_functions(self, r):
+        self.functions = r.list(r.u)
+
+    def read_memory(self, r):
+        """Reads how many bytes the memory has at the beginning."""
+        for _ in range(r.u()):
+            has_most = r.byte()
+            self.memory_bytes = PAGE * r.u()
+            if has_most:
+                r.u()
+
+    def read_globals(self, r):
+        for _ in range(r.u()):
+            r.take(2)  # its type, and whether it may change
+            self.globals.append(self.constant(r))
+
+    def read_exports(self, r):
+        for _ in range(r.u()):
+            name = r.name()
+            kind = r.byte()
+            self.exports[name] = kind, r.u()
+
+    def read_table(self, r):
+        for _ in range(r.u()):
+            if r.u() != 0:
+                raise Refused("an element of another kind")
+            at = self.constant(r)
+            for function in r.list(r.u):
+                self.table[at] = function
+                at += 1
+
+    def read_code(self, r):
+        self.code = r.list(lambda: self.body(r))
+
+    def read_data(self, r):
+        for _ in range(r.u()):
+            r.u()
+            at = self.constant(r)
+            content = r.take(r.u())
+            self.constants.update(enumerate(content, at))
+
+    readers = {
+        1: read_types,
+        3: read_functions,
+        5: read_memory,
+        6: read_globals,
+        7: read_exports,
+        9: read_table,
+        10: read_code,
+        11: read_data,
+    }
 
     @staticmethod
     def constant(r):
-        width = {0x41: 32, 0x42: 64}[r.byte()]
+        width = {I32_CONST: 32, I64_CONST: 64}[r.byte()]
         value = r.s(width)
-        assert r.byte() == 0x0B
+        if r.byte() != END:
+            raise Refused("a constant that is computed")
         return value
 
+    # Code. Instructions that do the same have one code.
+
     def body(self, r):
+        """Returns how many locals a function has beside its parameters, and its instructions."""
         end = r.u() + r.at
-        local_count = sum(n for n, _ in r.list(lambda: (r.u(), r.byte())))
-        code, opened = [], []
+        local_count = 0
+        for _ in range(r.u()):
+            local_count += r.u()
+            r.byte()
+        code = []
+        opened = []
         while r.at < end:
-            op = r.byte()
-            if op in (2, 3, 4):
-                opened.append(len(code))
-                code.append(
-                    [op, {0x40: 0, 0x7E: 1, 0x7F: 1}[r.byte()], None, None]
-                )  # arity, end, else
-            elif op == 5:
-                code[opened[-1]][3] = len(code)
-                code.append([op, opened[-1]])
-            elif op == 0x0B:
-                if opened:
-                    code[opened.pop()][2] = len(code)
-                code.append([op])
-            elif op in (0x0C, 0x0D, 0x10, 0x20, 0x21, 0x22, 0x23, 0x24):
-                code.append([op, r.u()])
-            elif op == 0x11:
-                code.append([op, (r.u(), r.u())[0]])
-            elif op == 0x0E:
-                code.append([op, r.list(r.u) + [r.u()]])
-            elif op == 0x41:
-                code.append([0x41, r.s(32)])
-            elif op == 0x42:
-                code.append([0x41, r.s(64)])
-            elif op in LOADS or op in STORES:
-                r.u()
-                code.append(
-                    [0x28, r.u(), LOADS[op]]
-                    if op in LOADS
-                    else [0x36, r.u(), STORES[op]]
-                )
-            elif op == 0xFC:
-                sub_op = r.u()
-                r.take({10: 2, 11: 1}[sub_op])
-                code.append([0xFC00 + sub_op])
-            elif op in self.binary:
-                code.append([0x6A, self.binary[op]])
-            elif op in self.unary:
-                code.append([0x45, self.unary[op]])
-            elif op in (0, 1, 0x0F, 0x1A, 0x1B):
-                code.append([op])
-            elif op != 0xAD:  # a number of 32 bits becomes one of 64 bits
-                raise Refused(f"opcode {op:#x}")
+            instruction = self.instruction(r, code, opened)
+            if instruction:
+                code.append(instruction)
         return local_count, code
+
+    def instruction(self, r, code, opened):
+        """Returns the next instruction, or None for one that does nothing. `code` are those before it, and `opened` the
+        places of blocks that have not ended."""
+        at = len(code)
+        op = r.byte()
+        if op in (BLOCK, LOOP, IF):
+            opened.append(at)
+            result_count = {0x40: 0, 0x7E: 1, 0x7F: 1}[r.byte()]
+            return [op, result_count, None, None]  # results, end, else
+        if op == ELSE:
+            code[opened[-1]][3] = at
+            return [op, opened[-1]]
+        if op == END:
+            if opened:
+                code[opened.pop()][2] = at
+            return [op]
+        if op in WITH_A_NUMBER:
+            return [op, r.u()]
+        if op == CALL_INDIRECT:
+            type_index = r.u()
+            r.u()  # the table
+            return [op, type_index]
+        if op == BR_TABLE:
+            targets = r.list(r.u)
+            return [op, [*targets, r.u()]]
+        if op == I32_CONST:
+            return [CONST, r.s(32)]
+        if op == I64_CONST:
+            return [CONST, r.s(64)]
+        if op in LOADS or op in STORES:
+            r.u()  # its alignment
+            offset = r.u()
+            if op in LOADS:
+                return [LOAD, offset, LOADS[op]]
+            return [STORE, offset, STORES[op]]
+        if op == 0xFC:
+            operation = r.u()
+            r.take({10: 2, 11: 1}[operation])
+            return [0xFC00 + operation]
+        if op in self.binary:
+            return [BINARY_OP, self.binary[op]]
+        if op in self.unary:
+            return [UNARY_OP, self.unary[op]]
+        if op in WITHOUT_A_NUMBER:
+            return [op]
+        if op == I64_EXTEND_I32_U:
+            return None
+        raise Refused(f"opcode {op:#x}")
+
+
+def without_gaps(constants):
+    """Returns them with zeros where no segment is: memory is zero there, and a linker leaves zeros out."""
+    zeros = dict.fromkeys(range(min(constants), max(constants)), 0)
+    return zeros | constants
 
 
 def signed(v, w):
@@ -296,11 +365,13 @@ class Run(Machine):
             yield path, path.results[0] if path.results else None
 
     def enter(self, path, index, args):
-        params, results = self.module.types[self.module.functions[index]]
+        _, results = self.module.types[self.module.functions[index]]
         local_count, code = self.module.code[index]
-        path.state.frames.append(
-            [index, code, len(results), [0], args + [0] * local_count, []]
-        )
+        stack = [0]
+        locals_ = args + [0] * local_count
+        labels = []
+        frame = [index, code, len(results), stack, locals_, labels]
+        path.state.frames.append(frame)
 
     def stops_at(self, path, function, pc, is_back):
         """Whether the run ends at this loop, at its beginning or when it goes back to it. lengths.py asks for that."""

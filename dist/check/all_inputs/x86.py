@@ -196,8 +196,9 @@ def instruction(text, base, note):
 
 
 class State:
-    """A register of 64 bits is a value, or None: any value, which is not made yet; or (value, byte): the byte replaces
-    the lowest of the value. A register xmm is 16 cells. `flags` are what made them."""
+    """A register of 64 bits is a value; or None: any value, which is not made yet; or (value, byte) after a write of
+    its lowest byte, which is 0 in the value. A register xmm is 16 cells. `flags` are what made them.
+    """
 
     def __init__(self, registers, xmm, at=0):
         self.registers = registers
@@ -317,6 +318,7 @@ class Run(Machine):
         return total
 
     def register(self, path, name, w):
+        """Returns the lowest w bits of a register, by its name of 64 bits. Makes its value if it has none yet."""
         v = path.state.registers[name]
         if v is None:
             v = path.state.registers[name] = joined(
@@ -404,8 +406,9 @@ class Run(Machine):
             before,
         )
         path.state.registers |= dict(zip(ARGUMENTS, args))
-        for register in PRESERVED:
-            self.register(path, register, 64)
+        # This makes the values that the call has to restore.
+        for name in PRESERVED:
+            self.register(path, name, 64)
         on_stack = args[len(ARGUMENTS) :]
         path.state.registers["rsp"] = self.stack.stop - 16 * -(-len(on_stack) // 2)
         for i, v in enumerate(on_stack):
