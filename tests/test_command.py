@@ -1,5 +1,5 @@
 """The program in C of dist/command: that it is what the tree makes, the rows of the program over it, other compilers
-and machines, random command lines beside the program that rt built, sanitizers, and planted bugs."""
+and machines, random command lines compared with the program that rt built, sanitizers, and planted bugs."""
 
 import os
 import pathlib
@@ -13,7 +13,7 @@ import pytest
 
 from builds import run
 from commands import ANSWERS, REFUSALS
-from program import IN_C, SLOW, Ended, Program, all_of, evidence, slow
+from program import IN_C, Ended, Program, all_of, evidence, slow
 from test_random_arguments import Lines, make_files, state
 from tools import need
 from vectors import VECTOR_LINES
@@ -48,39 +48,30 @@ DRILLED = "a6a6a6a6a6a6a6a6001122334455667f8899aabbccddeefb"
 def built(directory, compiler="cc", *options, source=DIST / "command", names=SOURCES):
     """Compiles the program of this directory, each file once. The objects of other names are there."""
     shutil.copytree(source, directory, dirs_exist_ok=True)
+    command = [*compiler.split(), *options]
     for name in names:
-        run(
-            *compiler.split(),
-            *options,
-            "-c",
-            directory / name,
-            "-o",
-            directory / f"{name}.o",
-        )
-    run(
-        *compiler.split(),
-        *options,
-        *[directory / f"{name}.o" for name in SOURCES],
-        "-o",
-        directory / "keywrap",
-    )
-    return directory / "keywrap"
+        run(*command, "-c", directory / name, "-o", directory / f"{name}.o")
+    objects = [directory / f"{name}.o" for name in SOURCES]
+    program = directory / "keywrap"
+    run(*command, *objects, "-o", program)
+    return program
 
 
 def edited(directory, *edits):
     """The directory, after edits: the name of a file, a text that it has once, and the new text."""
     for name, old, new in edits:
-        text = pathlib.Path(directory, name).read_text()
+        file = pathlib.Path(directory, name)
+        text = file.read_text()
         assert text.count(old) == 1
-        pathlib.Path(directory, name).write_text(text.replace(old, new))
+        file.write_text(text.replace(old, new))
     return directory
 
 
-def rows(path, files, *options, with_slow=True):
-    """Runs rows of the program over the program at this path, slow ones only if this run has them, too. Returns how
-    pytest ended, and what it printed."""
+def rows(path, files, *options, with_slow=True, variables={}):
+    """Runs rows of the program over the program at this path, slow ones only if this run has them, too, with these
+    variables of the environment. Returns how pytest ended, and what it printed."""
     tests = [ROOT / f"tests/test_{file}.py" for file in files]
-    command = [
+    pytest_here = [
         sys.executable,
         "-m",
         "pytest",
@@ -88,23 +79,20 @@ def rows(path, files, *options, with_slow=True):
         "-rs",
         "-p",
         "no:cacheprovider",
-        *options,
-        *tests,
     ]
-    # TESTS names test programs of the crates, which do not run the program at this path.
-    env = {
-        name: value
-        for name, value in os.environ.items()
-        if not name.startswith(("PYTEST_", "KEYWRAP", "TESTS"))
-    }
+    env = {"KEYWRAP": str(path), **variables}
+    for name, value in os.environ.items():
+        # TESTS names test programs of the crates, which do not run the program at this path.
+        if not name.startswith(("PYTEST_", "KEYWRAP", "TESTS")):
+            env[name] = value
     if with_slow and "KEYWRAP_ALL" in os.environ:
         env["KEYWRAP_ALL"] = os.environ["KEYWRAP_ALL"]
     ended = subprocess.run(
-        [*map(str, command)],
+        [*pytest_here, *options, *tests],
         capture_output=True,
         text=True,
         cwd=ROOT / "tests",
-        env={**env, "KEYWRAP": str(path)},
+        env=env,
     )
     return ended.returncode, ended.stdout
 
@@ -113,12 +101,10 @@ def rows(path, files, *options, with_slow=True):
 def test_is_of_these_sources():
     """dist/command/program.c names the checksum of the sources that it is made of. It is written again for a release,
     and not with each commit."""
-    named = re.search(
-        r"^ \* Of the sources (\w+)\.$", (DIST / "command/program.c").read_text(), re.M
-    )[1]
-    assert (
-        run(sys.executable, ROOT / "generate/command.py", "--sources").strip() == named
-    )
+    program = (DIST / "command/program.c").read_text()
+    named = re.search(r"^ \* Of the sources (\w+)\.$", program, re.M)[1]
+    computed = run(sys.executable, ROOT / "generate/command.py", "--sources")
+    assert computed.strip() == named
 
 
 def test_checksum_by_sh():
@@ -133,18 +119,21 @@ def test_drill(in_c):
 
 def test_version(in_c, keywrap):
     """A second line says that this is the program in C."""
-    one, other = keywrap("--version"), Program(in_c)("--version")
-    assert other == one._replace(stdout=one.stdout.splitlines(True)[0] + IN_C)
-    assert Program(in_c)("wrap --version").stdout == one.stdout.splitlines(True)[0]
+    ended = keywrap("--version")
+    first_line = ended.stdout.splitlines(True)[0]
+    program_in_c = Program(in_c)
+    ended_in_c = program_in_c("--version")
+    assert ended_in_c == ended._replace(stdout=first_line + IN_C)
+    assert program_in_c("wrap --version").stdout == first_line
 
 
 def assert_rows(path, file, record_property, with_slow=True):
     """The rows of the program in a file pass over the program at this path, or are skipped for a reason."""
-    status, said = rows(path, [file], "-k", APART, with_slow=with_slow)
-    for count, reason in re.findall(r"^SKIPPED \[(\d+)\] \S+ (.*)$", said, re.M):
+    status, output = rows(path, [file], "-k", APART, with_slow=with_slow)
+    for count, reason in re.findall(r"^SKIPPED \[(\d+)\] \S+ (.*)$", output, re.M):
         for _ in range(int(count)):
-            record_property("skipped", SLOW if reason == SLOW else reason)
-    assert status == 0, said[-3000:]
+            record_property("skipped", reason)
+    assert status == 0, output[-3000:]
 
 
 @pytest.mark.parametrize("file", all_of(FILES, {"answers", "reasons"}))
@@ -180,17 +169,17 @@ def test_other_compilers(compiler):
 def test_end_of_the_stack(left_out):
     """A stack that is full ends the program, before it writes below it, unless the check is left out."""
     need("cc")
-    source = edited(
-        shutil.copytree(DIST / "command", "source"),
-        ("program.c", "stack_pointer = TOP;", "stack_pointer = 2048;"),
-        *left_out,
-    )
-    ended = Program(built(pathlib.Path("here"), source=source))(DRILL)
-    assert (ended == Ended(-signal.SIGABRT)) == (left_out == [])
+    source = shutil.copytree(DIST / "command", "source")
+    nearly_full = ("program.c", "stack_pointer = TOP;", "stack_pointer = 2048;")
+    edited(source, nearly_full, *left_out)
+    program = Program(built(pathlib.Path("here"), source=source))
+    is_aborted = program(DRILL) == Ended(-signal.SIGABRT)
+    assert is_aborted == (left_out == [])
 
 
 # Planted in a copy of the script and of the runtime.
-SCRIPT, RUNTIME = "generate/command.py", "dist/command/module.h"
+SCRIPT = "generate/command.py"
+RUNTIME = "dist/command/module.h"
 TRANSLATION = [
     (SCRIPT, '"sub": "-"', '"sub": "+"'),
     (SCRIPT, 'if operation == "shr_s":', 'if operation == "shr":'),
@@ -229,16 +218,18 @@ def test_instructions(edits):
     """Each instruction gives what Node's WebAssembly gives, and a wrong translation does not."""
     for name in "generate", "c", "dist":
         shutil.copytree(ROOT / name, f"tree/{name}")
+    edited("tree", *edits)
     ended = subprocess.run(
         [sys.executable, ROOT / "tests/command/instructions.py", "."],
         capture_output=True,
         text=True,
-        env={**os.environ, "TREE": edited("tree", *edits)},
+        env={**os.environ, "TREE": "tree"},
     )
+    output = ended.stdout + ended.stderr
     differing = re.match(r"\d+ results, (\d+) differ", ended.stdout)
-    assert differing and (differing[1] == "0") == (edits == []), (
-        ended.stdout + ended.stderr
-    )
+    assert differing, output
+    is_right = differing[1] == "0"
+    assert is_right == (edits == []), output
 
 
 # A module that the script translates, one that differs, and what the script then says.
@@ -306,17 +297,24 @@ UNKNOWN_WASM = [
 @pytest.mark.parametrize("old, new, said", UNKNOWN_WASM)
 def test_unknown_part_of_a_module(old, new, said):
     """command.py stops at it."""
-    assert old in WAT
-    pathlib.Path("module.wat").write_text(WAT.replace(old, new) if old else WAT)
-    ended = subprocess.run(
-        [sys.executable, ROOT / "generate/command.py", "module.wat", "out"],
-        capture_output=True,
-        text=True,
-    )
-    assert (ended.returncode, said in ended.stderr) == (
-        1 if said else 0,
-        True,
-    ), ended.stderr
+    write_edited("module.wat", WAT, old, new)
+    generator = ROOT / "generate/command.py"
+    assert_stops([generator, "module.wat", "out"], said)
+
+
+def write_edited(file, text, old, new):
+    """Writes the text with `new` in the place of `old`, or as it is if both are empty."""
+    assert old in text
+    if old:
+        text = text.replace(old, new)
+    pathlib.Path(file).write_text(text)
+
+
+def assert_stops(command, message):
+    """The Python program stops with the message, or does its work if that is empty."""
+    ended = subprocess.run([sys.executable, *command], capture_output=True, text=True)
+    assert ended.returncode == (1 if message else 0), ended.stderr
+    assert message in ended.stderr, ended.stderr
 
 
 # As above, a module of LLVM.
@@ -381,26 +379,11 @@ UNKNOWN_LLVM = [
 @pytest.mark.parametrize("old, new, said", UNKNOWN_LLVM)
 def test_unknown_part_of_a_module_of_llvm(old, new, said):
     """command_module.py stops at it."""
-    assert old in LL
-    pathlib.Path("native.ll").write_text(LL.replace(old, new) if old else LL)
-    pathlib.Path("target.ll").write_text(
-        f'target datalayout = "{LAYOUT}"\ntarget triple = "wasm64"\n'
-    )
-    ended = subprocess.run(
-        [
-            sys.executable,
-            ROOT / "generate/command_module.py",
-            "native.ll",
-            "target.ll",
-            "module.ll",
-        ],
-        capture_output=True,
-        text=True,
-    )
-    assert (ended.returncode, said in ended.stderr) == (
-        1 if said else 0,
-        True,
-    ), ended.stderr
+    write_edited("native.ll", LL, old, new)
+    target = f'target datalayout = "{LAYOUT}"\ntarget triple = "wasm64"\n'
+    pathlib.Path("target.ll").write_text(target)
+    generator = ROOT / "generate/command_module.py"
+    assert_stops([generator, "native.ll", "target.ll", "module.ll"], said)
 
 
 def works(program, keywrap):
@@ -410,18 +393,18 @@ def works(program, keywrap):
     for command in [*ANSWERS, *REFUSALS]:
         if command.stdout is not None:
             ended = program(command.args, stdin=command.given, text=False)
-            assert ended == Ended(
-                command.status, command.stdout, command.stderr
-            ), command.name
+            due = Ended(command.status, command.stdout, command.stderr)
+            assert ended == due, command.name
     # A hint takes floating point.
-    assert program("warp") == keywrap("warp") and "similar" in program("warp").stderr
+    hinted = program("warp")
+    assert hinted == keywrap("warp")
+    assert "similar" in hinted.stderr
     lines = "".join(f"{number:064x}\n" for number in range(500))
     wrapped = keywrap("wrap --lines --kek kek32.hex", stdin=lines)
     assert program("wrap --lines --kek kek32.hex -o to", stdin=lines) == Ended(0)
     assert pathlib.Path("to").read_text() == wrapped.stdout
-    assert program("unwrap --lines --kek kek32.hex", stdin=wrapped.stdout) == Ended(
-        0, lines
-    )
+    unwrapped = program("unwrap --lines --kek kek32.hex", stdin=wrapped.stdout)
+    assert unwrapped == Ended(0, lines)
 
 
 @slow
@@ -439,18 +422,9 @@ def test_wrong_instructions_are_not_used(once, keywrap, old, new):
     need("cc")
     objects = once("objects", lambda directory: built(directory, "cc", "-O1", "-w"))
     source = edited(shutil.copytree(objects, "source"), ("aes.c", old, new))
-    works(
-        Program(
-            built(
-                pathlib.Path("here").absolute(),
-                "cc",
-                "-O1",
-                source=source,
-                names=["aes.c"],
-            )
-        ),
-        keywrap,
-    )
+    here = pathlib.Path("here").absolute()
+    path = built(here, "cc", "-O1", source=source, names=["aes.c"])
+    works(Program(path), keywrap)
 
 
 # Each machine: its compiler, and what runs its programs here.
@@ -460,6 +434,7 @@ MACHINES = {
     "aarch64": ("aarch64-linux-gnu-gcc -static", ["qemu-aarch64"]),
     "riscv64": ("riscv64-linux-gnu-gcc -static", ["qemu-riscv64"]),
     "arm": ("arm-linux-gnueabihf-gcc -static", ["qemu-arm"]),
+    "i686": ("i686-linux-gnu-gcc -static", ["qemu-i386"]),
     "an old x86-64": ("gcc -static", ["qemu-x86_64", "-cpu", "core2duo"]),
 }
 
@@ -481,24 +456,25 @@ def test_machines(keywrap, name):
 def test_random_command_lines_as_native(in_c, keywrap):
     """The same bytes, statuses and files. KEYWRAP_RANDOM='N SEED' tries N command lines of this seed."""
     keywrap.need_kit()
-    count, seed = (
-        int(word) for word in os.environ.get("KEYWRAP_RANDOM", "1000 5649").split()
-    )
-    lines, other = Lines(seed), Program(in_c)
+    words = os.environ.get("KEYWRAP_RANDOM", "1000 5649").split()
+    count, seed = map(int, words)
+    lines = Lines(seed)
+    other = Program(in_c)
 
     def ended(program, words, given):
         make_files()
         done = program(words, cwd="here", stdin=pathlib.Path("here", given), text=False)
-        left = {
-            path: (found[0], path.read_bytes() if path.is_file() else None)
-            for path, found in state().items()
-        }
+        left = {}
+        for path, file in state().items():
+            content = path.read_bytes() if path.is_file() else None
+            left[path] = file.mode, content
         return done, left
 
     for _ in range(count):
         words, given = lines.line()
         if not {"--version", "-V"} & {*words}:
-            assert ended(keywrap, words, given) == ended(other, words, given), words
+            due = ended(keywrap, words, given)
+            assert ended(other, words, given) == due, words
 
 
 # Rows that preload a library, trace the program, limit its memory, or leave it no descriptor: then the sanitizer waits.
@@ -511,20 +487,18 @@ UNSANITIZED = """test_descriptors or test_growing_memory or test_memory_does_not
 @evidence
 @pytest.mark.parametrize("file", [file for file in FILES if file != "allocations"])
 def test_sanitizers(once, file):
-    """Neither the address sanitizer nor that of undefined behaviour reports anything."""
+    """Neither the address sanitizer nor the sanitizer of undefined behaviour reports anything."""
     need("sanitizers of gcc")
     options = "-O1", "-g", "-fsanitize=address,undefined", "-fno-sanitize-recover=all"
-    status, said = rows(
-        once(
-            "sanitized program in C",
-            lambda directory: built(directory, "gcc", *options),
-        )
-        / "keywrap",
-        [file],
-        "-k",
-        f"{APART} and not ({' '.join(UNSANITIZED.split())})",
-    )
-    assert status == 0, said[-3000:]
+
+    def build(directory):
+        built(directory, "gcc", *options)
+
+    path = once("sanitized program in C", build) / "keywrap"
+    unsanitized = " ".join(UNSANITIZED.split())
+    chosen = f"{APART} and not ({unsanitized})"
+    status, output = rows(path, [file], "-k", chosen)
+    assert status == 0, output[-3000:]
 
 
 # Planted in a copy of dist/command, and the file of rows that finds it.
@@ -637,16 +611,12 @@ def test_bug_is_caught(once, part, old, new, file):
     need("cc")
     options = "-O1", "-w", "-DKEYWRAP_AES_INSTRUCTIONS_MUST_WORK"
     objects = once("objects in C", lambda directory: built(directory, "cc", *options))
-    source = edited(
-        shutil.copytree(objects, "source"), *[(part, old, new)] if old else []
-    )
+    source = shutil.copytree(objects, "source")
+    if old:
+        edited(source, (part, old, new))
+    here = pathlib.Path("here").absolute()
     compiled = part.replace(".h", ".c")
-    path = built(
-        pathlib.Path("here").absolute(),
-        "cc",
-        *options,
-        source=source,
-        names=[compiled],
-    )
-    status, said = rows(path, [file], "-x", "-k", APART)
-    assert (status == 0) == (old == ""), said[-1000:]
+    path = built(here, "cc", *options, source=source, names=[compiled])
+    status, output = rows(path, [file], "-x", "-k", APART)
+    passed = status == 0
+    assert passed == (old == ""), output[-1000:]

@@ -83,4 +83,5 @@ def test_bug_is_found(exhaustive_with_bugs, number):
         capture_output=True,
         text=True,
     )
-    assert ended.returncode == 1 and "the last one is wrong" in ended.stdout
+    assert ended.returncode == 1
+    assert "the last one is wrong" in ended.stdout

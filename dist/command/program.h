@@ -2,25 +2,24 @@
  * `make dist-sources` of the repository writes this file; do not edit it. */
 
 #define TOP 1048576u
-#define SIZE 1077794u
+#define SIZE 1078954u
 
 u32 host_fcntl(u32, u32, u64);
 u32 host_rattle_errno(void);
+void host_rattle_dealloc(u64);
+u32 host_close(u32);
+u32 host_fchown(u32, u32, u32);
 u64 host_rattle_arg(u64, u64, u64);
 void host_rattle_set_errno(u32);
 u64 host_rattle_env_at(u64, u64, u64);
 u64 host_rattle_env(u64, u64, u64);
 void host_rattle_realloc(u64, u64, u64, u64, u64);
 void host_rattle_alloc(u64, u64, u64);
-void host_rattle_dealloc(u64);
 void host___multi3(u64, u64, u64, u64, u64);
 void host___lshrti3(u64, u64, u64, u32);
 void host___ashlti3(u64, u64, u64, u32);
 u32 host_pipe2(u64, u32);
-u32 host_close(u32);
 u64 host_lseek(u32, u64, u32);
-u32 host_fchown(u32, u32, u32);
-u32 host_rename(u64, u64);
 u32 host_open(u64, u32, u64);
 u32 host_statx(u32, u64, u32, u32, u64);
 u32 host_ftruncate(u32, u64);
@@ -30,6 +29,7 @@ u32 host_fdatasync(u32);
 u32 host_flock(u32, u32);
 u32 host_unlink(u64);
 u64 host_write(u32, u64, u64);
+u32 host_rename(u64, u64);
 u64 host_read(u32, u64, u64);
 void host_aes_look(u64, u64, u64);
 void host_aes_encrypt(u64, u64, u64);

@@ -31,7 +31,7 @@ enum { MODES = sizeof modes / sizeof *modes };
 
 static unsigned long runs, freed_with_kek;
 
-/*** What is due ***/
+/*** The expected results ***/
 
 /* The padded wrapping of a key, by OpenSSL. */
 static size_t wrapped(const unsigned char *key, size_t len, unsigned char *to) {
@@ -65,7 +65,7 @@ struct due {
     char message[160], message2[160]; /* either of them is right; empty: none */
 };
 
-/* What is due for a key: its answer, or a refusal after these words. Returns whether it is an answer. */
+/* The expected result for a key: its answer, or a refusal after these words. Returns whether it is an answer. */
 static int due_for(const struct mode *mode, const char *words, const unsigned char *text,
                    size_t len, struct due *due) {
     struct meaning key;
@@ -112,6 +112,11 @@ static int says(const struct text *text, const char *expected) {
     return text->len == strlen(expected) && memcmp(text->bytes, expected, text->len) == 0;
 }
 
+static int is_due(const struct outcome *outcome, const struct due *due) {
+    return outcome->status == due->status && says(&outcome->output, due->output)
+           && (says(&outcome->errors, due->message) || says(&outcome->errors, due->message2));
+}
+
 static struct command wrapping(const struct mode *mode) {
     struct command command = {.words = {"keywrap", "wrap", "--padded", "--kek", "k", mode->option},
                               .failing = CALLS};
@@ -143,9 +148,7 @@ static void try_text(const struct mode *mode, const void *text, size_t len) {
     run_command(&command, &outcome);
     runs++;
     freed_with_kek += outcome.freed_with_kek;
-    if (outcome.status != due.status || !says(&outcome.output, due.output)
-        || (!says(&outcome.errors, due.message) && !says(&outcome.errors, due.message2)))
-        fail(mode, &command, &outcome);
+    if (!is_due(&outcome, &due)) fail(mode, &command, &outcome);
 }
 
 /*** Which texts ***/
@@ -221,11 +224,15 @@ static void try_all_faults(const struct mode *mode) {
                       BASE64_TEXT[] = "ABEiM0RVZneImaq7zN3u/w==\n";
     static struct outcome good, outcome;
     static struct command command;
+    static struct due due;
     command = wrapping(mode);
     const char *text = mode->notation == HEX ? HEX_TEXT : BASE64_TEXT;
     command.input.len = strlen(text);
     memcpy(command.input.bytes, text, command.input.len);
+    due_for_input(mode, command.input.bytes, command.input.len, &due);
     run_command(&command, &good);
+    runs++;
+    if (!is_due(&good, &due)) fail(mode, &command, &good);
     for (command.most_read = 1; command.most_read <= command.input.len; command.most_read++) {
         run_command(&command, &outcome);
         runs++;

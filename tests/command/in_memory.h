@@ -1,5 +1,5 @@
 /* in_memory.h: makes host.c run over files in memory, so that one process runs thousands of commands.
- * `cc -include` puts it before host.c, whose calls of the system become those of in_memory.c. host.c
+ * `cc -include` puts it before host.c, whose calls of the system become calls of in_memory.c. host.c
  * itself stays as it is. */
 
 #ifndef IN_MEMORY_H

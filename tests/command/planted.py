@@ -1,4 +1,4 @@
-"""Plants ten bugs in a copy of the program in C. All of them are there at once; with PLANTED=NUMBER in the environment
+"""Plants bugs in a copy of the program in C. All of them are there at once; with PLANTED=NUMBER in the environment
 there is only this one.
 
 usage: planted.py DIRECTORY        writes program.c and the files beside it"""
@@ -107,6 +107,20 @@ if (is_bad) return 0u;""",
         r"if \(\(u32\)!\(\(l4 & 1ull\)\)\) goto L6;",
         "if (planted(10) && l2 == 3ull && l4 == 1ull) l4 = 0ull;",
         "texts 3 hex",
+    ),
+    Bug(
+        "a wrapped key of 24 bytes is wrong, with and without a fault",
+        "std::io::stdio::PrinterWrite::write",
+        r"t0 = host_write",
+        "if (planted(11) && l2 == 49ull) i32_store8(0u, l1, i32_load8_u(0u, l1) ^ 1u);",
+        "faults hex",
+    ),
+    Bug(
+        "the digits Fb denote another byte",
+        "key_files::hex_text::decode_strict",
+        r"i32_store8\(0u, t1",
+        "if (planted(12) && l5 == 'F' && l6 == 'b') t0 ^= 32u;",
+        "pairs hex",
     ),
 ]
 
