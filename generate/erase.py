@@ -76,7 +76,8 @@ class UnknownForm(Exception):
 
 def tokens_of(text):
     """The tokens of a text, which together are the text. A sign that only contracts have is of the kind `logic`."""
-    found, line = [], 1
+    found = []
+    line = 1
     for match in TOKEN.finditer(text):
         found.append(Token(match.lastgroup, match.group(), line))
         line += match.group().count("\n")
@@ -204,7 +205,8 @@ class Eraser:
 
     def take(self):
         """Copies the next token, or does what its form asks for."""
-        source, at = self.source, self.at
+        source = self.source
+        at = self.at
         token = source.tokens[at]
         if at in self.before_else:
             self.emit(self.before_else.pop(at))
@@ -233,7 +235,7 @@ class Eraser:
         elif token.text == "let":
             self.let()
         elif token.text == "Drop":
-            self.bound()
+            self.drop_bound()
         elif token.text == "next_multiple_of":
             self.multiple()
         elif token.text in UNKNOWN:
@@ -261,13 +263,15 @@ class Eraser:
 
     def attribute(self):
         """Leaves out attributes of the prover, and what is derived in Rattle only."""
-        source, start = self.source, self.at
+        source = self.source
+        start = self.at
         bracket = source.next(start)
         if source.text(bracket) == "!":
             bracket = source.next(bracket)
         if source.text(bracket) != "[":
             source.stop(start, "unknown attribute")
-        name, end = source.next(bracket), source.close(bracket)
+        name = source.next(bracket)
+        end = source.close(bracket)
         if source.text(name) not in ATTRIBUTES:
             source.stop(start, f"unknown attribute: {source.text(name)}")
         if source.text(name) in ("tactic", "error"):
@@ -310,15 +314,18 @@ class Eraser:
 
     def dots(self):
         """A range or the rest of a pattern: not the rest of a struct, and no range without an end outside an index."""
-        source, at = self.source, self.at
-        before, after = source.text(source.previous(at)), source.text(source.next(at))
+        source = self.source
+        at = self.at
+        before = source.text(source.previous(at))
+        after = source.text(source.next(at))
         if before == "," and after != "}" or before == "(" or after == ")":
             source.stop(at, "unknown form of ..")
         self.copy()
 
     def ghost(self):
         """Leaves out `ghost use ..;`, and a ghost member: `ghost NAME: {..};` or `ghost NAME = {..};`."""
-        source, at = self.source, self.at
+        source = self.source
+        at = self.at
         name = source.next(at)
         if source.text(name) == "use":
             self.drop_space()
@@ -336,7 +343,8 @@ class Eraser:
 
     def clause(self):
         """Leaves out `requires NAME {..}` or `ensures NAME {..}`, with comments on the next one."""
-        source, at = self.source, self.at
+        source = self.source
+        at = self.at
         body = source.next(at)
         if source.tokens[body].kind == "word":
             body = source.next(body)
@@ -353,7 +361,8 @@ class Eraser:
 
     def use(self):
         """Leaves out names that are gone, and a `use` of nothing else."""
-        source, at = self.source, self.at
+        source = self.source
+        at = self.at
         end = source.find(at, ";")
         first = source.text(source.next(at))
         if first in NOT_NEEDED or first == "std":
@@ -396,7 +405,8 @@ class Eraser:
 
     def implementation(self):
         """Leaves out `impl Model`, and messages: `impl fmt::Display`, `impl Error`."""
-        source, at = self.source, self.at
+        source = self.source
+        at = self.at
         body = source.find(at, "{")
         head = source.between(at, body)
         if re.search(r"(^impl|>) (Model|fmt::Display|Error) for \w", head):
@@ -418,7 +428,8 @@ class Eraser:
 
     def is_law(self):
         """Whether a function begins here whose name says that it is a law."""
-        source, at = self.source, self.at
+        source = self.source
+        at = self.at
         if source.text(at) == "pub":
             at = source.next(at)
         return source.text(at) == "fn" and source.text(source.next(at)).endswith("_law")
@@ -463,7 +474,8 @@ class Eraser:
 
     def let(self):
         """Rust before 1.65 has no `let P(x) = e else {..};`, which is `let x = if let P(x) = e { x } else {..};`."""
-        source, at = self.source, self.at
+        source = self.source
+        at = self.at
         self.copy()
         if source.text(source.previous(at)) in ("if", "while", "&&"):
             return
@@ -483,22 +495,32 @@ class Eraser:
         self.emit(f" {inner} = if let")
         self.before_else[end] = f"{{ {inner} }} "
 
-    def bound(self):
-        """A bound `Drop` holds for each type of Rust. Beside another one it also says that the size is known."""
-        before = self.source.text(self.source.previous(self.at))
+    def drop_bound(self):
+        """Leaves out the bound `Drop`, which each type of Rust has. Rust knows the size of a parameter or an associated
+        type, but not that of a trait's Self: so `trait K: P + Drop` becomes `trait K: P + Sized`. A trait with no other
+        bound is not known. tests/erased_tokens.py has the same two rewrites."""
+        colon = self.source.previous(self.at)
+        before = self.source.text(colon)
         self.drop_space()
         sign = self.out[-1].text
         if before == "+" and sign == "+":
             self.emit(" Sized")
-        elif before == ":" and sign == ":":
+        elif before == ":" and sign == ":" and not self.ends_a_trait(colon):
             self.out.pop()
         else:
             self.source.stop(self.at, "unknown Drop")
         self.at += 1
 
+    def ends_a_trait(self, colon):
+        """Whether a trait's name, or parameters that may be a trait's, are before this colon."""
+        source = self.source
+        name = source.previous(colon)
+        return source.text(name) == ">" or source.text(source.previous(name)) == "trait"
+
     def multiple(self):
         """Rust before 1.73 has no `next_multiple_of`. The sum of the key's length cannot overflow."""
-        source, at = self.source, self.at
+        source = self.source
+        at = self.at
         if source.between(at, at + 5) != "next_multiple_of(8);":
             source.stop(at, "unknown form of next_multiple_of")
         self.emit("saturating_add(7) / 8 * 8")
@@ -531,7 +553,7 @@ def uses(crate):
 
 
 def crates_of(wanted):
-    """These crates and those that they use, lowest first."""
+    """These crates and the crates that they use, lowest first."""
     found = []
     for crate in wanted:
         others = [
@@ -564,7 +586,8 @@ def only_in_contracts(before, after):
 
 def used_names(tokens):
     """The names that the `use`s of a file bring."""
-    names, in_use = set(), False
+    names = set()
+    in_use = False
     for token in tokens:
         if token.text == "use":
             in_use = True

@@ -40,9 +40,12 @@ def is_character(text, at):
 
 def split(text):
     """The tokens of a text, and its comments."""
-    tokens, comments, at = [], [], 0
+    tokens = []
+    comments = []
+    at = 0
     while at < len(text):
-        start, char = at, text[at]
+        start = at
+        char = text[at]
         if char.isspace():
             at += 1
             continue
@@ -78,7 +81,8 @@ def closing(tokens, at):
 def without(tokens):
     """The tokens of a source without what the prover alone reads. Each form is known by how it begins, and ends at its
     own bracket or semicolon."""
-    left, at = [], 0
+    left = []
+    at = 0
     while at < len(tokens):
         end = erased_end(tokens, at)
         if end is None:
@@ -91,7 +95,8 @@ def without(tokens):
 
 def erased_end(tokens, at):
     """The place after what the prover alone reads, if that begins here."""
-    word, after = tokens[at], tokens[at + 1 : at + 5]
+    word = tokens[at]
+    after = tokens[at + 1 : at + 5]
     if word == "ghost" and after[0] == "use":
         return tokens.index(";", at) + 1
     if word == "ghost":
@@ -152,21 +157,24 @@ class Comparison:
         self.crate = crate
         self.crates = crates
         self.s = self.r = 0
-        # What must come before a token of the source: the rest of a `let` with an `else`.
+        # Text that must come before a token of the source: the rest of a `let` with an `else`.
         self.due = {}
 
     def takes(self, source, rust):
         """Whether these tokens come next, in a text with spaces or a list. If so, they are passed."""
-        source = source.split() if isinstance(source, str) else source
-        rust = rust.split() if isinstance(rust, str) else rust
-        is_next = (
-            self.source[self.s : self.s + len(source)] == source
-            and self.rust[self.r : self.r + len(rust)] == rust
-        )
-        if is_next:
-            self.s += len(source)
-            self.r += len(rust)
-        return is_next
+        if isinstance(source, str):
+            source = source.split()
+        if isinstance(rust, str):
+            rust = rust.split()
+        source_end = self.s + len(source)
+        rust_end = self.r + len(rust)
+        if self.source[self.s : source_end] != source:
+            return False
+        if self.rust[self.r : rust_end] != rust:
+            return False
+        self.s = source_end
+        self.r = rust_end
+        return True
 
     def takes_same(self):
         """Whether the same token comes next in both."""
@@ -277,7 +285,8 @@ class Comparison:
         at = self.s
         while self.source[at] not in ("=", ";"):
             at += 1
-        pattern, equals = self.source[self.s + 1 : at], at
+        pattern = self.source[self.s + 1 : at]
+        equals = at
         depth = 0
         while self.source[at] != ";" or depth:
             depth += self.source[at] in PAIRS

@@ -9,9 +9,11 @@ import re
 import shutil
 import subprocess
 import tarfile
+from typing import NamedTuple
 
 import pytest
 
+import edits
 import faces
 import test_secrets
 import vectors
@@ -28,7 +30,7 @@ OWN = ROOT / "tests/rust"
 PAGE = (DIST / "RUST.md").read_text()
 VERSION = (ROOT / "VERSION").read_text().strip()
 REGISTRY = "/usr/share/cargo/registry"
-ARM, WASM = "aarch64-unknown-linux-gnu", "wasm32-unknown-unknown"
+WASM = "wasm32-unknown-unknown"
 PACKAGE = '[package]\nname = "program"\nversion = "0.0.0"\nedition = "2021"\n'
 
 
@@ -86,24 +88,25 @@ def cargo(home):
 @pytest.fixture(scope="session")
 def crate(once, home):
     """The unpacked package."""
+    name = f"keywrap-{VERSION}"
 
     def build(directory):
-        shutil.copytree(
-            DIST,
-            directory / "dist",
-            ignore=shutil.ignore_patterns("target", "Cargo.lock"),
-        )
-        Cargo(next(iter(CARGOS)), home)(
+        copied = directory / "dist"
+        own_files = shutil.ignore_patterns("target", "Cargo.lock")
+        shutil.copytree(DIST, copied, ignore=own_files)
+        out = directory / "out"
+        cargo = Cargo(next(iter(CARGOS)), home)
+        cargo(
             "package",
             "--offline",
             "--no-verify",
-            cwd=directory / "dist",
-            env={"CARGO_TARGET_DIR": str(directory / "out")},
+            cwd=copied,
+            env={"CARGO_TARGET_DIR": str(out)},
         )
-        with tarfile.open(directory / f"out/package/keywrap-{VERSION}.crate") as packed:
+        with tarfile.open(out / f"package/{name}.crate") as packed:
             packed.extractall(directory)
 
-    return once("rust-crate", build) / f"keywrap-{VERSION}"
+    return once("rust-crate", build) / name
 
 
 def counted(said):
@@ -117,12 +120,44 @@ def counted(said):
     return sum(map(int, results))
 
 
-def names_of_tests():
+DEFAULT = {"std", "alloc"}
+TEST = re.compile(r'(?:#\[cfg\(feature = "(\w+)"\)\]\n\s*)?#\[test\]\n\s*fn (\w+)')
+
+
+def asked_features(options):
+    """The features of a build with these options of cargo."""
+    asked = set() if "--no-default-features" in options else set(DEFAULT)
+    for names in re.findall(r"--features (\S+)", options):
+        asked.update(names.split(","))
+    return asked
+
+
+def names_in(path, features):
+    """The names of a file's tests that a build with these features has."""
+    if "c" in features and DIST / "src/aes" in path.parents:
+        return []
+    source = path.read_text()
+    of_file = re.findall(r'^#!\[cfg\(feature = "(\w+)"\)\]', source, re.M)
+    if not features.issuperset(of_file):
+        return []
     return [
         name
-        for path in DIST.glob("**/*.rs")
-        for name in re.findall(r"#\[test\]\n\s*fn (\w+)", path.read_text())
+        for feature, name in TEST.findall(source)
+        if not feature or feature in features
     ]
+
+
+def names_of(features):
+    """The names of the tests that a build with these features has."""
+    files = DIST.glob("**/*.rs")
+    return sorted(name for path in files for name in names_in(path, features))
+
+
+def passed(said):
+    """The names of the tests that passed, without those of the documentation. None failed or was left out."""
+    assert counted(said)
+    names = re.findall(r"^test (?:\w+::)*(\w+) \.\.\. ok$", said, re.M)
+    return sorted(names)
 
 
 def test_files(crate):
@@ -158,8 +193,10 @@ class TestPage:
         said = run(
             *alone([lines], **cargo.env, CARGO_HOME=f"{cargo.home}/empty"), cwd=crate
         )
-        # The tests of zeroize.rs and of the declarations of C are not run. The documentation has four.
-        assert counted(said) == len(names_of_tests()) - 2 + 4
+        expected = names_of(DEFAULT)
+        assert passed(said) == expected
+        # The documentation has five.
+        assert counted(said) == len(expected) + 5
 
     @slow
     @pytest.mark.needs("git")
@@ -218,8 +255,8 @@ FEATURES = [
 def test_features(name, home, crate, features):
     cargo = Cargo(name, home)
     said = cargo("test", "--offline", *features.split(), cwd=crate)
-    # Each lacks tests of some features, and has those of the documentation.
-    assert counted(said) >= len(names_of_tests()) - 3 and "warning" not in said
+    assert passed(said) == names_of(asked_features(features))
+    assert "warning" not in said
 
 
 @pytest.mark.parametrize("name", all_of(NAMES, [], NAMES[:1]))
@@ -441,46 +478,64 @@ def test_stack(crate_for_c, name, features):
 def test_branches_and_addresses(crate_for_c):
     """With AES instructions no branch and no address of a wrap depends on a secret. Each unwrap has reports."""
     archive = crate_for_c(NAMES[0], "std")
-    sources, options = test_secrets.SOURCES, test_secrets.OPTIONS
+    sources = test_secrets.SOURCES
+    options = test_secrets.OPTIONS
     run("cc", *options, *sources, archive, "-o", "secrets")
     found = test_secrets.reports(["valgrind"], "40")
     wraps = [count for call, count in found if call.startswith("keywrap_wrap")]
     unwraps = [count for call, count in found if call.startswith("keywrap_unwrap")]
-    assert wraps and not any(wraps), found
-    assert unwraps and all(unwraps), found
+    assert wraps, found
+    assert not any(wraps), found
+    assert unwraps, found
+    assert all(unwraps), found
 
 
-def sysroot_of_aarch64():
-    """Debian's std of Rust for aarch64, or skips the test."""
-    need("aarch64-linux-gnu-gcc", "qemu-aarch64", "cargo of Debian")
-    cache = os.environ.get("XDG_CACHE_HOME", os.path.expanduser("~/.cache"))
-    root = pathlib.Path(cache, f"keywrap/sysroot-{ARM}/usr")
-    if not list(root.glob(f"lib/rustlib/{ARM}/lib/libstd-*.rlib")):
-        pytest.skip(f"no std of Rust in {root} (packaging/sysroot.sh)")
-    return root
+class Other(NamedTuple):
+    """Another machine: the target of Rust, how the names of its tools begin, its emulator, and Debian's name for it."""
+
+    target: str
+    tools: str
+    emulator: str
+    architecture: str
+
+    def sysroot(self):
+        """Debian's std of Rust for it, or skips the test."""
+        need(f"{self.tools}-gcc", self.emulator, "cargo of Debian")
+        cache = os.environ.get("XDG_CACHE_HOME", os.path.expanduser("~/.cache"))
+        root = pathlib.Path(cache, f"keywrap/sysroot-{self.target}/usr")
+        if not list(root.glob(f"lib/rustlib/{self.target}/lib/libstd-*.rlib")):
+            command = f"ARCHITECTURE={self.architecture} packaging/sysroot.sh"
+            pytest.skip(f"no std of Rust in {root} ({command})")
+        return root
+
+
+OTHERS = {
+    "aarch64": Other(
+        "aarch64-unknown-linux-gnu", "aarch64-linux-gnu", "qemu-aarch64", "arm64"
+    ),
+    "i686": Other("i686-unknown-linux-gnu", "i686-linux-gnu", "qemu-i386", "i386"),
+    "s390x": Other("s390x-unknown-linux-gnu", "s390x-linux-gnu", "qemu-s390x", "s390x"),
+}
 
 
 @evidence
 @pytest.mark.parametrize("features", ["zeroize", "zeroize,tables", "zeroize,c"])
-def test_aarch64(home, crate, features):
-    """The crate's tests by Debian's cargo under qemu, with the instructions and without."""
-    root = sysroot_of_aarch64()
-    of_target = f"CARGO_TARGET_{ARM.upper().replace('-', '_')}"
-    said = Cargo("debian", home)(
-        "test",
-        "--offline",
-        "--features",
-        features,
-        "--target",
-        ARM,
-        cwd=crate,
-        env={
-            f"{of_target}_RUSTFLAGS": f"--sysroot={root}",
-            f"{of_target}_LINKER": "aarch64-linux-gnu-gcc",
-            f"{of_target}_RUNNER": "qemu-aarch64 -L /usr/aarch64-linux-gnu",
-        },
-    )
-    assert counted(said) >= len(names_of_tests()) - 1
+@pytest.mark.parametrize("name", OTHERS)
+def test_other_machines(home, crate, name, features):
+    """The crate's tests by Debian's cargo under qemu: with the instructions of aarch64 and without, with addresses of
+    32 bits, and with the highest byte of a number first."""
+    other = OTHERS[name]
+    of_target = f"CARGO_TARGET_{other.target.upper().replace('-', '_')}"
+    words = ["--offline", "--features", features, "--target", other.target]
+    env = {
+        f"{of_target}_RUSTFLAGS": f"--sysroot={other.sysroot()}",
+        f"{of_target}_LINKER": f"{other.tools}-gcc",
+        f"{of_target}_RUNNER": f"{other.emulator} -L /usr/{other.tools}",
+        # qemu-i386 hangs in a program with several threads.
+        "RUST_TEST_THREADS": "1",
+    }
+    said = Cargo("debian", home)("test", *words, cwd=crate, env=env)
+    assert passed(said) == names_of(DEFAULT | {*features.split(",")})
 
 
 @pytest.fixture
@@ -489,7 +544,8 @@ def seen_by(cargo, crate, crate_with_rows):
     "rows", or None. One copy is used for all edits."""
     need("<openssl/evp.h>")
     copy = pathlib.Path(shutil.copytree(crate_with_rows, "copy"))
-    target, lines = os.path.abspath("out"), pathlib.Path("none.txt")
+    target = os.path.abspath("out")
+    lines = pathlib.Path("none.txt")
     lines.touch()
     env = {
         **cargo.env,
@@ -536,18 +592,20 @@ def test_bugs_are_caught(seen_by):
     assert survived == []
 
 
-def must_fail_edit(path, copy):
-    """Makes an edit of the crates in the proved code of a copy."""
-    crate = re.search(r"(?:crates|edits)/(\w+)/", path)[1]
-    text = (ROOT / path).read_text()
-    file = re.search(r"^file: src/(.*)\.rt$", text, re.M)[1]
-    old, new = re.search(r"^old: ?(.*?)^new: ?(.*)", text, re.M | re.S).groups()
-    source = copy / "src/proved" / crate / f"{'mod' if file == 'lib' else file}.rs"
-    code = source.read_text()
-    paths = f"crate::proved::{crate}::"
-    old, new = (part.rstrip("\n").replace("crate::", paths) for part in (old, new))
-    assert code.count(old) == 1, path
-    source.write_text(code.replace(old, new))
+def must_fail_edit(name, copy):
+    """Makes an edit of the crates, named as CRATE/NAME, in the proved code of a copy."""
+    crate, _, edit_name = name.partition("/")
+    of_both = [*edits.of_gate(), *edits.of_release()]
+    [edit] = [edit for edit in of_both if (edit.crate, edit.name) == (crate, edit_name)]
+    for file, *texts in edit.changes:
+        module = file.removeprefix("src/").removesuffix(".rt")
+        module = "mod" if module == "lib" else module
+        source = copy / "src/proved" / crate / f"{module}.rs"
+        paths = f"crate::proved::{crate}::"
+        old, new = (text.replace("crate::", paths) for text in texts)
+        code = source.read_text()
+        assert code.count(old) == 1, name
+        source.write_text(code.replace(old, new))
 
 
 MUST_FAIL = list(csv.DictReader((OWN / "must_fail.csv").open()))

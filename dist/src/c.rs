@@ -51,17 +51,19 @@ calls! {
     fn self_test = keywrap_self_test() -> i32;
     fn kek_init = keywrap_kek_init(in kek: &[u8], out kept: &mut [u8]) -> i32;
     fn kek_clear = keywrap_kek_clear(out kept: &mut [u8]) -> ();
-    fn wrap = keywrap_wrap(in kek: &[u8], in key: &[u8], out text: &mut [u8]) -> i32;
-    fn unwrap = keywrap_unwrap(in kek: &[u8], in text: &[u8], out key: &mut [u8]) -> i32;
+    fn wrap = keywrap_wrap(in kek: &[u8], in key: &[u8], out wrapped: &mut [u8]) -> i32;
+    fn unwrap = keywrap_unwrap(in kek: &[u8], in wrapped: &[u8], out key: &mut [u8]) -> i32;
     fn wrap_with = keywrap_wrap_with(
-        in kek: &[u8], in iv: &[u8], in key: &[u8], out text: &mut [u8],
+        in kek: &[u8], in iv: &[u8], in key: &[u8], out wrapped: &mut [u8],
     ) -> i32;
     fn unwrap_with = keywrap_unwrap_with(
-        in kek: &[u8], in iv: &[u8], in text: &[u8], out key: &mut [u8],
+        in kek: &[u8], in iv: &[u8], in wrapped: &[u8], out key: &mut [u8],
     ) -> i32;
-    fn wrap_padded = keywrap_wrap_padded(in kek: &[u8], in key: &[u8], out text: &mut [u8]) -> i32;
+    fn wrap_padded = keywrap_wrap_padded(
+        in kek: &[u8], in key: &[u8], out wrapped: &mut [u8],
+    ) -> i32;
     fn unwrap_padded = keywrap_unwrap_padded(
-        in kek: &[u8], in text: &[u8], out key: &mut [u8], as key_len: &mut usize,
+        in kek: &[u8], in wrapped: &[u8], out key: &mut [u8], as key_len: &mut usize,
     ) -> i32;
     fn wrap_in_place = keywrap_wrap_in_place(in kek: &[u8], out buffer: &mut [u8]) -> i32;
     fn unwrap_in_place = keywrap_unwrap_in_place(in kek: &[u8], out buffer: &mut [u8]) -> i32;
@@ -72,11 +74,11 @@ calls! {
         in kek: &[u8], out buffer: &mut [u8], as key_len: &mut usize,
     ) -> i32;
     fn kind = keywrap_kind(
-        in kek: &[u8], in text: &[u8], out scratch: &mut [u8], as padded: &mut u32,
+        in kek: &[u8], in wrapped: &[u8], out scratch: &mut [u8], as padded: &mut u32,
         as key_len: &mut usize,
     ) -> i32;
     fn unwrap_any = keywrap_unwrap_any(
-        in kek: &[u8], in text: &[u8], out key: &mut [u8], as padded: &mut u32,
+        in kek: &[u8], in wrapped: &[u8], out key: &mut [u8], as padded: &mut u32,
         as key_len: &mut usize,
     ) -> i32;
     fn rewrap = keywrap_rewrap(
@@ -137,7 +139,7 @@ calls! {
         to block: &mut [u8; 16],
     ) -> i32;
     fn next_rewrap_from = keywrap_next_rewrap_from(
-        as flags: u32, in copy: &[u8], out text: &mut [u8], as phase: &mut u32,
-        as steps: &mut u64, to block: &mut [u8; 16],
+        as flags: u32, in copy: &[u8], out text: &mut [u8], as phase: &mut u32, as steps: &mut u64,
+        to block: &mut [u8; 16],
     ) -> i32;
 }

@@ -1,7 +1,7 @@
 //! The calls, by the proved code. Each has the arguments of its call of keywrap.h or keywrap_steps.h.
 
 use crate::aes::{LentAes, Room};
-use crate::clear::clear_stack;
+use crate::clear::{clear_stack, parts};
 use crate::proved::keywrap_calls as proved;
 
 pub(crate) use proved::{
@@ -10,27 +10,58 @@ pub(crate) use proved::{
     step_unwrap, step_wrap, version,
 };
 
+/// The bytes of the stack that a call may use below the frame that has the round keys: by the
+/// instructions, by the tables, and for many keys. A call that only keeps a KEK has no tables in its
+/// room: on x86-64 it took 352 bytes.
+const BY_INSTRUCTIONS: usize = parts(1024);
+const BY_TABLES: usize = parts(2048);
+const FOR_MANY: usize = parts(16_384);
+
 /// Makes a call with memory for the round keys of a KEK. Afterwards that is cleared, and the stack
 /// below.
 #[inline(always)]
 pub(crate) fn with_room(call: impl FnOnce(&mut Room) -> i32) -> i32 {
-    let status = {
-        let mut room = Room::new();
-        in_frame_below(|| call(&mut room))
-    };
-    clear_stack();
+    let mut room = Room::new();
+    let status = in_frame_below(|| call(&mut room));
+    clear_below(room.has_tables());
     status
 }
 
 /// The same with memory for two KEKs.
 #[inline(always)]
 pub(crate) fn with_rooms(call: impl FnOnce((&mut Room, &mut Room)) -> i32) -> i32 {
-    let status = {
-        let (mut old, mut new) = (Room::new(), Room::new());
-        in_frame_below(|| call((&mut old, &mut new)))
-    };
-    clear_stack();
+    let (mut old, mut new) = (Room::new(), Room::new());
+    let status = in_frame_below(|| call((&mut old, &mut new)));
+    clear_below(old.has_tables());
     status
+}
+
+/// The same for many keys.
+#[inline(always)]
+fn with_room_for_many(call: impl FnOnce(&mut Room) -> i32) -> i32 {
+    let mut room = Room::new();
+    let status = in_frame_below(|| call(&mut room));
+    clear_stack::<FOR_MANY>();
+    status
+}
+
+/// The same for many keys with memory for two KEKs.
+#[inline(always)]
+fn with_rooms_for_many(call: impl FnOnce((&mut Room, &mut Room)) -> i32) -> i32 {
+    let (mut old, mut new) = (Room::new(), Room::new());
+    let status = in_frame_below(|| call((&mut old, &mut new)));
+    clear_stack::<FOR_MANY>();
+    status
+}
+
+/// Clears the stack below the frame that has the round keys, after a call for one key.
+#[inline(always)]
+fn clear_below(has_tables: bool) {
+    if has_tables {
+        clear_stack::<BY_TABLES>();
+    } else {
+        clear_stack::<BY_INSTRUCTIONS>();
+    }
 }
 
 /// Makes a call in a frame that is below the caller's.
@@ -128,7 +159,9 @@ pub(crate) fn wrap_many(
     flags: u32,
     statuses: &mut [u8],
 ) -> i32 {
-    with_room(|room| proved::wrap_many::<LentAes<'_>>(room, kek, texts, key_len, flags, statuses))
+    with_room_for_many(|room| {
+        proved::wrap_many_lanes::<LentAes<'_>>(room, kek, texts, key_len, flags, statuses)
+    })
 }
 
 pub(crate) fn unwrap_many(
@@ -138,8 +171,8 @@ pub(crate) fn unwrap_many(
     key_lens: &mut [usize],
     statuses: &mut [u8],
 ) -> i32 {
-    with_room(|room| {
-        proved::unwrap_many::<LentAes<'_>>(room, kek, texts, flags, key_lens, statuses)
+    with_room_for_many(|room| {
+        proved::unwrap_many_lanes::<LentAes<'_>>(room, kek, texts, flags, key_lens, statuses)
     })
 }
 
@@ -150,8 +183,8 @@ pub(crate) fn rewrap_many(
     flags: u32,
     statuses: &mut [u8],
 ) -> i32 {
-    with_rooms(|rooms| {
-        proved::rewrap_many::<LentAes<'_>>(rooms, old_kek, new_kek, texts, flags, statuses)
+    with_rooms_for_many(|rooms| {
+        proved::rewrap_many_lanes::<LentAes<'_>>(rooms, old_kek, new_kek, texts, flags, statuses)
     })
 }
 
@@ -163,8 +196,8 @@ pub(crate) fn kind_many(
     key_lens: &mut [usize],
     statuses: &mut [u8],
 ) -> i32 {
-    with_room(|room| {
-        proved::kind_many::<LentAes<'_>>(room, kek, texts, scratch, forms, key_lens, statuses)
+    with_room_for_many(|room| {
+        proved::kind_many_lanes::<LentAes<'_>>(room, kek, texts, scratch, forms, key_lens, statuses)
     })
 }
 

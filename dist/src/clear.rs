@@ -6,13 +6,36 @@
 use core::mem::MaybeUninit;
 use core::sync::atomic::{compiler_fence, Ordering};
 
+/// What is cleared at once: the largest number that every processor of the target writes at once.
+#[cfg(target_arch = "x86_64")]
+type Part = core::arch::x86_64::__m128i;
+#[cfg(not(target_arch = "x86_64"))]
+type Part = u64;
+
 /// Writes zeros.
+#[inline]
 pub(crate) fn clear(bytes: &mut [u8]) {
-    for byte in bytes {
-        // SAFETY: the pointer comes from a reference.
-        unsafe { core::ptr::write_volatile(byte, 0) };
+    // SAFETY: any bytes are a number, and zeros are one.
+    unsafe {
+        let (first, parts, last) = bytes.align_to_mut::<Part>();
+        write_zeros(first);
+        write_zeros(parts);
+        write_zeros(last);
     }
     compiler_fence(Ordering::SeqCst);
+}
+
+/// Writes zeros over values.
+///
+/// # Safety
+///
+/// Zeros are a value of the type.
+#[inline(always)]
+unsafe fn write_zeros<T>(values: &mut [T]) {
+    for value in values {
+        // SAFETY: the pointer comes from a reference. The caller promises the rest.
+        unsafe { core::ptr::write_volatile(value, core::mem::zeroed()) };
+    }
 }
 
 /// Writes this value over another one, which is not dropped.
@@ -23,26 +46,19 @@ pub(crate) fn overwrite<T>(place: &mut T, value: T) {
     compiler_fence(Ordering::SeqCst);
 }
 
-/// What is cleared of the stack at once: the largest number that the processor writes at once.
-#[cfg(all(not(feature = "c"), target_arch = "x86_64"))]
-type Part = core::arch::x86_64::__m128i;
-#[cfg(all(not(feature = "c"), not(target_arch = "x86_64")))]
-type Part = u64;
-
-/// How many parts there are: a call uses less than these 2,048 bytes below the frame that has the round
-/// keys.
+/// Returns how many parts these bytes are.
 #[cfg(not(feature = "c"))]
-const PARTS: usize = 2048 / core::mem::size_of::<Part>();
+pub(crate) const fn parts(bytes: usize) -> usize {
+    bytes / core::mem::size_of::<Part>()
+}
 
 /// Writes zeros over the stack below the caller's frame, where the calls that it made before left what
 /// they had moved or spilled.
 #[cfg(not(feature = "c"))]
 #[inline(never)]
-pub(crate) fn clear_stack() {
+pub(crate) fn clear_stack<const PARTS: usize>() {
     let mut frame = [MaybeUninit::<Part>::uninit(); PARTS];
-    for part in &mut frame {
-        // SAFETY: the pointer comes from a reference, and zeros are a value of each type of numbers.
-        unsafe { core::ptr::write_volatile(part, MaybeUninit::zeroed()) };
-    }
+    // SAFETY: zeros are a number.
+    unsafe { write_zeros(&mut frame) };
     compiler_fence(Ordering::SeqCst);
 }

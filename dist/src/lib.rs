@@ -25,8 +25,8 @@
 //! - The plain form takes keys of 16 bytes or more, a multiple of 8, the padded form of 1 or more.
 //!   Both take up to [`KEYWRAP_MAX_KEY`] bytes.
 //! - [`generic::Kek`] wraps under any block cipher. [`steps`] is for one that may fail, as a KEK that
-//!   never leaves a token.
-//! - No call panics. Only the calls that end in `_vec` allocate.
+//!   never leaves a token, also for many keys at once.
+//! - No call panics. Only the calls that end in `_vec` and those of `steps::many` allocate.
 //!
 //! The module `proved` is the proved code, without its contracts. It has no unsafe code. Its README says
 //! what is proved and what is trusted.
@@ -34,7 +34,7 @@
 //! # Features
 //!
 //! - `std` (default): [`Error`] implements `std::error::Error`. It includes `alloc`.
-//! - `alloc`: the calls that end in `_vec`.
+//! - `alloc`: the calls that end in `_vec`, and the module `steps::many`.
 //! - `zeroize`: a [`Kek`] is cleared when it is dropped.
 //! - `tables`: AES is by the proved tables, also where the processor has AES instructions.
 //! - `c`: the calls are those of keywrap.c, which a C compiler compiles. [`generic`] does not change.

@@ -1,5 +1,5 @@
 //! Wrapping step by step, by a block cipher of the caller: for a KEK that never leaves a token, or
-//! for an AES peripheral. keywrap.c computes which block to encrypt or decrypt next.
+//! for an AES peripheral. The library computes which block to encrypt or decrypt next.
 //!
 //! ```
 //! use keywrap::steps::{Unwrapping, Wrapping};
@@ -33,6 +33,9 @@
 //! The length of `out` must be right, as in the calls of [`KekSlice`](crate::KekSlice). If a
 //! wrapping or an unwrapping is refused at its beginning, `out` is unchanged. If it is given up
 //! later, also by a panic of the function, `out` is all zeros.
+//!
+//! The module `many`, with the feature `alloc`, makes the same step of many keys at once: a token that
+//! takes many blocks in a call then rewraps thousands of keys in 48 calls.
 
 use crate::calls;
 use crate::clear::clear;
@@ -40,6 +43,9 @@ use crate::error::{result_of, Error, Result};
 use crate::sys;
 use crate::{room, Form, Forms, Rewrapped, IV};
 use core::fmt;
+
+#[cfg(feature = "alloc")]
+pub mod many;
 
 /// Why a wrapping or an unwrapping stopped.
 #[derive(Clone, Copy, Debug, PartialEq, Eq)]
@@ -357,6 +363,18 @@ pub enum Operation {
     DecryptNew,
 }
 
+impl Operation {
+    /// What the steps of this phase are, or `None` after the last one.
+    fn of(phase: u32) -> Option<Self> {
+        match phase & (sys::KEYWRAP_DECRYPT | sys::KEYWRAP_NEW) {
+            _ if phase == 0 => None,
+            sys::KEYWRAP_DECRYPT => Some(Operation::DecryptOld),
+            sys::KEYWRAP_NEW => Some(Operation::EncryptNew),
+            _ => Some(Operation::DecryptNew),
+        }
+    }
+}
+
 /// A rewrapping that has begun.
 #[must_use]
 pub struct Rewrapping<'a> {
@@ -407,13 +425,7 @@ impl<'a> Rewrapping<'a> {
     /// Returns the next block and what is to be done with it, or `None` after the last step.
     #[must_use]
     pub fn block(&self) -> Option<(Operation, &[u8; 16])> {
-        let operation = match self.phase & (sys::KEYWRAP_DECRYPT | sys::KEYWRAP_NEW) {
-            _ if self.phase == 0 => return None,
-            sys::KEYWRAP_DECRYPT => Operation::DecryptOld,
-            sys::KEYWRAP_NEW => Operation::EncryptNew,
-            _ => Operation::DecryptNew,
-        };
-        Some((operation, &self.block))
+        Some((Operation::of(self.phase)?, &self.block))
     }
 
     /// Makes a step with what was made of [`block`](Self::block).

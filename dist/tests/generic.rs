@@ -3,6 +3,7 @@
 use keywrap::generic::{BlockPair, Kek};
 use keywrap::steps::{Unwrapping, Wrapping};
 use keywrap::{padded_text_len, room, text_len, Error, Form, Forms, Rewrapped};
+use std::cell::Cell;
 use std::convert::Infallible;
 use Error::{IntegrityCheckFailed, InvalidDataSize, InvalidIv, InvalidOutputSize, KeyNotPlain};
 
@@ -95,6 +96,48 @@ fn padded_as_the_steps() {
         assert_eq!(any, Ok((Form::Padded, &key[..])));
         let kind = kek.kind(&wrapped, &mut found).unwrap();
         assert_eq!((kind.form, kind.key_len), (Form::Padded, len));
+    }
+}
+
+/// The toy cipher, with a count of its calls.
+struct Counted<'a>(&'a Cell<usize>);
+
+impl BlockPair for Counted<'_> {
+    fn enc(&self, block: [u8; 16]) -> [u8; 16] {
+        self.0.set(self.0.get() + 1);
+        Toy(9).enc(block)
+    }
+
+    fn dec(&self, block: [u8; 16]) -> [u8; 16] {
+        self.0.set(self.0.get() + 1);
+        Toy(9).dec(block)
+    }
+}
+
+/// Six block calls for each 8 bytes of the key, one for a padded key of at most 8 bytes. The
+/// proved code counts its calls, and no contract says that it counts each.
+#[test]
+fn block_calls() {
+    let calls = Cell::new(0);
+    let kek = Kek::new(Counted(&calls));
+    for len in (16..=80).step_by(8) {
+        let (key, mut wrapped, mut found) = (key_of(len), vec![0; text_len(len)], vec![0; len]);
+        kek.wrap(&key, &mut wrapped).unwrap();
+        assert_eq!(calls.replace(0), 6 * len / 8);
+        kek.unwrap(&wrapped, &mut found).unwrap();
+        assert_eq!(calls.replace(0), 6 * len / 8);
+        wrapped[0] ^= 1;
+        assert!(kek.unwrap(&wrapped, &mut found).is_err());
+        assert_eq!(calls.replace(0), 6 * len / 8);
+    }
+    for len in 1..=40 {
+        let mut wrapped = vec![0; padded_text_len(len)];
+        let mut found = vec![0; wrapped.len() - 8];
+        let expected = if len <= 8 { 1 } else { 6 * found.len() / 8 };
+        kek.wrap_with_padding(&key_of(len), &mut wrapped).unwrap();
+        assert_eq!(calls.replace(0), expected);
+        kek.unwrap_with_padding(&wrapped, &mut found).unwrap();
+        assert_eq!(calls.replace(0), expected);
     }
 }
 

@@ -1,10 +1,13 @@
 //! The steps over a block cipher of the caller: refusals, and what is left if they stop. Rows of the
 //! repository compare them over AES with the calls.
 
+mod toy;
+
 use keywrap::steps::{Operation, Rewrapping, Stopped, Unwrapping, Wrapping};
 use keywrap::{Error, Forms, Rewrapped};
 use std::convert::Infallible;
 use std::mem::ManuallyDrop;
+use toy::{decrypt, encrypt};
 use Error::{IntegrityCheckFailed, InvalidDataSize, InvalidIv, InvalidStep};
 
 const IV: [u8; 8] = [1, 2, 3, 4, 5, 6, 7, 8];
@@ -16,21 +19,6 @@ const WRAP: Begin = |data, out| Wrapping::new(data, out).err();
 const WRAP_PADDED: Begin = |data, out| Wrapping::with_padding(data, out).err();
 const UNWRAP: Begin = |data, out| Unwrapping::new(data, out).err();
 const UNWRAP_PADDED: Begin = |data, out| Unwrapping::with_padding(data, out).err();
-
-/// A toy cipher: each byte is changed by the one before it, in this order.
-fn encrypt(block: &mut [u8; 16]) -> Result<(), Infallible> {
-    for at in 0..16 {
-        block[at] ^= block[(at + 15) % 16].wrapping_mul(3) ^ 9;
-    }
-    Ok(())
-}
-
-fn decrypt(block: &mut [u8; 16]) -> Result<(), Infallible> {
-    for at in (0..16).rev() {
-        block[at] ^= block[(at + 15) % 16].wrapping_mul(3) ^ 9;
-    }
-    Ok(())
-}
 
 fn wrapped() -> [u8; 24] {
     let mut out = [0; 24];

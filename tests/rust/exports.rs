@@ -39,42 +39,44 @@ macro_rules! export {
 export!(keywrap_self_test = self_test() -> i32);
 export!(keywrap_kek_init = kek_init(in kek kek_len, out kept kept_len,) -> i32);
 export!(keywrap_kek_clear = kek_clear(out kept kept_len,) -> ());
-export!(keywrap_wrap = wrap(in kek kek_len, in key key_len, out text text_len,) -> i32);
-export!(keywrap_unwrap = unwrap(in kek kek_len, in text text_len, out key key_len,) -> i32);
-export!(keywrap_wrap_with = wrap_with(in kek kek_len, in iv iv_len, in key key_len, out text text_len,) -> i32);
-export!(keywrap_unwrap_with = unwrap_with(in kek kek_len, in iv iv_len, in text text_len, out key key_len,) -> i32);
-export!(keywrap_wrap_padded = wrap_padded(in kek kek_len, in key key_len, out text text_len,) -> i32);
-export!(keywrap_unwrap_padded = unwrap_padded(
-    in kek kek_len, in text text_len, out key room, as key_len: &mut usize,
+export!(keywrap_wrap = wrap(in kek kek_len, in key key_len, out wrapped wrapped_len,) -> i32);
+export!(keywrap_unwrap = unwrap(in kek kek_len, in wrapped wrapped_len, out key key_len,) -> i32);
+export!(keywrap_wrap_with = wrap_with(in kek kek_len, in iv iv_len, in key key_len, out wrapped wrapped_len,) -> i32);
+export!(keywrap_unwrap_with = unwrap_with(
+    in kek kek_len, in iv iv_len, in wrapped wrapped_len, out key key_len,
 ) -> i32);
-export!(keywrap_wrap_in_place = wrap_in_place(in kek kek_len, out buffer len,) -> i32);
-export!(keywrap_unwrap_in_place = unwrap_in_place(in kek kek_len, out buffer len,) -> i32);
+export!(keywrap_wrap_padded = wrap_padded(in kek kek_len, in key key_len, out wrapped wrapped_len,) -> i32);
+export!(keywrap_unwrap_padded = unwrap_padded(
+    in kek kek_len, in wrapped wrapped_len, out key room, as key_len: &mut usize,
+) -> i32);
+export!(keywrap_wrap_in_place = wrap_in_place(in kek kek_len, out buffer wrapped_len,) -> i32);
+export!(keywrap_unwrap_in_place = unwrap_in_place(in kek kek_len, out buffer wrapped_len,) -> i32);
 export!(keywrap_wrap_padded_in_place = wrap_padded_in_place(
-    in kek kek_len, out buffer len, as key_len: usize,
+    in kek kek_len, out buffer wrapped_len, as key_len: usize,
 ) -> i32);
 export!(keywrap_unwrap_padded_in_place = unwrap_padded_in_place(
-    in kek kek_len, out buffer len, as key_len: &mut usize,
-) -> i32);
-export!(keywrap_unwrap_any = unwrap_any(
-    in kek kek_len, in text text_len, out key room, as padded: &mut u32, as key_len: &mut usize,
+    in kek kek_len, out buffer wrapped_len, as key_len: &mut usize,
 ) -> i32);
 export!(keywrap_kind = kind(
-    in kek kek_len, in text text_len, out scratch room, as padded: &mut u32, as key_len: &mut usize,
+    in kek kek_len, in wrapped wrapped_len, out scratch room, as padded: &mut u32, as key_len: &mut usize,
+) -> i32);
+export!(keywrap_unwrap_any = unwrap_any(
+    in kek kek_len, in wrapped wrapped_len, out key room, as padded: &mut u32, as key_len: &mut usize,
 ) -> i32);
 export!(keywrap_rewrap = rewrap(
-    in old old_len, in new new_len, out buffer len, as flags: u32, as already: &mut u32,
-) -> i32);
-export!(keywrap_wrap_many = wrap_many(
-    in kek kek_len, out texts len, as key_len: usize, as flags: u32, out statuses count,
-) -> i32);
-export!(keywrap_unwrap_many = unwrap_many(
-    in kek kek_len, out texts len, as flags: u32, lens key_lens lens_count, out statuses count,
+    in old_kek old_kek_len, in new_kek new_kek_len, out buffer wrapped_len, as flags: u32, as already: &mut u32,
 ) -> i32);
 export!(keywrap_rewrap_many = rewrap_many(
-    in old old_len, in new new_len, out texts len, as flags: u32, out statuses count,
+    in old_kek old_kek_len, in new_kek new_kek_len, out texts texts_len, as flags: u32, out statuses count,
+) -> i32);
+export!(keywrap_wrap_many = wrap_many(
+    in kek kek_len, out texts texts_len, as key_len: usize, as flags: u32, out statuses count,
+) -> i32);
+export!(keywrap_unwrap_many = unwrap_many(
+    in kek kek_len, out texts texts_len, as flags: u32, lens key_lens key_lens_count, out statuses count,
 ) -> i32);
 export!(keywrap_kind_many = kind_many(
-    in kek kek_len, in texts len, out scratch room, out forms forms_count, lens key_lens lens_count,
+    in kek kek_len, in texts texts_len, out scratch room, out forms forms_count, lens key_lens key_lens_count,
     out statuses count,
 ) -> i32);
 

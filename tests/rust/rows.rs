@@ -1,7 +1,7 @@
 //! Makes the calls of the lines that faces.py writes, in the file that `KEYWRAP_ROWS` names, and prints what they
 //! return and write: into a buffer or in place, and as `KEYWRAP_WAY` says into a Vec (`_vec`) or by steps (`_steps`).
 
-use keywrap::steps::{Operation, Rewrapping, Stopped, Unwrapping, Wrapping};
+use keywrap::steps::{many as many_steps, Operation, Rewrapping, Stopped, Unwrapping, Wrapping};
 use keywrap::{Error, Form, Forms, KekSlice, KeptKek, Kind, Rewrapped, Status};
 
 type Result<T> = std::result::Result<T, Error>;
@@ -89,7 +89,7 @@ fn rewrapped(begun: Result<Rewrapping>, line: &Line) -> Result<Rewrapped> {
     ended.map_err(|(Stopped::Refused(error) | Stopped::Cipher(error))| error)
 }
 
-/// What a call for one key returns. Beside its buffer, if that is printed.
+/// The answer of a call for one key, and its buffer, if that is printed.
 fn one(line: &Line, call: &str, kek: &KekSlice, out: &mut [u8]) -> Result<String> {
     let (data, iv) = (&line.bytes(5)[..], line.bytes(3).try_into().unwrap_or_default());
     let (new_kek, (forms, pass_new)) = (line.bytes(2), line.forms());
@@ -135,6 +135,50 @@ fn one(line: &Line, call: &str, kek: &KekSlice, out: &mut [u8]) -> Result<String
     }
 }
 
+/// The call by the steps of many keys, over the AES of libcrypto.
+fn many_by_steps(
+    line: &Line, call: &str, form: Form, slots: &mut [u8], lens: &mut [usize], statuses: &mut [Status],
+) -> Result<()> {
+    let (old, encrypt) = (line.aes(1, true), line.aes(1, false));
+    let ended = match call {
+        "wrap_many" => {
+            let encrypt = |blocks: &mut [[u8; 16]]| blocks.iter_mut().try_for_each(&encrypt);
+            many_steps::wrap(form, slots, line.number(7), statuses.len(), encrypt)
+        }
+        "unwrap_many" => {
+            let decrypt = |blocks: &mut [[u8; 16]]| blocks.iter_mut().try_for_each(&old);
+            many_steps::unwrap(form, slots, lens, statuses, decrypt)
+        }
+        _ => {
+            let ((forms, pass_new), encrypt, decrypt) = (line.forms(), line.aes(2, false), line.aes(2, true));
+            let cipher = |operation, blocks: &mut [[u8; 16]]| match operation {
+                Operation::DecryptOld => blocks.iter_mut().try_for_each(&old),
+                Operation::EncryptNew => blocks.iter_mut().try_for_each(&encrypt),
+                Operation::DecryptNew => blocks.iter_mut().try_for_each(&decrypt),
+            };
+            many_steps::rewrap(slots, forms, pass_new, statuses, cipher)
+        }
+    };
+    ended.map_err(|(Stopped::Refused(error) | Stopped::Cipher(error))| error)
+}
+
+/// The steps of many keys return and write what the call did, unless it refused a KEK.
+fn same_by_steps(
+    line: &Line, call: &str, form: Form, before: &[u8], due: (&[u8], &[usize], &[Status]), is: Result<()>,
+) {
+    if call == "kind_many" || matches!(is, Err(Error::InvalidKekSize { .. })) {
+        return;
+    }
+    let mut slots = before.to_vec();
+    let (mut lens, mut statuses) = (vec![77; due.1.len()], vec![Status::default(); due.2.len()]);
+    assert_eq!(many_by_steps(line, call, form, &mut slots, &mut lens, &mut statuses), is);
+    if call == "wrap_many" {
+        // The steps of a wrapping return no statuses: they refuse none.
+        statuses.copy_from_slice(due.2);
+    }
+    assert_eq!((&slots[..], &lens[..], &statuses[..]), due);
+}
+
 /// A call for many keys. What it returns of each slot is what the arrays say.
 fn many(line: &Line, call: &str, kek: &KekSlice, out: &mut Vec<u8>) -> Result<String> {
     let (padded, (forms, pass_new)) = ([Form::Plain, Form::Padded][line.number(4).min(1)], line.forms());
@@ -143,13 +187,22 @@ fn many(line: &Line, call: &str, kek: &KekSlice, out: &mut Vec<u8>) -> Result<St
     let (new_kek, given, of_rewrapped) = (line.bytes(2), line.bytes(5), |one: Rewrapped| vec![one as u8]);
     let (new_kek, of_kind) = (KekSlice::new(&new_kek), |one: Kind| vec![one.form as u8, one.key_len as u8]);
     let (all, each_len) = (&mut statuses, &mut lens);
+    let before = out.clone();
     // The results of the iterators, a slot each.
-    let each: Vec<Result<Vec<u8>>> = match call {
-        "wrap_many" => kek.wrap_many(padded, out, line.number(7), all).map(|()| vec![])?,
-        "unwrap_many" => kek.unwrap_many(padded, out, each_len, all)?.map(|key| key.map(<[u8]>::to_vec)).collect(),
-        "rewrap_many" => kek.rewrap_many(new_kek, out, forms, pass_new, all)?.map(|it| it.map(of_rewrapped)).collect(),
-        _ => kek.kind_many(&given, out, &mut found, each_len, all)?.map(|kind| kind.map(of_kind)).collect(),
+    let each: Result<Vec<Result<Vec<u8>>>> = match call {
+        "wrap_many" => kek.wrap_many(padded, out, line.number(7), all).map(|()| vec![]),
+        "unwrap_many" => kek
+            .unwrap_many(padded, out, each_len, all)
+            .map(|each| each.map(|key| key.map(<[u8]>::to_vec)).collect()),
+        "rewrap_many" => kek
+            .rewrap_many(new_kek, out, forms, pass_new, all)
+            .map(|each| each.map(|it| it.map(of_rewrapped)).collect()),
+        _ => kek
+            .kind_many(&given, out, &mut found, each_len, all)
+            .map(|each| each.map(|kind| kind.map(of_kind)).collect()),
     };
+    same_by_steps(line, call, padded, &before, (&out[..], &lens, &statuses), each.clone().map(|_| ()));
+    let each = each?;
     let slot = out.len() / statuses.len().max(1);
     let due = statuses.iter().enumerate().map(|(at, status)| match call {
         "unwrap_many" => status.result().map(|()| out[slot * at + 8..][..lens[at]].to_vec()),

@@ -3,15 +3,16 @@
 
 mod instructions;
 
-use crate::clear::overwrite;
+use crate::clear::{clear, overwrite};
 use crate::proved::aes_block::Aes;
+use crate::proved::block_lanes::BlockLanes;
 use crate::proved::block_pair::BlockPair;
 use crate::proved::fips197::{BadKekLength, KeyInit, ScheduleFault, MAX_WORDS};
 use crate::proved::test_vectors::bytes::{
     DATA_16, FIPS197_2, FIPS197_3, FIPS197_4, KEY_16, KEY_24, KEY_32,
 };
 use core::sync::atomic::{AtomicU8, Ordering};
-use instructions::Instructions;
+use instructions::{Instructions, GROUP_BYTES};
 
 /// The bytes of the longest key schedule.
 const MAX_BYTES: usize = 4 * MAX_WORDS;
@@ -19,20 +20,30 @@ const MAX_BYTES: usize = 4 * MAX_WORDS;
 /// The round keys of one KEK, in the memory of a call. They are cleared when they are dropped.
 pub(crate) struct Room {
     /// The key schedule of FIPS 197, for the instructions.
-    schedule: Schedule,
+    schedule: Aligned,
     /// For the tables.
     tables: Option<Aes>,
 }
 
 type Schedule = [u8; MAX_BYTES];
 
+/// A key schedule whose address is a multiple of 16: it is cleared by whole numbers.
+#[repr(align(16))]
+struct Aligned(Schedule);
+
 impl Room {
     #[inline(always)]
     pub(crate) fn new() -> Self {
         Self {
-            schedule: [0; MAX_BYTES],
+            schedule: Aligned([0; MAX_BYTES]),
             tables: None,
         }
+    }
+
+    /// Whether AES by the tables was made here. To keep a KEK makes none.
+    #[inline(always)]
+    pub(crate) fn has_tables(&self) -> bool {
+        self.tables.is_some()
     }
 
     /// Writes the key schedule of a KEK, and returns its length in bytes.
@@ -40,13 +51,13 @@ impl Room {
         if !matches!(kek.len(), 16 | 24 | 32) {
             return None;
         }
-        by.expand(kek, &mut self.schedule);
+        by.expand(kek, &mut self.schedule.0);
         Some(4 * kek.len() + 112)
     }
 
     /// AES by the key schedule of this length.
     fn lend(&self, by: Instructions, len: usize) -> LentAes<'_> {
-        let (schedule, rounds) = (&self.schedule, len / 16 - 1);
+        let (schedule, rounds) = (&self.schedule.0, len / 16 - 1);
         LentAes::Instructions {
             by,
             schedule,
@@ -58,13 +69,32 @@ impl Room {
     fn lend_tables(&mut self, aes: Aes) -> LentAes<'_> {
         LentAes::Tables(self.tables.insert(aes))
     }
+
+    /// AES by the tables under a KEK. It is not inlined: calls that have the instructions need no memory for
+    /// it.
+    #[inline(never)]
+    fn new_tables(&mut self, kek: &[u8]) -> Result<LentAes<'_>, BadKekLength> {
+        Ok(self.lend_tables(Aes::new(kek)?))
+    }
+
+    /// AES by the tables with a key schedule.
+    #[inline(never)]
+    fn kept_tables(&mut self, schedule: &[u8]) -> Option<LentAes<'_>> {
+        Some(self.lend_tables(Aes::from_schedule(schedule)?))
+    }
+
+    #[inline(never)]
+    fn clear_tables(&mut self) {
+        overwrite(&mut self.tables, Aes::from_schedule(&[0; MAX_BYTES]));
+    }
 }
 
 impl Drop for Room {
+    #[inline(always)]
     fn drop(&mut self) {
-        overwrite(&mut self.schedule, [0; MAX_BYTES]);
-        if self.tables.is_some() {
-            overwrite(&mut self.tables, Aes::from_schedule(&[0; MAX_BYTES]));
+        clear(&mut self.schedule.0);
+        if self.has_tables() {
+            self.clear_tables();
         }
     }
 }
@@ -121,13 +151,59 @@ impl BlockPair for LentAes<'_> {
     }
 }
 
+/// Makes a call for the whole groups of blocks, and one for a group that begins with the blocks behind
+/// them.
+#[inline(always)]
+fn in_groups(blocks: &mut [u8], crypt: impl Fn(&mut [u8])) {
+    let rest_len = blocks.len() % GROUP_BYTES;
+    let (groups, rest) = blocks.split_at_mut(blocks.len() - rest_len);
+    crypt(groups);
+    if rest_len != 0 {
+        let mut group = [0; GROUP_BYTES];
+        group[..rest_len].copy_from_slice(rest);
+        crypt(&mut group);
+        rest.copy_from_slice(&group[..rest_len]);
+    }
+}
+
+/// The tables take one block after another.
+impl BlockLanes for Aes {}
+
+impl BlockLanes for LentAes<'_> {
+    fn encrypt_many(&self, blocks: &mut [u8]) {
+        match self {
+            LentAes::Instructions {
+                by,
+                schedule,
+                rounds,
+            } => in_groups(blocks, |groups| {
+                by.encrypt_groups(schedule, *rounds, groups);
+            }),
+            LentAes::Tables(aes) => aes.encrypt_many(blocks),
+        }
+    }
+
+    fn decrypt_many(&self, blocks: &mut [u8]) {
+        match self {
+            LentAes::Instructions {
+                by,
+                schedule,
+                rounds,
+            } => in_groups(blocks, |groups| {
+                by.decrypt_groups(schedule, *rounds, groups);
+            }),
+            LentAes::Tables(aes) => aes.decrypt_many(blocks),
+        }
+    }
+}
+
 impl<'a> KeyInit for LentAes<'a> {
     type Schedule = &'a mut Room;
 
     fn new_in(kek: &[u8], room: &'a mut Room) -> Result<Self, BadKekLength> {
         match working() {
             Some(by) => new_by(by, kek, room),
-            None => Ok(room.lend_tables(Aes::new(kek)?)),
+            None => room.new_tables(kek),
         }
     }
 
@@ -140,19 +216,19 @@ impl<'a> KeyInit for LentAes<'a> {
         if schedule.len() != len {
             return Err(ScheduleFault::BadLength);
         }
-        schedule.copy_from_slice(&room.schedule[..len]);
+        schedule.copy_from_slice(&room.schedule.0[..len]);
         Ok(())
     }
 
     fn from_schedule(schedule: &[u8], room: &'a mut Room) -> Option<Self> {
         let by = match working() {
             Some(by) => by,
-            None => return Some(room.lend_tables(Aes::from_schedule(schedule)?)),
+            None => return room.kept_tables(schedule),
         };
         if !matches!(schedule.len(), 176 | 208 | 240) {
             return None;
         }
-        room.schedule[..schedule.len()].copy_from_slice(schedule);
+        room.schedule.0[..schedule.len()].copy_from_slice(schedule);
         Some(room.lend(by, schedule.len()))
     }
 }
@@ -192,7 +268,10 @@ fn try_out() -> Option<Instructions> {
     found
 }
 
-/// Whether the instructions encrypt and decrypt as in FIPS 197, appendix C.
+/// A group of blocks, and the blocks of most of another.
+const TESTED_BYTES: usize = 2 * GROUP_BYTES - 16;
+
+/// Whether the instructions encrypt and decrypt as in FIPS 197, appendix C, one block and many.
 fn gives_known_answers(by: Instructions) -> bool {
     let known = [
         (KEY_16, FIPS197_2),
@@ -200,19 +279,37 @@ fn gives_known_answers(by: Instructions) -> bool {
         (KEY_32, FIPS197_4),
     ];
     known.iter().all(|(kek, encrypted)| {
-        let mut block = [0; 16];
-        block.copy_from_slice(DATA_16);
         let mut room = Room::new();
         match new_by(by, kek, &mut room) {
-            Ok(aes) => aes.enc(block)[..] == **encrypted && aes.dec(aes.enc(block)) == block,
+            Ok(aes) => encrypts_one(&aes, encrypted) && encrypts_many(&aes, encrypted),
             Err(_) => false,
         }
     })
 }
 
+fn encrypts_one(aes: &LentAes<'_>, encrypted: &[u8]) -> bool {
+    let mut block = [0; 16];
+    block.copy_from_slice(DATA_16);
+    aes.enc(block) == *encrypted && aes.dec(aes.enc(block)) == block
+}
+
+fn encrypts_many(aes: &LentAes<'_>, encrypted: &[u8]) -> bool {
+    let are_all = |blocks: &[u8], block: &[u8]| blocks.chunks(16).all(|found| found == block);
+    let mut blocks = [0; TESTED_BYTES];
+    for block in blocks.chunks_mut(16) {
+        block.copy_from_slice(DATA_16);
+    }
+    aes.encrypt_many(&mut blocks);
+    let is_encrypted = are_all(&blocks, encrypted);
+    aes.decrypt_many(&mut blocks);
+    is_encrypted && are_all(&blocks, DATA_16)
+}
+
 #[cfg(test)]
 mod tests {
-    use super::{instructions::Instructions, new_by, working, Aes, BlockPair, LentAes, Room};
+    use super::{
+        instructions::Instructions, new_by, working, Aes, BlockLanes, BlockPair, LentAes, Room,
+    };
     use crate::proved::fips197::KeyInit;
     use std::vec;
 
@@ -250,6 +347,31 @@ mod tests {
                 assert_eq!(aes.dec(block), tables.dec(block));
                 assert_eq!(kept.enc(block), tables.enc(block));
                 assert_eq!(kept.dec(block), tables.dec(block));
+            }
+        }
+    }
+
+    /// Any number of blocks at once, also by the tables: each becomes what it becomes alone.
+    #[test]
+    fn many_blocks() {
+        for kek in [&[1; 16][..], &[2; 24], &[3; 32]] {
+            let tables = Aes::new(kek).unwrap();
+            let (mut room, mut other) = (Room::new(), Room::new());
+            let aes = LentAes::new_in(kek, &mut room).ok().unwrap();
+            let by_tables = other.new_tables(kek).ok().unwrap();
+            for count in 0..50 {
+                let plain: vec::Vec<u8> = (0..16 * count).map(|i| (i * i / 7) as u8).collect();
+                let (mut alone, mut one, mut two) = (plain.clone(), plain.clone(), plain.clone());
+                for block in alone.chunks_exact_mut(16) {
+                    let encrypted = tables.enc((&*block).try_into().unwrap());
+                    block.copy_from_slice(&encrypted);
+                }
+                aes.encrypt_many(&mut one);
+                by_tables.encrypt_many(&mut two);
+                assert!(one == alone && two == alone, "{} blocks", count);
+                aes.decrypt_many(&mut one);
+                by_tables.decrypt_many(&mut two);
+                assert!(one == plain && two == plain, "{} blocks", count);
             }
         }
     }

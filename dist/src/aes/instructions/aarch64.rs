@@ -5,6 +5,7 @@
 // Which intrinsics are unsafe depends on the compiler's version, so no block says it.
 #![allow(unsafe_code, unsafe_op_in_unsafe_fn)]
 
+use super::{GROUP, GROUP_BYTES};
 use crate::byteorder::{BigEndian, ByteOrder};
 use crate::proved::fips197::{expand_key, SubWord, MAX_WORDS};
 use core::arch::aarch64::*;
@@ -56,6 +57,20 @@ impl Instructions {
     ) -> (u64, u64) {
         // SAFETY: the processor has the instructions.
         unsafe { decrypt(keys, rounds, low, high) }
+    }
+
+    /// Encrypts whole groups of blocks.
+    #[inline(always)]
+    pub(crate) fn encrypt_groups(self, keys: &[u8; 240], rounds: usize, groups: &mut [u8]) {
+        // SAFETY: the processor has the instructions.
+        unsafe { encrypt_groups(keys, rounds, groups) }
+    }
+
+    /// Decrypts whole groups of blocks.
+    #[inline(always)]
+    pub(crate) fn decrypt_groups(self, keys: &[u8; 240], rounds: usize, groups: &mut [u8]) {
+        // SAFETY: the processor has the instructions.
+        unsafe { decrypt_groups(keys, rounds, groups) }
     }
 }
 
@@ -204,4 +219,72 @@ unsafe fn decrypt(keys: &[u8; 240], rounds: usize, low: u64, high: u64) -> (u64,
     }
     state = aesd(state, key);
     stored(veorq_u8(state, round_key(keys, 0)))
+}
+
+/// Block `i` of a group.
+#[inline]
+#[target_feature(enable = "neon")]
+unsafe fn block(group: &[u8], i: usize) -> uint8x16_t {
+    debug_assert!(16 * i + 16 <= group.len());
+    let block = group.as_ptr().add(16 * i);
+    vcombine_u8(vld1_u8(block), vld1_u8(block.add(8)))
+}
+
+#[inline]
+#[target_feature(enable = "neon")]
+unsafe fn set_block(group: &mut [u8], i: usize, block: uint8x16_t) {
+    debug_assert!(16 * i + 16 <= group.len());
+    vst1q_u8(group.as_mut_ptr().add(16 * i), block);
+}
+
+#[inline]
+#[target_feature(enable = "neon")]
+unsafe fn blocks(group: &[u8]) -> [uint8x16_t; GROUP] {
+    let mut states = [vdupq_n_u8(0); GROUP];
+    for (i, state) in states.iter_mut().enumerate() {
+        *state = block(group, i);
+    }
+    states
+}
+
+/// A round of each block begins before the round of the first one ends.
+#[target_feature(enable = "neon,aes")]
+unsafe fn encrypt_groups(keys: &[u8; 240], rounds: usize, groups: &mut [u8]) {
+    assert!((1..15).contains(&rounds));
+    for group in groups.chunks_exact_mut(GROUP_BYTES) {
+        let mut states = blocks(group);
+        for k in 0..rounds - 1 {
+            let key = round_key(keys, k);
+            for state in &mut states {
+                *state = aese_aesmc(*state, key);
+            }
+        }
+        let (key, last) = (round_key(keys, rounds - 1), round_key(keys, rounds));
+        for (i, state) in states.iter().enumerate() {
+            set_block(group, i, veorq_u8(aese(*state, key), last));
+        }
+    }
+}
+
+/// The equivalent inverse cipher. The round keys are mixed once for all groups.
+#[target_feature(enable = "neon,aes")]
+unsafe fn decrypt_groups(keys: &[u8; 240], rounds: usize, groups: &mut [u8]) {
+    assert!((1..15).contains(&rounds));
+    let mut mixed = [vdupq_n_u8(0); 15];
+    mixed[rounds] = round_key(keys, rounds);
+    for (k, key) in mixed.iter_mut().enumerate().take(rounds).skip(1) {
+        *key = aesimc(round_key(keys, k));
+    }
+    for group in groups.chunks_exact_mut(GROUP_BYTES) {
+        let mut states = blocks(group);
+        for key in mixed[2..=rounds].iter().rev() {
+            for state in &mut states {
+                *state = aesd_aesimc(*state, *key);
+            }
+        }
+        let last = round_key(keys, 0);
+        for (i, state) in states.iter().enumerate() {
+            set_block(group, i, veorq_u8(aesd(*state, mixed[1]), last));
+        }
+    }
 }

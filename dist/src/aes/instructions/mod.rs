@@ -1,5 +1,11 @@
 //! The AES instructions of the processor. This is where the crate has to trust more than the proofs.
 
+/// The blocks of a group, which the processor works on side by side.
+const GROUP: usize = 8;
+
+/// The bytes of a group.
+pub(super) const GROUP_BYTES: usize = 16 * GROUP;
+
 #[cfg(all(target_arch = "x86_64", not(feature = "tables")))]
 mod x86_64;
 #[cfg(all(target_arch = "x86_64", not(feature = "tables")))]

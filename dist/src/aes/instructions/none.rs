@@ -19,4 +19,12 @@ impl Instructions {
     pub(crate) fn decrypt(self, _: &[u8; 240], _: usize, _: (u64, u64)) -> (u64, u64) {
         match self {}
     }
+
+    pub(crate) fn encrypt_groups(self, _: &[u8; 240], _: usize, _: &mut [u8]) {
+        match self {}
+    }
+
+    pub(crate) fn decrypt_groups(self, _: &[u8; 240], _: usize, _: &mut [u8]) {
+        match self {}
+    }
 }

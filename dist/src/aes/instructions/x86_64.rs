@@ -4,6 +4,7 @@
 // Which intrinsics are unsafe depends on the compiler's version, so no block says it.
 #![allow(unsafe_code, unsafe_op_in_unsafe_fn)]
 
+use super::{GROUP, GROUP_BYTES};
 use crate::byteorder::{BigEndian, ByteOrder};
 use crate::proved::fips197::{expand_key, SubWord, MAX_WORDS};
 use core::arch::x86_64::*;
@@ -54,6 +55,20 @@ impl Instructions {
     ) -> (u64, u64) {
         // SAFETY: the processor has the instructions.
         unsafe { decrypt(keys, rounds, low, high) }
+    }
+
+    /// Encrypts whole groups of blocks.
+    #[inline(always)]
+    pub(crate) fn encrypt_groups(self, keys: &[u8; 240], rounds: usize, groups: &mut [u8]) {
+        // SAFETY: the processor has the instructions.
+        unsafe { encrypt_groups(keys, rounds, groups) }
+    }
+
+    /// Decrypts whole groups of blocks.
+    #[inline(always)]
+    pub(crate) fn decrypt_groups(self, keys: &[u8; 240], rounds: usize, groups: &mut [u8]) {
+        // SAFETY: the processor has the instructions.
+        unsafe { decrypt_groups(keys, rounds, groups) }
     }
 }
 
@@ -133,4 +148,74 @@ unsafe fn decrypt(keys: &[u8; 240], rounds: usize, low: u64, high: u64) -> (u64,
         state = _mm_aesdec_si128(state, _mm_aesimc_si128(round_key(keys, k)));
     }
     stored(_mm_aesdeclast_si128(state, round_key(keys, 0)))
+}
+
+/// Block `i` of a group.
+#[inline]
+#[target_feature(enable = "sse2")]
+unsafe fn block(group: &[u8], i: usize) -> __m128i {
+    debug_assert!(16 * i + 16 <= group.len());
+    let block = group.as_ptr().add(16 * i);
+    let low = _mm_loadl_epi64(block.cast::<__m128i>());
+    let high = _mm_loadl_epi64(block.add(8).cast::<__m128i>());
+    _mm_unpacklo_epi64(low, high)
+}
+
+#[inline]
+#[target_feature(enable = "sse2")]
+unsafe fn set_block(group: &mut [u8], i: usize, block: __m128i) {
+    debug_assert!(16 * i + 16 <= group.len());
+    _mm_storeu_si128(group.as_mut_ptr().cast::<__m128i>().add(i), block);
+}
+
+/// The blocks of a group, with a round key added.
+#[inline]
+#[target_feature(enable = "sse2")]
+unsafe fn begun(group: &[u8], key: __m128i) -> [__m128i; GROUP] {
+    let mut states = [key; GROUP];
+    for (i, state) in states.iter_mut().enumerate() {
+        *state = _mm_xor_si128(*state, block(group, i));
+    }
+    states
+}
+
+/// A round of each block begins before the round of the first one ends.
+#[target_feature(enable = "aes,sse2")]
+unsafe fn encrypt_groups(keys: &[u8; 240], rounds: usize, groups: &mut [u8]) {
+    assert!(rounds < 15);
+    for group in groups.chunks_exact_mut(GROUP_BYTES) {
+        let mut states = begun(group, round_key(keys, 0));
+        for k in 1..rounds {
+            let key = round_key(keys, k);
+            for state in &mut states {
+                *state = _mm_aesenc_si128(*state, key);
+            }
+        }
+        let key = round_key(keys, rounds);
+        for (i, state) in states.iter().enumerate() {
+            set_block(group, i, _mm_aesenclast_si128(*state, key));
+        }
+    }
+}
+
+/// The equivalent inverse cipher. The round keys are mixed once for all groups.
+#[target_feature(enable = "aes,sse2")]
+unsafe fn decrypt_groups(keys: &[u8; 240], rounds: usize, groups: &mut [u8]) {
+    assert!(rounds < 15);
+    let mut mixed = [_mm_setzero_si128(); 15];
+    for (k, key) in mixed.iter_mut().enumerate().take(rounds).skip(1) {
+        *key = _mm_aesimc_si128(round_key(keys, k));
+    }
+    for group in groups.chunks_exact_mut(GROUP_BYTES) {
+        let mut states = begun(group, round_key(keys, rounds));
+        for key in mixed[1..rounds].iter().rev() {
+            for state in &mut states {
+                *state = _mm_aesdec_si128(*state, *key);
+            }
+        }
+        let key = round_key(keys, 0);
+        for (i, state) in states.iter().enumerate() {
+            set_block(group, i, _mm_aesdeclast_si128(*state, key));
+        }
+    }
 }
