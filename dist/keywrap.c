@@ -7,10 +7,10 @@
  * By Rattle rattle-kit-13f logic dac8208d650f15bf, binaryen 108, wabt 1.0.32.
  * docs/TRUST.md of the repository says what is proved, what is translated and what is trusted.
  *
- * It has four parts: the runtime; the module, which wasm2c translated from the WebAssembly that the
- * proved source compiles to; the calls, which let the module work in the caller's buffers; and, for
- * gcc and clang on x86-64 and on aarch64 with Linux or by Apple, AES by the processor's instructions
- * around the proved steps. All but the module is written by hand.
+ * It has four parts: the runtime; AES by the processor's instructions, for gcc and clang on x86-64 and
+ * on aarch64 with Linux or by Apple; the module, which wasm2c translated from the WebAssembly that the
+ * proved source compiles to; and the calls, which let the module work in the caller's buffers. All but
+ * the module is written by hand.
  *
  * Macros, all optional:
  *   KEYWRAP_NO_AES_INSTRUCTIONS   always uses the module's AES, which looks up tables
@@ -31,21 +31,24 @@
 #else
 #define MODULE_ORDER(value, len) (value)
 #endif
-#if defined(__aarch64__) && (defined(__linux__) || defined(__ARM_FEATURE_AES))
+#if defined(__aarch64__) && !defined(__AARCH64EB__) \
+    && (defined(__linux__) || defined(__ARM_FEATURE_AES))
 #define AARCH64_WITH_AES
 #endif
 #if (defined(__GNUC__) || defined(__clang__)) && (defined(__x86_64__) || defined(AARCH64_WITH_AES)) \
     && !defined(KEYWRAP_NO_AES_INSTRUCTIONS) && !defined(KEYWRAP_STEPS_ONLY)
 #define WITH_AES
 #endif
-#ifdef __GNUC__
+#if defined(__GNUC__) || defined(__clang__)
 #define INLINE static inline __attribute__((unused))
 #define ALWAYS_INLINE static inline __attribute__((always_inline))
 #define APART __attribute__((noinline, unused))
+#define LIKELY(condition) __builtin_expect(condition, 1)
 #else
 #define INLINE static inline
 #define ALWAYS_INLINE static inline
 #define APART
+#define LIKELY(condition) (condition)
 #endif
 
 /*** The runtime ***/
@@ -57,19 +60,78 @@ typedef uint64_t u64;
 typedef int32_t s32;
 typedef int64_t s64;
 
-/* The bytes of the module's stack that a call takes, that the steps take, and that one step takes; the
- * bytes of its constants, and their address, of all and of those that the steps read. */
-#define STACK 2640
-#define STEPS_STACK 80
-#define STEP_STACK 16
-#define DATA 4088
+/* The bytes of the module's constants, and their address, of all and of those that the steps read. */
+#define STACK_aes_kek_init 240
+#define STACK_aes_kind 384
+#define STACK_aes_kind_many 13776
+#define STACK_aes_rewrap 736
+#define STACK_aes_rewrap_in_place 736
+#define STACK_aes_rewrap_many 14496
+#define STACK_aes_self_test 416
+#define STACK_aes_unwrap 320
+#define STACK_aes_unwrap_any 384
+#define STACK_aes_unwrap_in_place 320
+#define STACK_aes_unwrap_many 1104
+#define STACK_aes_unwrap_padded 320
+#define STACK_aes_unwrap_padded_in_place 320
+#define STACK_aes_unwrap_with 320
+#define STACK_aes_wrap 320
+#define STACK_aes_wrap_in_place 320
+#define STACK_aes_wrap_many 1088
+#define STACK_aes_wrap_padded 320
+#define STACK_aes_wrap_padded_in_place 320
+#define STACK_aes_wrap_with 320
+#define STACK_keywrap_begin_rewrap 0
+#define STACK_keywrap_begin_unwrap 0
+#define STACK_keywrap_begin_unwrap_many 16
+#define STACK_keywrap_begin_unwrap_padded 0
+#define STACK_keywrap_begin_wrap 0
+#define STACK_keywrap_begin_wrap_many 16
+#define STACK_keywrap_begin_wrap_padded 0
+#define STACK_keywrap_end_unwrap 16
+#define STACK_keywrap_end_unwrap_any 16
+#define STACK_keywrap_end_unwrap_many 32
+#define STACK_keywrap_end_unwrap_padded 16
+#define STACK_keywrap_end_wrap 0
+#define STACK_keywrap_end_wrap_many 16
+#define STACK_keywrap_kek_clear 0
+#define STACK_keywrap_kek_init 240
+#define STACK_keywrap_kind 1520
+#define STACK_keywrap_kind_many 1472
+#define STACK_keywrap_next_rewrap 80
+#define STACK_keywrap_next_rewrap_from 80
+#define STACK_keywrap_rewrap 2048
+#define STACK_keywrap_rewrap_in_place 2048
+#define STACK_keywrap_rewrap_many 2016
+#define STACK_keywrap_self_test 2640
+#define STACK_keywrap_status_text 0
+#define STACK_keywrap_step_count 0
+#define STACK_keywrap_step_unwrap 0
+#define STACK_keywrap_step_unwrap_many 16
+#define STACK_keywrap_step_wrap 0
+#define STACK_keywrap_step_wrap_many 16
+#define STACK_keywrap_unwrap 1504
+#define STACK_keywrap_unwrap_any 1520
+#define STACK_keywrap_unwrap_in_place 1488
+#define STACK_keywrap_unwrap_many 1472
+#define STACK_keywrap_unwrap_padded 1504
+#define STACK_keywrap_unwrap_padded_in_place 1488
+#define STACK_keywrap_unwrap_with 1504
+#define STACK_keywrap_version 0
+#define STACK_keywrap_wrap 1488
+#define STACK_keywrap_wrap_in_place 1488
+#define STACK_keywrap_wrap_many 1472
+#define STACK_keywrap_wrap_padded 1488
+#define STACK_keywrap_wrap_padded_in_place 1488
+#define STACK_keywrap_wrap_with 1488
+#define DATA 4096
 #define TOP 65536
-#define STEPS_AT 68780
-#define STEPS_DATA 568
+#define STEPS_AT 68784
+#define STEPS_DATA 572
 #ifdef KEYWRAP_STEPS_ONLY
 enum { CONSTANTS = STEPS_DATA, CONSTANTS_AT = STEPS_AT };
 static const u8 constants[CONSTANTS] = {
-    0x10, 0x00, 0x00, 0x00, 0x14, 0x00, 0x00, 0x00, 0x20, 0x00, 0x00, 0x00, 0x13, 0x00, 0x00, 0x00, 0x17, 0x00, 0x00, 0x00, 0x23, 0x00, 0x00, 0x00, 0x12, 0x00, 0x00, 0x00, 0x16, 0x00, 0x00, 0x00, 0x22, 0x00, 0x00, 0x00, 0x01, 0x00, 0x00, 0x00, 0x00, 0x00, 0x00, 0x00, 0x01, 0x00, 0x00, 0x00, 0x00, 0x00, 0x00, 0x00, 0x01, 0x00, 0x00, 0x00, 0x00, 0x00, 0x00, 0x00, 0x01, 0x00, 0x00, 0x00, 0x00, 0x00, 0x00, 0x00, 0x00, 0x00, 0x00, 0x00, 0x00, 0x00, 0x00, 0x00, 0x00, 0x00, 0x00, 0x00, 0x00, 0x00, 0x00, 0x00, 0x00, 0x00, 0x00, 0x00, 0x00, 0x00, 0x00, 0x00, 0x00, 0x00, 0x00, 0x00, 0x00, 0x00, 0x00, 0x00, 0x01, 0x00, 0x00, 0x00, 0x00, 0x00, 0x00, 0x00, 0x01, 0x00, 0x00, 0x00, 0x00, 0x00, 0x00, 0x00, 0x01, 0x00, 0x00, 0x00, 0x00, 0x00, 0x00, 0x00, 0x01, 0x00, 0x00, 0x00, 0x00, 0x00, 0x00, 0x00, 0x00, 0x00, 0x00, 0x00, 0x00, 0x00, 0x00, 0x00, 0x00, 0x00, 0x00, 0x00, 0x00, 0x00, 0x00, 0x00, 0x01, 0x00, 0x00, 0x00, 0x00, 0x00, 0x00, 0x00, 0x00, 0x00, 0x00, 0x00, 0x00, 0x00, 0x00, 0x00, 0x01, 0x00, 0x00, 0x00, 0x00, 0x00, 0x00, 0x00, 0x00, 0x00, 0x00, 0x00, 0x00, 0x00, 0x00, 0x00, 0x00, 0x00, 0x00, 0x00, 0x00, 0x00, 0x00, 0x00, 0x00, 0x00, 0x00, 0x00, 0x00, 0x00, 0x00, 0x00, 0x00, 0x00, 0x00, 0x00, 0x00, 0x00, 0x00, 0x00, 0x00, 0x00, 0x00, 0x00, 0x00, 0x00, 0x00, 0x00, 0x01, 0x00, 0x00, 0x00, 0x00, 0x00, 0x00, 0x00, 0x00, 0x00, 0x00, 0x00, 0x00, 0x00, 0x00, 0x00, 0x01, 0x00, 0x00, 0x00, 0x00, 0x00, 0x00, 0x00, 0x00, 0x00, 0x00, 0x00, 0x00, 0x00, 0x00, 0x00, 0xa6, 0xa6, 0xa6, 0xa6, 0xa6, 0xa6, 0xa6, 0xa6, 0x00, 0x00, 0x00, 0x00, 0x00, 0x00, 0x00, 0x00, 0xa6, 0xa6, 0xa6, 0xa6, 0xa6, 0xa6, 0xa6, 0xa6, 0x00, 0x00, 0x00, 0x00, 0x00, 0x00, 0x00, 0x00, 0x00, 0x00, 0x00, 0x00, 0x00, 0x00, 0x00, 0x00, 0x00, 0x00, 0x00, 0x00, 0x00, 0x00, 0x00, 0x00, 0x00, 0x00, 0x00, 0x00, 0x00, 0x00, 0x00, 0x00, 0x00, 0x00, 0x00, 0x00, 0x00, 0x00, 0x00, 0x00, 0xa6, 0xa6, 0xa6, 0xa6, 0xa6, 0xa6, 0xa6, 0xa6, 0x00, 0x00, 0x00, 0x00, 0x00, 0x00, 0x00, 0x00, 0xa6, 0xa6, 0xa6, 0xa6, 0xa6, 0xa6, 0xa6, 0xa6, 0x00, 0x00, 0x00, 0x00, 0x00, 0x00, 0x00, 0x00, 0x00, 0x00, 0x00, 0x00, 0x00, 0x00, 0x00, 0x00, 0x00, 0x00, 0x00, 0x00, 0x00, 0x00, 0x00, 0x00, 0x00, 0x00, 0x00, 0x00, 0x00, 0x00, 0x00, 0x00, 0x01, 0x00, 0x00, 0x00, 0x00, 0x00, 0x00, 0x00, 0x01, 0x00, 0x00, 0x00, 0x00, 0x00, 0x00, 0x00, 0x00, 0x00, 0x00, 0x00, 0x00, 0x00, 0x00, 0x00, 0x00, 0x00, 0x00, 0x00, 0x00, 0x00, 0x00, 0x00, 0x00, 0x00, 0x00, 0x00, 0x00, 0x00, 0x00, 0x00, 0x00, 0x00, 0x00, 0x00, 0x00, 0x00, 0x00, 0x00, 0x00, 0x00, 0x00, 0x00, 0x00, 0x00, 0x00, 0x00, 0x00, 0x00, 0x00, 0x00, 0x00, 0x00, 0x00, 0x00, 0x01, 0x00, 0x00, 0x00, 0x00, 0x00, 0x00, 0x00, 0x01, 0x00, 0x00, 0x00, 0x00, 0x00, 0x00, 0x00, 0x00, 0x00, 0x00, 0x00, 0x00, 0x00, 0x00, 0x00, 0xa6, 0xa6, 0xa6, 0xa6, 0xa6, 0xa6, 0xa6, 0xa6, 0xa6, 0xa6, 0xa6, 0xa6, 0xa6, 0xa6, 0xa6, 0xa6, 0x00, 0x00, 0x00, 0x00, 0x00, 0x00, 0x00, 0x00, 0x00, 0x00, 0x00, 0x00, 0x00, 0x00, 0x00, 0x00, 0x00, 0x00, 0x00, 0x00, 0x00, 0x00, 0x00, 0x00, 0x00, 0x00, 0x00, 0x00, 0x00, 0x00, 0x00, 0x00, 0x00, 0x00, 0x00, 0x00, 0x00, 0x00, 0x00, 0x00, 0x00, 0x00, 0x00, 0x00, 0x00, 0x00, 0x00, 0x00, 0xa6, 0xa6, 0xa6, 0xa6, 0xa6, 0xa6, 0xa6, 0xa6, 0xa6, 0xa6, 0xa6, 0xa6, 0xa6, 0xa6, 0xa6, 0xa6, 0x00, 0x00, 0x00, 0x00, 0x00, 0x00, 0x00, 0x00, 0x00, 0x00, 0x00, 0x00, 0x00, 0x00, 0x00, 0x00, 0x00, 0x00, 0x00, 0x00, 0x00, 0x00, 0x00, 0x00, 0x04, 0x00, 0x00, 0x00, 0x05, 0x00, 0x00, 0x00, 0x08, 0x00, 0x00, 0x00
+    0x10, 0x00, 0x00, 0x00, 0x14, 0x00, 0x00, 0x00, 0x20, 0x00, 0x00, 0x00, 0x13, 0x00, 0x00, 0x00, 0x17, 0x00, 0x00, 0x00, 0x23, 0x00, 0x00, 0x00, 0x12, 0x00, 0x00, 0x00, 0x16, 0x00, 0x00, 0x00, 0x22, 0x00, 0x00, 0x00, 0x00, 0x00, 0x00, 0x00, 0x01, 0x00, 0x00, 0x00, 0x00, 0x00, 0x00, 0x00, 0x01, 0x00, 0x00, 0x00, 0x00, 0x00, 0x00, 0x00, 0x01, 0x00, 0x00, 0x00, 0x00, 0x00, 0x00, 0x00, 0x01, 0x00, 0x00, 0x00, 0x00, 0x00, 0x00, 0x00, 0x00, 0x00, 0x00, 0x00, 0x00, 0x00, 0x00, 0x00, 0x00, 0x00, 0x00, 0x00, 0x00, 0x00, 0x00, 0x00, 0x00, 0x00, 0x00, 0x00, 0x00, 0x00, 0x00, 0x00, 0x00, 0x00, 0x00, 0x00, 0x00, 0x00, 0x00, 0x00, 0x01, 0x00, 0x00, 0x00, 0x00, 0x00, 0x00, 0x00, 0x01, 0x00, 0x00, 0x00, 0x00, 0x00, 0x00, 0x00, 0x01, 0x00, 0x00, 0x00, 0x00, 0x00, 0x00, 0x00, 0x01, 0x00, 0x00, 0x00, 0x00, 0x00, 0x00, 0x00, 0x00, 0x00, 0x00, 0x00, 0x00, 0x00, 0x00, 0x00, 0x00, 0x00, 0x00, 0x00, 0x00, 0x00, 0x00, 0x00, 0x01, 0x00, 0x00, 0x00, 0x00, 0x00, 0x00, 0x00, 0x00, 0x00, 0x00, 0x00, 0x00, 0x00, 0x00, 0x00, 0x01, 0x00, 0x00, 0x00, 0x00, 0x00, 0x00, 0x00, 0x00, 0x00, 0x00, 0x00, 0x00, 0x00, 0x00, 0x00, 0x00, 0x00, 0x00, 0x00, 0x00, 0x00, 0x00, 0x00, 0x00, 0x00, 0x00, 0x00, 0x00, 0x00, 0x00, 0x00, 0x00, 0x00, 0x00, 0x00, 0x00, 0x00, 0x00, 0x00, 0x00, 0x00, 0x00, 0x00, 0x00, 0x00, 0x00, 0x00, 0x01, 0x00, 0x00, 0x00, 0x00, 0x00, 0x00, 0x00, 0x00, 0x00, 0x00, 0x00, 0x00, 0x00, 0x00, 0x00, 0x01, 0x00, 0x00, 0x00, 0x00, 0x00, 0x00, 0x00, 0x00, 0x00, 0x00, 0x00, 0x00, 0x00, 0x00, 0x00, 0xa6, 0xa6, 0xa6, 0xa6, 0xa6, 0xa6, 0xa6, 0xa6, 0x00, 0x00, 0x00, 0x00, 0x00, 0x00, 0x00, 0x00, 0xa6, 0xa6, 0xa6, 0xa6, 0xa6, 0xa6, 0xa6, 0xa6, 0x00, 0x00, 0x00, 0x00, 0x00, 0x00, 0x00, 0x00, 0x00, 0x00, 0x00, 0x00, 0x00, 0x00, 0x00, 0x00, 0x00, 0x00, 0x00, 0x00, 0x00, 0x00, 0x00, 0x00, 0x00, 0x00, 0x00, 0x00, 0x00, 0x00, 0x00, 0x00, 0x00, 0x00, 0x00, 0x00, 0x00, 0x00, 0x00, 0x00, 0xa6, 0xa6, 0xa6, 0xa6, 0xa6, 0xa6, 0xa6, 0xa6, 0x00, 0x00, 0x00, 0x00, 0x00, 0x00, 0x00, 0x00, 0xa6, 0xa6, 0xa6, 0xa6, 0xa6, 0xa6, 0xa6, 0xa6, 0x00, 0x00, 0x00, 0x00, 0x00, 0x00, 0x00, 0x00, 0x00, 0x00, 0x00, 0x00, 0x00, 0x00, 0x00, 0x00, 0x00, 0x00, 0x00, 0x00, 0x00, 0x00, 0x00, 0x00, 0x00, 0x00, 0x00, 0x00, 0x00, 0x00, 0x00, 0x00, 0x01, 0x00, 0x00, 0x00, 0x00, 0x00, 0x00, 0x00, 0x01, 0x00, 0x00, 0x00, 0x00, 0x00, 0x00, 0x00, 0x00, 0x00, 0x00, 0x00, 0x00, 0x00, 0x00, 0x00, 0x00, 0x00, 0x00, 0x00, 0x00, 0x00, 0x00, 0x00, 0x00, 0x00, 0x00, 0x00, 0x00, 0x00, 0x00, 0x00, 0x00, 0x00, 0x00, 0x00, 0x00, 0x00, 0x00, 0x00, 0x00, 0x00, 0x00, 0x00, 0x00, 0x00, 0x00, 0x00, 0x00, 0x00, 0x00, 0x00, 0x00, 0x00, 0x00, 0x00, 0x01, 0x00, 0x00, 0x00, 0x00, 0x00, 0x00, 0x00, 0x01, 0x00, 0x00, 0x00, 0x00, 0x00, 0x00, 0x00, 0x00, 0x00, 0x00, 0x00, 0x00, 0x00, 0x00, 0x00, 0xa6, 0xa6, 0xa6, 0xa6, 0xa6, 0xa6, 0xa6, 0xa6, 0xa6, 0xa6, 0xa6, 0xa6, 0xa6, 0xa6, 0xa6, 0xa6, 0x00, 0x00, 0x00, 0x00, 0x00, 0x00, 0x00, 0x00, 0x00, 0x00, 0x00, 0x00, 0x00, 0x00, 0x00, 0x00, 0x00, 0x00, 0x00, 0x00, 0x00, 0x00, 0x00, 0x00, 0x00, 0x00, 0x00, 0x00, 0x00, 0x00, 0x00, 0x00, 0x00, 0x00, 0x00, 0x00, 0x00, 0x00, 0x00, 0x00, 0x00, 0x00, 0x00, 0x00, 0x00, 0x00, 0x00, 0x00, 0xa6, 0xa6, 0xa6, 0xa6, 0xa6, 0xa6, 0xa6, 0xa6, 0xa6, 0xa6, 0xa6, 0xa6, 0xa6, 0xa6, 0xa6, 0xa6, 0x00, 0x00, 0x00, 0x00, 0x00, 0x00, 0x00, 0x00, 0x00, 0x00, 0x00, 0x00, 0x00, 0x00, 0x00, 0x00, 0x00, 0x00, 0x00, 0x00, 0x00, 0x00, 0x00, 0x00, 0x04, 0x00, 0x00, 0x00, 0x05, 0x00, 0x00, 0x00, 0x08, 0x00, 0x00, 0x00
 };
 #else
 enum { CONSTANTS = DATA, CONSTANTS_AT = TOP };
@@ -77,49 +139,86 @@ static const u8 constants[CONSTANTS] = {
   0x00, 0x00, 0x00, 0x01, 0x00, 0x00, 0x00, 0x02, 0x00, 0x00, 0x00, 0x04, 
   0x00, 0x00, 0x00, 0x08, 0x00, 0x00, 0x00, 0x10, 0x00, 0x00, 0x00, 0x20, 
   0x00, 0x00, 0x00, 0x40, 0x00, 0x00, 0x00, 0x80, 0x00, 0x00, 0x00, 0x1b, 
-  0x00, 0x00, 0x00, 0x36, 0x63, 0x7c, 0x77, 0x7b, 0xf2, 0x6b, 0x6f, 0xc5, 
-  0x30, 0x01, 0x67, 0x2b, 0xfe, 0xd7, 0xab, 0x76, 0xca, 0x82, 0xc9, 0x7d, 
-  0xfa, 0x59, 0x47, 0xf0, 0xad, 0xd4, 0xa2, 0xaf, 0x9c, 0xa4, 0x72, 0xc0, 
-  0xb7, 0xfd, 0x93, 0x26, 0x36, 0x3f, 0xf7, 0xcc, 0x34, 0xa5, 0xe5, 0xf1, 
-  0x71, 0xd8, 0x31, 0x15, 0x04, 0xc7, 0x23, 0xc3, 0x18, 0x96, 0x05, 0x9a, 
-  0x07, 0x12, 0x80, 0xe2, 0xeb, 0x27, 0xb2, 0x75, 0x09, 0x83, 0x2c, 0x1a, 
-  0x1b, 0x6e, 0x5a, 0xa0, 0x52, 0x3b, 0xd6, 0xb3, 0x29, 0xe3, 0x2f, 0x84, 
-  0x53, 0xd1, 0x00, 0xed, 0x20, 0xfc, 0xb1, 0x5b, 0x6a, 0xcb, 0xbe, 0x39, 
-  0x4a, 0x4c, 0x58, 0xcf, 0xd0, 0xef, 0xaa, 0xfb, 0x43, 0x4d, 0x33, 0x85, 
-  0x45, 0xf9, 0x02, 0x7f, 0x50, 0x3c, 0x9f, 0xa8, 0x51, 0xa3, 0x40, 0x8f, 
-  0x92, 0x9d, 0x38, 0xf5, 0xbc, 0xb6, 0xda, 0x21, 0x10, 0xff, 0xf3, 0xd2, 
-  0xcd, 0x0c, 0x13, 0xec, 0x5f, 0x97, 0x44, 0x17, 0xc4, 0xa7, 0x7e, 0x3d, 
-  0x64, 0x5d, 0x19, 0x73, 0x60, 0x81, 0x4f, 0xdc, 0x22, 0x2a, 0x90, 0x88, 
-  0x46, 0xee, 0xb8, 0x14, 0xde, 0x5e, 0x0b, 0xdb, 0xe0, 0x32, 0x3a, 0x0a, 
-  0x49, 0x06, 0x24, 0x5c, 0xc2, 0xd3, 0xac, 0x62, 0x91, 0x95, 0xe4, 0x79, 
-  0xe7, 0xc8, 0x37, 0x6d, 0x8d, 0xd5, 0x4e, 0xa9, 0x6c, 0x56, 0xf4, 0xea, 
-  0x65, 0x7a, 0xae, 0x08, 0xba, 0x78, 0x25, 0x2e, 0x1c, 0xa6, 0xb4, 0xc6, 
-  0xe8, 0xdd, 0x74, 0x1f, 0x4b, 0xbd, 0x8b, 0x8a, 0x70, 0x3e, 0xb5, 0x66, 
-  0x48, 0x03, 0xf6, 0x0e, 0x61, 0x35, 0x57, 0xb9, 0x86, 0xc1, 0x1d, 0x9e, 
-  0xe1, 0xf8, 0x98, 0x11, 0x69, 0xd9, 0x8e, 0x94, 0x9b, 0x1e, 0x87, 0xe9, 
-  0xce, 0x55, 0x28, 0xdf, 0x8c, 0xa1, 0x89, 0x0d, 0xbf, 0xe6, 0x42, 0x68, 
-  0x41, 0x99, 0x2d, 0x0f, 0xb0, 0x54, 0xbb, 0x16, 0x52, 0x09, 0x6a, 0xd5, 
-  0x30, 0x36, 0xa5, 0x38, 0xbf, 0x40, 0xa3, 0x9e, 0x81, 0xf3, 0xd7, 0xfb, 
-  0x7c, 0xe3, 0x39, 0x82, 0x9b, 0x2f, 0xff, 0x87, 0x34, 0x8e, 0x43, 0x44, 
-  0xc4, 0xde, 0xe9, 0xcb, 0x54, 0x7b, 0x94, 0x32, 0xa6, 0xc2, 0x23, 0x3d, 
-  0xee, 0x4c, 0x95, 0x0b, 0x42, 0xfa, 0xc3, 0x4e, 0x08, 0x2e, 0xa1, 0x66, 
-  0x28, 0xd9, 0x24, 0xb2, 0x76, 0x5b, 0xa2, 0x49, 0x6d, 0x8b, 0xd1, 0x25, 
-  0x72, 0xf8, 0xf6, 0x64, 0x86, 0x68, 0x98, 0x16, 0xd4, 0xa4, 0x5c, 0xcc, 
-  0x5d, 0x65, 0xb6, 0x92, 0x6c, 0x70, 0x48, 0x50, 0xfd, 0xed, 0xb9, 0xda, 
-  0x5e, 0x15, 0x46, 0x57, 0xa7, 0x8d, 0x9d, 0x84, 0x90, 0xd8, 0xab, 0x00, 
-  0x8c, 0xbc, 0xd3, 0x0a, 0xf7, 0xe4, 0x58, 0x05, 0xb8, 0xb3, 0x45, 0x06, 
-  0xd0, 0x2c, 0x1e, 0x8f, 0xca, 0x3f, 0x0f, 0x02, 0xc1, 0xaf, 0xbd, 0x03, 
-  0x01, 0x13, 0x8a, 0x6b, 0x3a, 0x91, 0x11, 0x41, 0x4f, 0x67, 0xdc, 0xea, 
-  0x97, 0xf2, 0xcf, 0xce, 0xf0, 0xb4, 0xe6, 0x73, 0x96, 0xac, 0x74, 0x22, 
-  0xe7, 0xad, 0x35, 0x85, 0xe2, 0xf9, 0x37, 0xe8, 0x1c, 0x75, 0xdf, 0x6e, 
-  0x47, 0xf1, 0x1a, 0x71, 0x1d, 0x29, 0xc5, 0x89, 0x6f, 0xb7, 0x62, 0x0e, 
-  0xaa, 0x18, 0xbe, 0x1b, 0xfc, 0x56, 0x3e, 0x4b, 0xc6, 0xd2, 0x79, 0x20, 
-  0x9a, 0xdb, 0xc0, 0xfe, 0x78, 0xcd, 0x5a, 0xf4, 0x1f, 0xdd, 0xa8, 0x33, 
-  0x88, 0x07, 0xc7, 0x31, 0xb1, 0x12, 0x10, 0x59, 0x27, 0x80, 0xec, 0x5f, 
-  0x60, 0x51, 0x7f, 0xa9, 0x19, 0xb5, 0x4a, 0x0d, 0x2d, 0xe5, 0x7a, 0x9f, 
-  0x93, 0xc9, 0x9c, 0xef, 0xa0, 0xe0, 0x3b, 0x4d, 0xae, 0x2a, 0xf5, 0xb0, 
-  0xc8, 0xeb, 0xbb, 0x3c, 0x83, 0x53, 0x99, 0x61, 0x17, 0x2b, 0x04, 0x7e, 
-  0xba, 0x77, 0xd6, 0x26, 0xe1, 0x69, 0x14, 0x63, 0x55, 0x21, 0x0c, 0x7d, 
+  0x00, 0x00, 0x00, 0x36, 0x00, 0x01, 0x02, 0x03, 0x04, 0x05, 0x06, 0x07, 
+  0x08, 0x09, 0x0a, 0x0b, 0x0c, 0x0d, 0x0e, 0x0f, 0x00, 0x11, 0x22, 0x33, 
+  0x44, 0x55, 0x66, 0x77, 0x88, 0x99, 0xaa, 0xbb, 0xcc, 0xdd, 0xee, 0xff, 
+  0x1f, 0xa6, 0x8b, 0x0a, 0x81, 0x12, 0xb4, 0x47, 0xae, 0xf3, 0x4b, 0xd8, 
+  0xfb, 0x5a, 0x7b, 0x82, 0x9d, 0x3e, 0x86, 0x23, 0x71, 0xd2, 0xcf, 0xe5, 
+  0x00, 0x01, 0x02, 0x03, 0x04, 0x05, 0x06, 0x07, 0x08, 0x09, 0x0a, 0x0b, 
+  0x0c, 0x0d, 0x0e, 0x0f, 0x10, 0x11, 0x12, 0x13, 0x14, 0x15, 0x16, 0x17, 
+  0x96, 0x77, 0x8b, 0x25, 0xae, 0x6c, 0xa4, 0x35, 0xf9, 0x2b, 0x5b, 0x97, 
+  0xc0, 0x50, 0xae, 0xd2, 0x46, 0x8a, 0xb8, 0xa1, 0x7a, 0xd8, 0x4e, 0x5d, 
+  0x00, 0x01, 0x02, 0x03, 0x04, 0x05, 0x06, 0x07, 0x08, 0x09, 0x0a, 0x0b, 
+  0x0c, 0x0d, 0x0e, 0x0f, 0x10, 0x11, 0x12, 0x13, 0x14, 0x15, 0x16, 0x17, 
+  0x18, 0x19, 0x1a, 0x1b, 0x1c, 0x1d, 0x1e, 0x1f, 0x64, 0xe8, 0xc3, 0xf9, 
+  0xce, 0x0f, 0x5b, 0xa2, 0x63, 0xe9, 0x77, 0x79, 0x05, 0x81, 0x8a, 0x2a, 
+  0x93, 0xc8, 0x19, 0x1e, 0x7d, 0x6e, 0x8a, 0xe7, 0x00, 0x11, 0x22, 0x33, 
+  0x44, 0x55, 0x66, 0x77, 0x88, 0x99, 0xaa, 0xbb, 0xcc, 0xdd, 0xee, 0xff, 
+  0x00, 0x01, 0x02, 0x03, 0x04, 0x05, 0x06, 0x07, 0x03, 0x1d, 0x33, 0x26, 
+  0x4e, 0x15, 0xd3, 0x32, 0x68, 0xf2, 0x4e, 0xc2, 0x60, 0x74, 0x3e, 0xdc, 
+  0xe1, 0xc6, 0xc7, 0xdd, 0xee, 0x72, 0x5a, 0x93, 0x6b, 0xa8, 0x14, 0x91, 
+  0x5c, 0x67, 0x62, 0xd2, 0xa8, 0xf9, 0xbc, 0x16, 0x12, 0xc6, 0x8b, 0x3f, 
+  0xf6, 0xe6, 0xf4, 0xfb, 0xe3, 0x0e, 0x71, 0xe4, 0x76, 0x9c, 0x8b, 0x80, 
+  0xa3, 0x2c, 0xb8, 0x95, 0x8c, 0xd5, 0xd1, 0x7d, 0x6b, 0x25, 0x4d, 0xa1, 
+  0x00, 0x11, 0x22, 0x33, 0x44, 0x55, 0x66, 0x77, 0x88, 0x99, 0xaa, 0xbb, 
+  0xcc, 0xdd, 0xee, 0xff, 0x00, 0x01, 0x02, 0x03, 0x04, 0x05, 0x06, 0x07, 
+  0x08, 0x09, 0x0a, 0x0b, 0x0c, 0x0d, 0x0e, 0x0f, 0x28, 0xc9, 0xf4, 0x04, 
+  0xc4, 0xb8, 0x10, 0xf4, 0xcb, 0xcc, 0xb3, 0x5c, 0xfb, 0x87, 0xf8, 0x26, 
+  0x3f, 0x57, 0x86, 0xe2, 0xd8, 0x0e, 0xd3, 0x26, 0xcb, 0xc7, 0xf0, 0xe7, 
+  0x1a, 0x99, 0xf4, 0x3b, 0xfb, 0x98, 0x8b, 0x9b, 0x7a, 0x02, 0xdd, 0x21, 
+  0x58, 0x40, 0xdf, 0x6e, 0x29, 0xb0, 0x2a, 0xf1, 0xab, 0x49, 0x3b, 0x70, 
+  0x5b, 0xf1, 0x6e, 0xa1, 0xae, 0x83, 0x38, 0xf4, 0xdc, 0xc1, 0x76, 0xa8, 
+  0xc3, 0x7b, 0x7e, 0x64, 0x92, 0x58, 0x43, 0x40, 0xbe, 0xd1, 0x22, 0x07, 
+  0x80, 0x89, 0x41, 0x15, 0x50, 0x68, 0xf7, 0x38, 0x13, 0x8b, 0xde, 0xaa, 
+  0x9b, 0x8f, 0xa7, 0xfc, 0x61, 0xf9, 0x77, 0x42, 0xe7, 0x22, 0x48, 0xee, 
+  0x5a, 0xe6, 0xae, 0x53, 0x60, 0xd1, 0xae, 0x6a, 0x5f, 0x54, 0xf3, 0x73, 
+  0xfa, 0x54, 0x3b, 0x6a, 0x46, 0x6f, 0x72, 0x50, 0x61, 0x73, 0x69, 0xaf, 
+  0xbe, 0xb0, 0xf0, 0x7d, 0xfb, 0xf5, 0x41, 0x92, 0x00, 0xf2, 0xcc, 0xb5, 
+  0x0b, 0xb2, 0x4f, 0x1f, 0xa6, 0x8b, 0x0a, 0x81, 0x12, 0xb4, 0x47, 0xae, 
+  0xf3, 0x4b, 0xd8, 0xfb, 0x5a, 0x7b, 0x82, 0x9d, 0x3e, 0x86, 0x23, 0x71, 
+  0xd2, 0xcf, 0xe4, 0x63, 0x7c, 0x77, 0x7b, 0xf2, 0x6b, 0x6f, 0xc5, 0x30, 
+  0x01, 0x67, 0x2b, 0xfe, 0xd7, 0xab, 0x76, 0xca, 0x82, 0xc9, 0x7d, 0xfa, 
+  0x59, 0x47, 0xf0, 0xad, 0xd4, 0xa2, 0xaf, 0x9c, 0xa4, 0x72, 0xc0, 0xb7, 
+  0xfd, 0x93, 0x26, 0x36, 0x3f, 0xf7, 0xcc, 0x34, 0xa5, 0xe5, 0xf1, 0x71, 
+  0xd8, 0x31, 0x15, 0x04, 0xc7, 0x23, 0xc3, 0x18, 0x96, 0x05, 0x9a, 0x07, 
+  0x12, 0x80, 0xe2, 0xeb, 0x27, 0xb2, 0x75, 0x09, 0x83, 0x2c, 0x1a, 0x1b, 
+  0x6e, 0x5a, 0xa0, 0x52, 0x3b, 0xd6, 0xb3, 0x29, 0xe3, 0x2f, 0x84, 0x53, 
+  0xd1, 0x00, 0xed, 0x20, 0xfc, 0xb1, 0x5b, 0x6a, 0xcb, 0xbe, 0x39, 0x4a, 
+  0x4c, 0x58, 0xcf, 0xd0, 0xef, 0xaa, 0xfb, 0x43, 0x4d, 0x33, 0x85, 0x45, 
+  0xf9, 0x02, 0x7f, 0x50, 0x3c, 0x9f, 0xa8, 0x51, 0xa3, 0x40, 0x8f, 0x92, 
+  0x9d, 0x38, 0xf5, 0xbc, 0xb6, 0xda, 0x21, 0x10, 0xff, 0xf3, 0xd2, 0xcd, 
+  0x0c, 0x13, 0xec, 0x5f, 0x97, 0x44, 0x17, 0xc4, 0xa7, 0x7e, 0x3d, 0x64, 
+  0x5d, 0x19, 0x73, 0x60, 0x81, 0x4f, 0xdc, 0x22, 0x2a, 0x90, 0x88, 0x46, 
+  0xee, 0xb8, 0x14, 0xde, 0x5e, 0x0b, 0xdb, 0xe0, 0x32, 0x3a, 0x0a, 0x49, 
+  0x06, 0x24, 0x5c, 0xc2, 0xd3, 0xac, 0x62, 0x91, 0x95, 0xe4, 0x79, 0xe7, 
+  0xc8, 0x37, 0x6d, 0x8d, 0xd5, 0x4e, 0xa9, 0x6c, 0x56, 0xf4, 0xea, 0x65, 
+  0x7a, 0xae, 0x08, 0xba, 0x78, 0x25, 0x2e, 0x1c, 0xa6, 0xb4, 0xc6, 0xe8, 
+  0xdd, 0x74, 0x1f, 0x4b, 0xbd, 0x8b, 0x8a, 0x70, 0x3e, 0xb5, 0x66, 0x48, 
+  0x03, 0xf6, 0x0e, 0x61, 0x35, 0x57, 0xb9, 0x86, 0xc1, 0x1d, 0x9e, 0xe1, 
+  0xf8, 0x98, 0x11, 0x69, 0xd9, 0x8e, 0x94, 0x9b, 0x1e, 0x87, 0xe9, 0xce, 
+  0x55, 0x28, 0xdf, 0x8c, 0xa1, 0x89, 0x0d, 0xbf, 0xe6, 0x42, 0x68, 0x41, 
+  0x99, 0x2d, 0x0f, 0xb0, 0x54, 0xbb, 0x16, 0x52, 0x09, 0x6a, 0xd5, 0x30, 
+  0x36, 0xa5, 0x38, 0xbf, 0x40, 0xa3, 0x9e, 0x81, 0xf3, 0xd7, 0xfb, 0x7c, 
+  0xe3, 0x39, 0x82, 0x9b, 0x2f, 0xff, 0x87, 0x34, 0x8e, 0x43, 0x44, 0xc4, 
+  0xde, 0xe9, 0xcb, 0x54, 0x7b, 0x94, 0x32, 0xa6, 0xc2, 0x23, 0x3d, 0xee, 
+  0x4c, 0x95, 0x0b, 0x42, 0xfa, 0xc3, 0x4e, 0x08, 0x2e, 0xa1, 0x66, 0x28, 
+  0xd9, 0x24, 0xb2, 0x76, 0x5b, 0xa2, 0x49, 0x6d, 0x8b, 0xd1, 0x25, 0x72, 
+  0xf8, 0xf6, 0x64, 0x86, 0x68, 0x98, 0x16, 0xd4, 0xa4, 0x5c, 0xcc, 0x5d, 
+  0x65, 0xb6, 0x92, 0x6c, 0x70, 0x48, 0x50, 0xfd, 0xed, 0xb9, 0xda, 0x5e, 
+  0x15, 0x46, 0x57, 0xa7, 0x8d, 0x9d, 0x84, 0x90, 0xd8, 0xab, 0x00, 0x8c, 
+  0xbc, 0xd3, 0x0a, 0xf7, 0xe4, 0x58, 0x05, 0xb8, 0xb3, 0x45, 0x06, 0xd0, 
+  0x2c, 0x1e, 0x8f, 0xca, 0x3f, 0x0f, 0x02, 0xc1, 0xaf, 0xbd, 0x03, 0x01, 
+  0x13, 0x8a, 0x6b, 0x3a, 0x91, 0x11, 0x41, 0x4f, 0x67, 0xdc, 0xea, 0x97, 
+  0xf2, 0xcf, 0xce, 0xf0, 0xb4, 0xe6, 0x73, 0x96, 0xac, 0x74, 0x22, 0xe7, 
+  0xad, 0x35, 0x85, 0xe2, 0xf9, 0x37, 0xe8, 0x1c, 0x75, 0xdf, 0x6e, 0x47, 
+  0xf1, 0x1a, 0x71, 0x1d, 0x29, 0xc5, 0x89, 0x6f, 0xb7, 0x62, 0x0e, 0xaa, 
+  0x18, 0xbe, 0x1b, 0xfc, 0x56, 0x3e, 0x4b, 0xc6, 0xd2, 0x79, 0x20, 0x9a, 
+  0xdb, 0xc0, 0xfe, 0x78, 0xcd, 0x5a, 0xf4, 0x1f, 0xdd, 0xa8, 0x33, 0x88, 
+  0x07, 0xc7, 0x31, 0xb1, 0x12, 0x10, 0x59, 0x27, 0x80, 0xec, 0x5f, 0x60, 
+  0x51, 0x7f, 0xa9, 0x19, 0xb5, 0x4a, 0x0d, 0x2d, 0xe5, 0x7a, 0x9f, 0x93, 
+  0xc9, 0x9c, 0xef, 0xa0, 0xe0, 0x3b, 0x4d, 0xae, 0x2a, 0xf5, 0xb0, 0xc8, 
+  0xeb, 0xbb, 0x3c, 0x83, 0x53, 0x99, 0x61, 0x17, 0x2b, 0x04, 0x7e, 0xba, 
+  0x77, 0xd6, 0x26, 0xe1, 0x69, 0x14, 0x63, 0x55, 0x21, 0x0c, 0x7d, 0x00, 
   0x00, 0x00, 0x00, 0x00, 0x0b, 0x0d, 0x09, 0x0e, 0x16, 0x1a, 0x12, 0x1c, 
   0x1d, 0x17, 0x1b, 0x12, 0x2c, 0x34, 0x24, 0x38, 0x27, 0x39, 0x2d, 0x36, 
   0x3a, 0x2e, 0x36, 0x24, 0x31, 0x23, 0x3f, 0x2a, 0x58, 0x68, 0x48, 0x70, 
@@ -290,148 +389,103 @@ static const u8 constants[CONSTANTS] = {
   0x31, 0xe6, 0xe6, 0xd7, 0xc6, 0x42, 0x42, 0x84, 0xb8, 0x68, 0x68, 0xd0, 
   0xc3, 0x41, 0x41, 0x82, 0xb0, 0x99, 0x99, 0x29, 0x77, 0x2d, 0x2d, 0x5a, 
   0x11, 0x0f, 0x0f, 0x1e, 0xcb, 0xb0, 0xb0, 0x7b, 0xfc, 0x54, 0x54, 0xa8, 
-  0xd6, 0xbb, 0xbb, 0x6d, 0x3a, 0x16, 0x16, 0x2c, 0x00, 0x01, 0x02, 0x03, 
-  0x04, 0x05, 0x06, 0x07, 0x08, 0x09, 0x0a, 0x0b, 0x0c, 0x0d, 0x0e, 0x0f, 
-  0x00, 0x11, 0x22, 0x33, 0x44, 0x55, 0x66, 0x77, 0x88, 0x99, 0xaa, 0xbb, 
-  0xcc, 0xdd, 0xee, 0xff, 0x1f, 0xa6, 0x8b, 0x0a, 0x81, 0x12, 0xb4, 0x47, 
-  0xae, 0xf3, 0x4b, 0xd8, 0xfb, 0x5a, 0x7b, 0x82, 0x9d, 0x3e, 0x86, 0x23, 
-  0x71, 0xd2, 0xcf, 0xe5, 0x00, 0x01, 0x02, 0x03, 0x04, 0x05, 0x06, 0x07, 
-  0x08, 0x09, 0x0a, 0x0b, 0x0c, 0x0d, 0x0e, 0x0f, 0x10, 0x11, 0x12, 0x13, 
-  0x14, 0x15, 0x16, 0x17, 0x96, 0x77, 0x8b, 0x25, 0xae, 0x6c, 0xa4, 0x35, 
-  0xf9, 0x2b, 0x5b, 0x97, 0xc0, 0x50, 0xae, 0xd2, 0x46, 0x8a, 0xb8, 0xa1, 
-  0x7a, 0xd8, 0x4e, 0x5d, 0x00, 0x01, 0x02, 0x03, 0x04, 0x05, 0x06, 0x07, 
-  0x08, 0x09, 0x0a, 0x0b, 0x0c, 0x0d, 0x0e, 0x0f, 0x10, 0x11, 0x12, 0x13, 
-  0x14, 0x15, 0x16, 0x17, 0x18, 0x19, 0x1a, 0x1b, 0x1c, 0x1d, 0x1e, 0x1f, 
-  0x64, 0xe8, 0xc3, 0xf9, 0xce, 0x0f, 0x5b, 0xa2, 0x63, 0xe9, 0x77, 0x79, 
-  0x05, 0x81, 0x8a, 0x2a, 0x93, 0xc8, 0x19, 0x1e, 0x7d, 0x6e, 0x8a, 0xe7, 
-  0x00, 0x11, 0x22, 0x33, 0x44, 0x55, 0x66, 0x77, 0x88, 0x99, 0xaa, 0xbb, 
-  0xcc, 0xdd, 0xee, 0xff, 0x00, 0x01, 0x02, 0x03, 0x04, 0x05, 0x06, 0x07, 
-  0x03, 0x1d, 0x33, 0x26, 0x4e, 0x15, 0xd3, 0x32, 0x68, 0xf2, 0x4e, 0xc2, 
-  0x60, 0x74, 0x3e, 0xdc, 0xe1, 0xc6, 0xc7, 0xdd, 0xee, 0x72, 0x5a, 0x93, 
-  0x6b, 0xa8, 0x14, 0x91, 0x5c, 0x67, 0x62, 0xd2, 0xa8, 0xf9, 0xbc, 0x16, 
-  0x12, 0xc6, 0x8b, 0x3f, 0xf6, 0xe6, 0xf4, 0xfb, 0xe3, 0x0e, 0x71, 0xe4, 
-  0x76, 0x9c, 0x8b, 0x80, 0xa3, 0x2c, 0xb8, 0x95, 0x8c, 0xd5, 0xd1, 0x7d, 
-  0x6b, 0x25, 0x4d, 0xa1, 0x00, 0x11, 0x22, 0x33, 0x44, 0x55, 0x66, 0x77, 
-  0x88, 0x99, 0xaa, 0xbb, 0xcc, 0xdd, 0xee, 0xff, 0x00, 0x01, 0x02, 0x03, 
-  0x04, 0x05, 0x06, 0x07, 0x08, 0x09, 0x0a, 0x0b, 0x0c, 0x0d, 0x0e, 0x0f, 
-  0x28, 0xc9, 0xf4, 0x04, 0xc4, 0xb8, 0x10, 0xf4, 0xcb, 0xcc, 0xb3, 0x5c, 
-  0xfb, 0x87, 0xf8, 0x26, 0x3f, 0x57, 0x86, 0xe2, 0xd8, 0x0e, 0xd3, 0x26, 
-  0xcb, 0xc7, 0xf0, 0xe7, 0x1a, 0x99, 0xf4, 0x3b, 0xfb, 0x98, 0x8b, 0x9b, 
-  0x7a, 0x02, 0xdd, 0x21, 0x58, 0x40, 0xdf, 0x6e, 0x29, 0xb0, 0x2a, 0xf1, 
-  0xab, 0x49, 0x3b, 0x70, 0x5b, 0xf1, 0x6e, 0xa1, 0xae, 0x83, 0x38, 0xf4, 
-  0xdc, 0xc1, 0x76, 0xa8, 0xc3, 0x7b, 0x7e, 0x64, 0x92, 0x58, 0x43, 0x40, 
-  0xbe, 0xd1, 0x22, 0x07, 0x80, 0x89, 0x41, 0x15, 0x50, 0x68, 0xf7, 0x38, 
-  0x13, 0x8b, 0xde, 0xaa, 0x9b, 0x8f, 0xa7, 0xfc, 0x61, 0xf9, 0x77, 0x42, 
-  0xe7, 0x22, 0x48, 0xee, 0x5a, 0xe6, 0xae, 0x53, 0x60, 0xd1, 0xae, 0x6a, 
-  0x5f, 0x54, 0xf3, 0x73, 0xfa, 0x54, 0x3b, 0x6a, 0x46, 0x6f, 0x72, 0x50, 
-  0x61, 0x73, 0x69, 0xaf, 0xbe, 0xb0, 0xf0, 0x7d, 0xfb, 0xf5, 0x41, 0x92, 
-  0x00, 0xf2, 0xcc, 0xb5, 0x0b, 0xb2, 0x4f, 0x1f, 0xa6, 0x8b, 0x0a, 0x81, 
-  0x12, 0xb4, 0x47, 0xae, 0xf3, 0x4b, 0xd8, 0xfb, 0x5a, 0x7b, 0x82, 0x9d, 
-  0x3e, 0x86, 0x23, 0x71, 0xd2, 0xcf, 0xe4, 0x64, 0x6f, 0x6e, 0x65, 0x69, 
-  0x6e, 0x69, 0x74, 0x69, 0x61, 0x6c, 0x20, 0x76, 0x61, 0x6c, 0x75, 0x65, 
-  0x20, 0x69, 0x73, 0x20, 0x6e, 0x6f, 0x74, 0x20, 0x38, 0x20, 0x62, 0x79, 
-  0x74, 0x65, 0x73, 0x2c, 0x20, 0x6f, 0x72, 0x20, 0x69, 0x73, 0x20, 0x72, 
-  0x65, 0x73, 0x65, 0x72, 0x76, 0x65, 0x64, 0x20, 0x66, 0x6f, 0x72, 0x20, 
-  0x74, 0x68, 0x65, 0x20, 0x70, 0x61, 0x64, 0x64, 0x65, 0x64, 0x20, 0x66, 
-  0x6f, 0x72, 0x6d, 0x6b, 0x65, 0x79, 0x20, 0x6c, 0x65, 0x6e, 0x67, 0x74, 
-  0x68, 0x20, 0x69, 0x73, 0x20, 0x6e, 0x6f, 0x74, 0x20, 0x31, 0x36, 0x2c, 
-  0x20, 0x32, 0x34, 0x20, 0x6f, 0x72, 0x20, 0x33, 0x32, 0x20, 0x62, 0x79, 
-  0x74, 0x65, 0x73, 0x62, 0x61, 0x64, 0x20, 0x6c, 0x65, 0x6e, 0x67, 0x74, 
-  0x68, 0x69, 0x6e, 0x74, 0x65, 0x67, 0x72, 0x69, 0x74, 0x79, 0x20, 0x63, 
-  0x68, 0x65, 0x63, 0x6b, 0x20, 0x66, 0x61, 0x69, 0x6c, 0x65, 0x64, 0x6f, 
-  0x75, 0x74, 0x20, 0x6f, 0x66, 0x20, 0x6d, 0x65, 0x6d, 0x6f, 0x72, 0x79, 
-  0x6e, 0x6f, 0x20, 0x70, 0x6c, 0x61, 0x69, 0x6e, 0x20, 0x6b, 0x65, 0x79, 
-  0x20, 0x68, 0x61, 0x73, 0x20, 0x74, 0x68, 0x65, 0x20, 0x6c, 0x65, 0x6e, 
-  0x67, 0x74, 0x68, 0x20, 0x6f, 0x66, 0x20, 0x74, 0x68, 0x65, 0x20, 0x6b, 
-  0x65, 0x79, 0x75, 0x6e, 0x6b, 0x6e, 0x6f, 0x77, 0x6e, 0x20, 0x73, 0x74, 
-  0x61, 0x74, 0x75, 0x73, 0x10, 0x00, 0x00, 0x00, 0x14, 0x00, 0x00, 0x00, 
-  0x20, 0x00, 0x00, 0x00, 0x13, 0x00, 0x00, 0x00, 0x17, 0x00, 0x00, 0x00, 
-  0x23, 0x00, 0x00, 0x00, 0x12, 0x00, 0x00, 0x00, 0x16, 0x00, 0x00, 0x00, 
-  0x22, 0x00, 0x00, 0x00, 0x01, 0x00, 0x00, 0x00, 0x00, 0x00, 0x00, 0x00, 
+  0xd6, 0xbb, 0xbb, 0x6d, 0x3a, 0x16, 0x16, 0x2c, 0x64, 0x6f, 0x6e, 0x65, 
+  0x69, 0x6e, 0x69, 0x74, 0x69, 0x61, 0x6c, 0x20, 0x76, 0x61, 0x6c, 0x75, 
+  0x65, 0x20, 0x69, 0x73, 0x20, 0x6e, 0x6f, 0x74, 0x20, 0x38, 0x20, 0x62, 
+  0x79, 0x74, 0x65, 0x73, 0x2c, 0x20, 0x6f, 0x72, 0x20, 0x69, 0x73, 0x20, 
+  0x72, 0x65, 0x73, 0x65, 0x72, 0x76, 0x65, 0x64, 0x20, 0x66, 0x6f, 0x72, 
+  0x20, 0x74, 0x68, 0x65, 0x20, 0x70, 0x61, 0x64, 0x64, 0x65, 0x64, 0x20, 
+  0x66, 0x6f, 0x72, 0x6d, 0x6b, 0x65, 0x79, 0x20, 0x6c, 0x65, 0x6e, 0x67, 
+  0x74, 0x68, 0x20, 0x69, 0x73, 0x20, 0x6e, 0x6f, 0x74, 0x20, 0x31, 0x36, 
+  0x2c, 0x20, 0x32, 0x34, 0x20, 0x6f, 0x72, 0x20, 0x33, 0x32, 0x20, 0x62, 
+  0x79, 0x74, 0x65, 0x73, 0x62, 0x61, 0x64, 0x20, 0x6c, 0x65, 0x6e, 0x67, 
+  0x74, 0x68, 0x69, 0x6e, 0x74, 0x65, 0x67, 0x72, 0x69, 0x74, 0x79, 0x20, 
+  0x63, 0x68, 0x65, 0x63, 0x6b, 0x20, 0x66, 0x61, 0x69, 0x6c, 0x65, 0x64, 
+  0x6f, 0x75, 0x74, 0x20, 0x6f, 0x66, 0x20, 0x6d, 0x65, 0x6d, 0x6f, 0x72, 
+  0x79, 0x6e, 0x6f, 0x20, 0x70, 0x6c, 0x61, 0x69, 0x6e, 0x20, 0x6b, 0x65, 
+  0x79, 0x20, 0x68, 0x61, 0x73, 0x20, 0x74, 0x68, 0x65, 0x20, 0x6c, 0x65, 
+  0x6e, 0x67, 0x74, 0x68, 0x20, 0x6f, 0x66, 0x20, 0x74, 0x68, 0x65, 0x20, 
+  0x6b, 0x65, 0x79, 0x75, 0x6e, 0x6b, 0x6e, 0x6f, 0x77, 0x6e, 0x20, 0x73, 
+  0x74, 0x61, 0x74, 0x75, 0x73, 0x00, 0x00, 0x00, 0x10, 0x00, 0x00, 0x00, 
+  0x14, 0x00, 0x00, 0x00, 0x20, 0x00, 0x00, 0x00, 0x13, 0x00, 0x00, 0x00, 
+  0x17, 0x00, 0x00, 0x00, 0x23, 0x00, 0x00, 0x00, 0x12, 0x00, 0x00, 0x00, 
+  0x16, 0x00, 0x00, 0x00, 0x22, 0x00, 0x00, 0x00, 0x00, 0x00, 0x00, 0x00, 
+  0x01, 0x00, 0x00, 0x00, 0x00, 0x00, 0x00, 0x00, 0x01, 0x00, 0x00, 0x00, 
+  0x00, 0x00, 0x00, 0x00, 0x01, 0x00, 0x00, 0x00, 0x00, 0x00, 0x00, 0x00, 
+  0x01, 0x00, 0x00, 0x00, 0x00, 0x00, 0x00, 0x00, 0x00, 0x00, 0x00, 0x00, 
+  0x00, 0x00, 0x00, 0x00, 0x00, 0x00, 0x00, 0x00, 0x00, 0x00, 0x00, 0x00, 
+  0x00, 0x00, 0x00, 0x00, 0x00, 0x00, 0x00, 0x00, 0x00, 0x00, 0x00, 0x00, 
+  0x00, 0x00, 0x00, 0x00, 0x01, 0x00, 0x00, 0x00, 0x00, 0x00, 0x00, 0x00, 
   0x01, 0x00, 0x00, 0x00, 0x00, 0x00, 0x00, 0x00, 0x01, 0x00, 0x00, 0x00, 
   0x00, 0x00, 0x00, 0x00, 0x01, 0x00, 0x00, 0x00, 0x00, 0x00, 0x00, 0x00, 
   0x00, 0x00, 0x00, 0x00, 0x00, 0x00, 0x00, 0x00, 0x00, 0x00, 0x00, 0x00, 
-  0x00, 0x00, 0x00, 0x00, 0x00, 0x00, 0x00, 0x00, 0x00, 0x00, 0x00, 0x00, 
+  0x00, 0x00, 0x00, 0x00, 0x01, 0x00, 0x00, 0x00, 0x00, 0x00, 0x00, 0x00, 
   0x00, 0x00, 0x00, 0x00, 0x00, 0x00, 0x00, 0x00, 0x01, 0x00, 0x00, 0x00, 
-  0x00, 0x00, 0x00, 0x00, 0x01, 0x00, 0x00, 0x00, 0x00, 0x00, 0x00, 0x00, 
-  0x01, 0x00, 0x00, 0x00, 0x00, 0x00, 0x00, 0x00, 0x01, 0x00, 0x00, 0x00, 
+  0x00, 0x00, 0x00, 0x00, 0x00, 0x00, 0x00, 0x00, 0x00, 0x00, 0x00, 0x00, 
+  0x00, 0x00, 0x00, 0x00, 0x00, 0x00, 0x00, 0x00, 0x00, 0x00, 0x00, 0x00, 
   0x00, 0x00, 0x00, 0x00, 0x00, 0x00, 0x00, 0x00, 0x00, 0x00, 0x00, 0x00, 
   0x00, 0x00, 0x00, 0x00, 0x00, 0x00, 0x00, 0x00, 0x01, 0x00, 0x00, 0x00, 
   0x00, 0x00, 0x00, 0x00, 0x00, 0x00, 0x00, 0x00, 0x00, 0x00, 0x00, 0x00, 
   0x01, 0x00, 0x00, 0x00, 0x00, 0x00, 0x00, 0x00, 0x00, 0x00, 0x00, 0x00, 
+  0x00, 0x00, 0x00, 0x00, 0xa6, 0xa6, 0xa6, 0xa6, 0xa6, 0xa6, 0xa6, 0xa6, 
+  0x00, 0x00, 0x00, 0x00, 0x00, 0x00, 0x00, 0x00, 0xa6, 0xa6, 0xa6, 0xa6, 
+  0xa6, 0xa6, 0xa6, 0xa6, 0x00, 0x00, 0x00, 0x00, 0x00, 0x00, 0x00, 0x00, 
   0x00, 0x00, 0x00, 0x00, 0x00, 0x00, 0x00, 0x00, 0x00, 0x00, 0x00, 0x00, 
   0x00, 0x00, 0x00, 0x00, 0x00, 0x00, 0x00, 0x00, 0x00, 0x00, 0x00, 0x00, 
-  0x00, 0x00, 0x00, 0x00, 0x00, 0x00, 0x00, 0x00, 0x00, 0x00, 0x00, 0x00, 
-  0x01, 0x00, 0x00, 0x00, 0x00, 0x00, 0x00, 0x00, 0x00, 0x00, 0x00, 0x00, 
-  0x00, 0x00, 0x00, 0x00, 0x01, 0x00, 0x00, 0x00, 0x00, 0x00, 0x00, 0x00, 
   0x00, 0x00, 0x00, 0x00, 0x00, 0x00, 0x00, 0x00, 0xa6, 0xa6, 0xa6, 0xa6, 
   0xa6, 0xa6, 0xa6, 0xa6, 0x00, 0x00, 0x00, 0x00, 0x00, 0x00, 0x00, 0x00, 
   0xa6, 0xa6, 0xa6, 0xa6, 0xa6, 0xa6, 0xa6, 0xa6, 0x00, 0x00, 0x00, 0x00, 
   0x00, 0x00, 0x00, 0x00, 0x00, 0x00, 0x00, 0x00, 0x00, 0x00, 0x00, 0x00, 
   0x00, 0x00, 0x00, 0x00, 0x00, 0x00, 0x00, 0x00, 0x00, 0x00, 0x00, 0x00, 
+  0x00, 0x00, 0x00, 0x00, 0x01, 0x00, 0x00, 0x00, 0x00, 0x00, 0x00, 0x00, 
+  0x01, 0x00, 0x00, 0x00, 0x00, 0x00, 0x00, 0x00, 0x00, 0x00, 0x00, 0x00, 
   0x00, 0x00, 0x00, 0x00, 0x00, 0x00, 0x00, 0x00, 0x00, 0x00, 0x00, 0x00, 
-  0xa6, 0xa6, 0xa6, 0xa6, 0xa6, 0xa6, 0xa6, 0xa6, 0x00, 0x00, 0x00, 0x00, 
-  0x00, 0x00, 0x00, 0x00, 0xa6, 0xa6, 0xa6, 0xa6, 0xa6, 0xa6, 0xa6, 0xa6, 
   0x00, 0x00, 0x00, 0x00, 0x00, 0x00, 0x00, 0x00, 0x00, 0x00, 0x00, 0x00, 
   0x00, 0x00, 0x00, 0x00, 0x00, 0x00, 0x00, 0x00, 0x00, 0x00, 0x00, 0x00, 
   0x00, 0x00, 0x00, 0x00, 0x00, 0x00, 0x00, 0x00, 0x01, 0x00, 0x00, 0x00, 
   0x00, 0x00, 0x00, 0x00, 0x01, 0x00, 0x00, 0x00, 0x00, 0x00, 0x00, 0x00, 
+  0x00, 0x00, 0x00, 0x00, 0x00, 0x00, 0x00, 0x00, 0xa6, 0xa6, 0xa6, 0xa6, 
+  0xa6, 0xa6, 0xa6, 0xa6, 0xa6, 0xa6, 0xa6, 0xa6, 0xa6, 0xa6, 0xa6, 0xa6, 
   0x00, 0x00, 0x00, 0x00, 0x00, 0x00, 0x00, 0x00, 0x00, 0x00, 0x00, 0x00, 
   0x00, 0x00, 0x00, 0x00, 0x00, 0x00, 0x00, 0x00, 0x00, 0x00, 0x00, 0x00, 
   0x00, 0x00, 0x00, 0x00, 0x00, 0x00, 0x00, 0x00, 0x00, 0x00, 0x00, 0x00, 
-  0x00, 0x00, 0x00, 0x00, 0x00, 0x00, 0x00, 0x00, 0x00, 0x00, 0x00, 0x00, 
-  0x01, 0x00, 0x00, 0x00, 0x00, 0x00, 0x00, 0x00, 0x01, 0x00, 0x00, 0x00, 
   0x00, 0x00, 0x00, 0x00, 0x00, 0x00, 0x00, 0x00, 0x00, 0x00, 0x00, 0x00, 
   0xa6, 0xa6, 0xa6, 0xa6, 0xa6, 0xa6, 0xa6, 0xa6, 0xa6, 0xa6, 0xa6, 0xa6, 
   0xa6, 0xa6, 0xa6, 0xa6, 0x00, 0x00, 0x00, 0x00, 0x00, 0x00, 0x00, 0x00, 
   0x00, 0x00, 0x00, 0x00, 0x00, 0x00, 0x00, 0x00, 0x00, 0x00, 0x00, 0x00, 
-  0x00, 0x00, 0x00, 0x00, 0x00, 0x00, 0x00, 0x00, 0x00, 0x00, 0x00, 0x00, 
-  0x00, 0x00, 0x00, 0x00, 0x00, 0x00, 0x00, 0x00, 0x00, 0x00, 0x00, 0x00, 
-  0x00, 0x00, 0x00, 0x00, 0xa6, 0xa6, 0xa6, 0xa6, 0xa6, 0xa6, 0xa6, 0xa6, 
-  0xa6, 0xa6, 0xa6, 0xa6, 0xa6, 0xa6, 0xa6, 0xa6, 0x00, 0x00, 0x00, 0x00, 
-  0x00, 0x00, 0x00, 0x00, 0x00, 0x00, 0x00, 0x00, 0x00, 0x00, 0x00, 0x00, 
-  0x00, 0x00, 0x00, 0x00, 0x00, 0x00, 0x00, 0x00, 0x04, 0x00, 0x00, 0x00, 
-  0x05, 0x00, 0x00, 0x00, 0x08, 0x00, 0x00, 0x00, 0x00, 0x00, 0x00, 0x00, 
+  0x00, 0x00, 0x00, 0x00, 0x04, 0x00, 0x00, 0x00, 0x05, 0x00, 0x00, 0x00, 
+  0x08, 0x00, 0x00, 0x00, 0x00, 0x00, 0x00, 0x00, 0x00, 0x00, 0x00, 0x00, 
+  0x00, 0x00, 0x00, 0x00, 0x01, 0x00, 0x00, 0x00, 0x00, 0x00, 0x00, 0x00, 
   0x00, 0x00, 0x00, 0x00, 0x00, 0x00, 0x00, 0x00, 0x01, 0x00, 0x00, 0x00, 
+  0x00, 0x00, 0x00, 0x00, 0xa6, 0xa6, 0xa6, 0xa6, 0xa6, 0xa6, 0xa6, 0xa6, 
+  0x00, 0x00, 0x00, 0x00, 0x00, 0x00, 0x00, 0x00, 0xa6, 0xa6, 0xa6, 0xa6, 
+  0xa6, 0xa6, 0xa6, 0xa6, 0x00, 0x00, 0x00, 0x00, 0x00, 0x00, 0x00, 0x00, 
   0x00, 0x00, 0x00, 0x00, 0x00, 0x00, 0x00, 0x00, 0x00, 0x00, 0x00, 0x00, 
+  0x00, 0x00, 0x00, 0x00, 0x01, 0x00, 0x00, 0x00, 0x00, 0x00, 0x00, 0x00, 
   0x01, 0x00, 0x00, 0x00, 0x00, 0x00, 0x00, 0x00, 0xa6, 0xa6, 0xa6, 0xa6, 
-  0xa6, 0xa6, 0xa6, 0xa6, 0x00, 0x00, 0x00, 0x00, 0x00, 0x00, 0x00, 0x00, 
-  0xa6, 0xa6, 0xa6, 0xa6, 0xa6, 0xa6, 0xa6, 0xa6, 0x00, 0x00, 0x00, 0x00, 
-  0x00, 0x00, 0x00, 0x00, 0x00, 0x00, 0x00, 0x00, 0x00, 0x00, 0x00, 0x00, 
-  0x00, 0x00, 0x00, 0x00, 0x00, 0x00, 0x00, 0x00, 0x01, 0x00, 0x00, 0x00, 
-  0x00, 0x00, 0x00, 0x00, 0x01, 0x00, 0x00, 0x00, 0x00, 0x00, 0x00, 0x00, 
   0xa6, 0xa6, 0xa6, 0xa6, 0xa6, 0xa6, 0xa6, 0xa6, 0xa6, 0xa6, 0xa6, 0xa6, 
-  0xa6, 0xa6, 0xa6, 0xa6, 0x00, 0x00, 0x00, 0x00, 0x00, 0x00, 0x00, 0x00, 
-  0x00, 0x00, 0x00, 0x00, 0x00, 0x00, 0x00, 0x00, 0x04, 0x00, 0x00, 0x00, 
+  0x00, 0x00, 0x00, 0x00, 0x00, 0x00, 0x00, 0x00, 0x00, 0x00, 0x00, 0x00, 
+  0x00, 0x00, 0x00, 0x00, 0x04, 0x00, 0x00, 0x00, 0x00, 0x00, 0x00, 0x00, 
+  0x0e, 0x00, 0x00, 0x00, 0x00, 0x00, 0x00, 0x00, 0x40, 0x00, 0x00, 0x00, 
+  0x00, 0x00, 0x00, 0x00, 0x24, 0x00, 0x00, 0x00, 0x00, 0x00, 0x00, 0x00, 
+  0x0a, 0x00, 0x00, 0x00, 0x00, 0x00, 0x00, 0x00, 0x16, 0x00, 0x00, 0x00, 
   0x00, 0x00, 0x00, 0x00, 0x0e, 0x00, 0x00, 0x00, 0x00, 0x00, 0x00, 0x00, 
-  0x40, 0x00, 0x00, 0x00, 0x00, 0x00, 0x00, 0x00, 0x24, 0x00, 0x00, 0x00, 
-  0x00, 0x00, 0x00, 0x00, 0x0a, 0x00, 0x00, 0x00, 0x00, 0x00, 0x00, 0x00, 
-  0x16, 0x00, 0x00, 0x00, 0x00, 0x00, 0x00, 0x00, 0x0e, 0x00, 0x00, 0x00, 
-  0x00, 0x00, 0x00, 0x00, 0x0d, 0x00, 0x00, 0x00, 0x00, 0x00, 0x00, 0x00, 
-  0x26, 0x00, 0x00, 0x00, 0x00, 0x00, 0x00, 0x00, 0xe3, 0x0b, 0x01, 0x00, 
-  0x00, 0x00, 0x00, 0x00, 0x9e, 0x0c, 0x01, 0x00, 0x00, 0x00, 0x00, 0x00, 
-  0xe7, 0x0b, 0x01, 0x00, 0x00, 0x00, 0x00, 0x00, 0x27, 0x0c, 0x01, 0x00, 
-  0x00, 0x00, 0x00, 0x00, 0x4b, 0x0c, 0x01, 0x00, 0x00, 0x00, 0x00, 0x00, 
-  0x55, 0x0c, 0x01, 0x00, 0x00, 0x00, 0x00, 0x00, 0x9e, 0x0c, 0x01, 0x00, 
-  0x00, 0x00, 0x00, 0x00, 0x6b, 0x0c, 0x01, 0x00, 0x00, 0x00, 0x00, 0x00, 
-  0x78, 0x0c, 0x01, 0x00, 0x00, 0x00, 0x00, 0x00, 
+  0x0d, 0x00, 0x00, 0x00, 0x00, 0x00, 0x00, 0x00, 0x26, 0x00, 0x00, 0x00, 
+  0x00, 0x00, 0x00, 0x00, 0xe4, 0x0b, 0x01, 0x00, 0x00, 0x00, 0x00, 0x00, 
+  0x9f, 0x0c, 0x01, 0x00, 0x00, 0x00, 0x00, 0x00, 0xe8, 0x0b, 0x01, 0x00, 
+  0x00, 0x00, 0x00, 0x00, 0x28, 0x0c, 0x01, 0x00, 0x00, 0x00, 0x00, 0x00, 
+  0x4c, 0x0c, 0x01, 0x00, 0x00, 0x00, 0x00, 0x00, 0x56, 0x0c, 0x01, 0x00, 
+  0x00, 0x00, 0x00, 0x00, 0x9f, 0x0c, 0x01, 0x00, 0x00, 0x00, 0x00, 0x00, 
+  0x6c, 0x0c, 0x01, 0x00, 0x00, 0x00, 0x00, 0x00, 0x79, 0x0c, 0x01, 0x00, 
+  0x00, 0x00, 0x00, 0x00, 
 };
 #endif
 
-/* A call has its own stack, and above it a number that it returns or changes, a flag, and a
- * block. The module's addresses of all of it, of which FIRST is the lowest. */
-enum {
-    BESIDE = 32,
-#ifdef KEYWRAP_STEPS_ONLY
-    OWN = STEPS_STACK + BESIDE
-#else
-    OWN = STACK + BESIDE
-#endif
-};
-#define FIRST ((u64)TOP - OWN)
-#define NUMBER ((u64)TOP - BESIDE)
-#define FLAG (NUMBER + 8)
-#define BLOCK_AT (NUMBER + 16)
+/* What a call has of its own, from the module's address 0 on: nothing, a number that it returns or
+ * changes, a flag, a block, its stack, and again nothing. The stack ends where it begins, as the module's
+ * constants stay above TOP. */
+enum { NUMBER = 16, FLAG = 24, BLOCK_AT = 32, STACK_AT = 48, WORD = 8 };
+#define OWN(stack) (STACK_AT + (stack) + WORD)
 
 /* A buffer of the caller, which the module uses in place. One that is longer than `longest` is refused
  * for its length, and the module sees none of it. */
@@ -443,23 +497,26 @@ struct buffer {
 };
 
 struct instance;
+struct call;
+typedef u64 run_function(struct instance *module, const struct call *call);
 struct call {
-    u64 (*run)(struct instance *module, const struct call *call);
+    run_function *run;
     struct buffer *buffers;
     int count, most_used; /* how many buffers, and the number of one */
-    u64 number;           /* an argument that is no buffer */
-    u32 flags;            /* and one beside it */
+    const u64 *numbers;   /* the arguments that are no buffers */
     int begins;           /* whether `steps` and `block` may be undefined before the call */
-    const u64 *numbers;   /* or more numbers than these */
     size_t *key_len;      /* receives the number, if any */
     uint32_t *flag;       /* receives the flag, if any; with steps it is the flag */
     uint64_t *steps;      /* is the number, if any */
     u8 *block;            /* is the block, if any */
 };
 
-/* The memory of the module: what a call has of its own, the constants, and the buffers. */
+/* The memory of the module: what a call has of its own, which ends with a word at the address `last`; the
+ * constants; and the buffers. `out` is the one that is used most, if it has a word: from the address
+ * `out_at` to the word at `out_last` from there. */
 struct memory {
-    u8 *own;
+    u8 *own, *out;
+    u64 last, out_at, out_last;
     const struct call *call;
 };
 
@@ -499,15 +556,25 @@ APART static const u8 *read_in(const struct call *call, u64 address, u64 len) {
     return buffer->in + (address - buffer->address);
 }
 
+/* Returns whether these bytes are the call's own. */
+INLINE int is_own(struct memory memory, u64 address, u64 len) {
+    return len <= WORD ? address <= memory.last : holds(memory.last + WORD, address, len);
+}
+
+/* Returns whether they are of the buffer that is used most. */
+INLINE int is_out(struct memory memory, u64 address, u64 len) {
+    return len <= WORD && address - memory.out_at <= memory.out_last;
+}
+
 /* Returns the place of the bytes that the module writes at an address. */
 INLINE u8 *written_at(struct memory memory, u64 address, u64 len) {
-    if (holds(OWN, address - FIRST, len)) return memory.own + (address - FIRST);
+    if (is_own(memory, address, len)) return memory.own + address;
     return written_in(memory.call, address, len);
 }
 
 /* Returns the place of the bytes that the module reads at an address. */
 INLINE const u8 *read_at(struct memory memory, u64 address, u64 len) {
-    if (holds(OWN, address - FIRST, len)) return memory.own + (address - FIRST);
+    if (is_own(memory, address, len)) return memory.own + address;
     if (holds(CONSTANTS, address - CONSTANTS_AT, len)) return constants + (address - CONSTANTS_AT);
     return read_in(memory.call, address, len);
 }
@@ -554,6 +621,33 @@ STORE(i32_store16, u16, u32)
 STORE(i64_store8, u8, u64)
 STORE(i64_store16, u16, u64)
 STORE(i64_store32, u32, u64)
+#ifdef WITH_AES
+/* Both without a call for the buffer that is used most: for the functions of the module that call AES. */
+ALWAYS_INLINE u8 *step_written_at(struct memory memory, u64 address, u64 len) {
+    if (LIKELY(is_own(memory, address, len))) return memory.own + address;
+    if (is_out(memory, address, len)) return memory.out + (address - memory.out_at);
+    return written_in(memory.call, address, len);
+}
+
+ALWAYS_INLINE const u8 *step_read_at(struct memory memory, u64 address, u64 len) {
+    if (LIKELY(is_own(memory, address, len))) return memory.own + address;
+    if (is_out(memory, address, len)) return memory.out + (address - memory.out_at);
+    return read_at(memory, address, len);
+}
+
+#define STEP_LOAD(name, type, result)                                                              \
+    ALWAYS_INLINE result step_##name(struct memory memory, u64 address) {                          \
+        type value;                                                                                \
+        memcpy(&value, step_read_at(memory, address, sizeof value), sizeof value);                 \
+        return value;                                                                              \
+    }
+#define STEP_STORE(name, type)                                                                     \
+    ALWAYS_INLINE void step_##name(struct memory memory, u64 address, type value) {                \
+        memcpy(step_written_at(memory, address, sizeof value), &value, sizeof value);              \
+    }
+STEP_LOAD(i64_load, u64, u64)
+STEP_STORE(i64_store, u64)
+#endif
 LOAD_CONSTANT(i32_load, u32, u32)
 #ifndef KEYWRAP_STEPS_ONLY
 LOAD_CONSTANT(i64_load, u64, u64)
@@ -573,19 +667,25 @@ INLINE u32 rotated_left(u32 word, u32 bits) {
     return word << (bits & 31) | word >> (-bits & 31);
 }
 
-INLINE u64 divisor(u64 by) {
+/* Both divide 32 bits if these are enough: gcc always divides 64, which takes up to three times as long. */
+INLINE u64 quotient(u64 number, u64 by) {
     if (by == 0) KEYWRAP_TRAP();
-    return by;
+    return (number | by) >> 32 == 0 ? (u32)number / (u32)by : number / by;
+}
+
+INLINE u64 remainder_of(u64 number, u64 by) {
+    if (by == 0) KEYWRAP_TRAP();
+    return (number | by) >> 32 == 0 ? (u32)number % (u32)by : number % by;
 }
 
 #define I32_ROTL(word, bits) rotated_left(word, bits)
 #define I32_ROTR(word, bits) rotated_left(word, -(u32)(bits))
-#define DIV_U(number, by) ((number) / divisor(by))
-#define REM_U(number, by) ((number) % divisor(by))
+#define DIV_U(number, by) quotient(number, by)
+#define REM_U(number, by) remainder_of(number, by)
 
 /* Clears words; the compiler may not leave this out. */
 ALWAYS_INLINE void clear(u64 *words, size_t size) {
-#ifdef __GNUC__
+#if defined(__GNUC__) || defined(__clang__)
     memset(words, 0, size);
     __asm__ volatile("" : : "r"(words) : "memory");
 #else
@@ -606,195 +706,781 @@ ALWAYS_INLINE void lay_out(struct call *call) {
     }
 }
 
-/* Runs the call with this many bytes of stack. */
-ALWAYS_INLINE u64 perform_in(struct call *call, size_t stack) {
-    u64 words[OWN / 8], *used = words + (OWN - BESIDE - stack) / 8, status;
-    u8 *block = (u8 *)words + OWN - BESIDE + 16;
-    struct instance module = {TOP - BESIDE, 0, {(u8 *)words, call}};
+/* The words of a call's own memory, whose stack has this many bytes. */
+#define WORDS(stack) (OWN(stack) / WORD)
+
+/* Runs the call with memory of its own. */
+APART static u64 perform(struct call *call, u64 *words, size_t count) {
+    const size_t size = WORD * count;
+    u8 *const own = (u8 *)words;
+    struct instance module = {size - WORD, 0, {own, NULL, size - WORD, UINT64_MAX, 0, call}};
+    struct memory *const memory = &module.w2c_memory;
+    const struct buffer *out;
+    u64 status;
     int changed;
-    memset(used, 0, stack + BESIDE);
+    memset(words, 0, size);
     lay_out(call);
-    if (call->steps && !call->begins) i64_store(module.w2c_memory, NUMBER, *call->steps);
-    if (call->steps && call->flag && !call->begins)
-        i32_store(module.w2c_memory, FLAG, *call->flag);
-    if (call->block && !call->begins) memcpy(block, call->block, 16);
+    out = call->count > 0 ? call->buffers + call->most_used : NULL;
+    if (out && out->out && out->size >= WORD) {
+        memory->out = out->out;
+        memory->out_at = out->address;
+        memory->out_last = out->size - WORD;
+    }
+    if (call->steps && !call->begins) i64_store(*memory, NUMBER, *call->steps);
+    if (call->steps && call->flag && !call->begins) i32_store(*memory, FLAG, *call->flag);
+    if (call->block && !call->begins) memcpy(own + BLOCK_AT, call->block, 16);
     status = call->run(&module, call);
     changed = status == KEYWRAP_OK || status == KEYWRAP_INTEGRITY;
-    if (call->steps && changed) *call->steps = i64_load(module.w2c_memory, NUMBER);
-    if (call->block && changed) memcpy(call->block, block, 16);
-    if (call->key_len) *call->key_len = (size_t)i64_load(module.w2c_memory, NUMBER);
-    if (call->flag) *call->flag = i32_load(module.w2c_memory, FLAG);
-    clear(used, stack + BESIDE);
+    if (call->steps && changed) *call->steps = i64_load(*memory, NUMBER);
+    if (call->block && changed) memcpy(call->block, own + BLOCK_AT, 16);
+    if (call->key_len) *call->key_len = (size_t)i64_load(*memory, NUMBER);
+    if (call->flag) *call->flag = i32_load(*memory, FLAG);
+    clear(words, size);
     return status;
 }
 
 /* For a call that has numbers only, and uses no memory. */
-#define WITHOUT_MEMORY {TOP - BESIDE, 0, {NULL, NULL}}
+#define WITHOUT_MEMORY {STACK_AT, 0, {NULL, NULL, 0, UINT64_MAX, 0, NULL}}
 
 #define READS(bytes, len, longest) {(bytes), NULL, (len), (longest), 0, 0}
 #define WRITES(bytes, len, longest) {(bytes), (bytes), (len), (longest), 0, 0}
 #define BUFFERS .buffers = buffers, .count = sizeof buffers / sizeof *buffers
+#define NUMBERS(...) .numbers = (const u64[]){__VA_ARGS__}
+#define NUM(n) call->numbers[n]
 #define ADDRESS(n) call->buffers[n].address
 #define BUFFER(n) ADDRESS(n), call->buffers[n].len
 
-/* A call with buffers: how it is declared, what performs it, its name and parameters; the arguments of
- * the module's function; what is set in the struct call; and the buffers. */
-#define CALL(declared, performs, name, parameters, given, set, ...)                                \
-    static u64 run_##name(struct instance *module, const struct call *call) {                      \
-        return w2c_keywrap_##name given;                                                           \
-    }                                                                                              \
-    declared(int32_t, keywrap_##name) parameters {                                                 \
-        struct buffer buffers[] = {__VA_ARGS__};                                                   \
-        struct call call = {.run = run_##name, THESE set};                                         \
-        return (int32_t)performs(&call);                                                           \
-    }
 #define THESE(...) __VA_ARGS__
-#define SHOWN(type, name) type name
-#define HIDDEN(type, name) static type name
+
+#ifdef WITH_AES
+/*** AES by the processor's instructions ***/
+
+/* aes.h: AES by the processor's instructions (FIPS 197), chosen at run time. A key schedule is the
+ * standard's, 16 bytes for each round key: 176, 208 or 240 bytes. */
+
+#ifndef KEYWRAP_AES_H
+#define KEYWRAP_AES_H
+
+#include <stdbool.h>
+
+/* The bytes of a block and of the longest key schedule; the blocks that are worked on at once. */
+enum { BLOCK = 16, SCHEDULE = 240, GROUP = 8 };
+
+/* Returns whether the processor has the instructions and they passed a known-answer test. The first
+ * call decides. Threads may make it at once. */
+static APART bool keywrap_aes_available(void);
+
+/* Makes that test. The processor needs the instructions for it, as for all functions below. */
+static APART bool keywrap_aes_known_answers(void);
+
+/* Writes the key schedule of a KEK of 16, 24 or 32 bytes. */
+static APART void keywrap_aes_expand(const uint8_t *kek, size_t kek_len, uint8_t *schedule, size_t len);
+
+/* Encrypts or decrypts one block. */
+static APART void keywrap_aes_encrypt(const uint8_t *schedule, size_t len, uint8_t block[BLOCK]);
+static APART void keywrap_aes_decrypt(const uint8_t *schedule, size_t len, uint8_t block[BLOCK]);
+
+/* Encrypts or decrypts each block of a buffer of whole blocks. */
+static APART void keywrap_aes_encrypt_many(const uint8_t *schedule, size_t len, uint8_t *blocks,
+                              size_t blocks_len);
+static APART void keywrap_aes_decrypt_many(const uint8_t *schedule, size_t len, uint8_t *blocks,
+                              size_t blocks_len);
+
+/* Clears the memory of a key schedule, and what the call that used it has left below this function's
+ * frame: the block of the last step, and words of it. */
+static APART void keywrap_aes_clear(uint8_t room[SCHEDULE]);
+
+/* x86_64.c and aarch64.c have these, and the functions above for a KEK and for one block. The first
+ * returns whether the processor has the instructions. The others work on whole groups of blocks. */
+static APART bool keywrap_aes_has_instructions(void);
+static APART void keywrap_aes_encrypt_groups(const uint8_t *schedule, size_t len, uint8_t *blocks,
+                                size_t blocks_len);
+static APART void keywrap_aes_decrypt_groups(const uint8_t *schedule, size_t len, uint8_t *blocks,
+                                size_t blocks_len);
+
+/* Clears memory even if nothing reads it afterwards. */
+static inline void wipe(void *memory, size_t len) {
+    memset(memory, 0, len);
+    __asm__ volatile("" : : "r"(memory) : "memory");
+}
+
+#endif
+
+/* x86_64.c: AES by AES-NI. The block is loaded as two words of 8 bytes: a load of 16 bytes would
+ * wait for the two stores of the step before. */
+
+#ifdef __x86_64__
+
+#include <cpuid.h>
+#include <wmmintrin.h>
+
+
+#define BY_AES __attribute__((target("aes,sse2")))
+
+bool keywrap_aes_has_instructions(void) {
+    unsigned a, b, c, d;
+    return __get_cpuid(1, &a, &b, &c, &d) && (c & bit_AES);
+}
+
+BY_AES static __m128i round_key(const uint8_t *schedule, size_t i) {
+    return _mm_loadu_si128((const __m128i *)(schedule + BLOCK * i));
+}
+
+BY_AES static void set_round_key(uint8_t *schedule, size_t i, __m128i key) {
+    _mm_storeu_si128((__m128i *)(schedule + BLOCK * i), key);
+}
+
+/* Each word is the sum of the words up to it. */
+BY_AES static __m128i sums(__m128i words) {
+    words = _mm_xor_si128(words, _mm_slli_si128(words, 4));
+    return _mm_xor_si128(words, _mm_slli_si128(words, 8));
+}
+
+/* SubWord and an addition, in four equal words: ShiftRows changes nothing in equal columns. This is
+ * several times as fast as AESKEYGENASSIST. */
+BY_AES static __m128i sub_words(__m128i words, __m128i constant) {
+    return _mm_aesenclast_si128(words, constant);
+}
+
+/* RotWord, in four equal words. */
+BY_AES static __m128i rotated(__m128i words) {
+    return _mm_or_si128(_mm_srli_epi32(words, 8), _mm_slli_epi32(words, 24));
+}
+
+BY_AES static void expand_16(uint8_t *schedule, __m128i a) {
+    __m128i constant = _mm_set1_epi32(1);
+    set_round_key(schedule, 0, a);
+    for (unsigned i = 1; i <= 10; i++) {
+        __m128i last = rotated(_mm_shuffle_epi32(a, 0xff));
+        if (i == 9) constant = _mm_set1_epi32(0x1b);
+        a = _mm_xor_si128(sums(a), sub_words(last, constant));
+        set_round_key(schedule, i, a);
+        constant = _mm_slli_epi32(constant, 1);
+    }
+}
+
+/* Turns: six words each, in a and the lower half of b. */
+BY_AES static void expand_24(uint8_t *at, __m128i a, __m128i b) {
+    __m128i constant = _mm_set1_epi32(1);
+    for (unsigned turn = 0;; turn++, at += 24) {
+        _mm_storeu_si128((__m128i *)at, a);
+        if (turn == 8) break;
+        _mm_storel_epi64((__m128i *)(at + 16), b);
+        __m128i last = rotated(_mm_shuffle_epi32(b, 0x55));
+        a = _mm_xor_si128(sums(a), sub_words(last, constant));
+        b = _mm_xor_si128(sums(b), _mm_shuffle_epi32(a, 0xff));
+        constant = _mm_slli_epi32(constant, 1);
+    }
+}
+
+BY_AES static void expand_32(uint8_t *schedule, __m128i a, __m128i b) {
+    __m128i constant = _mm_set1_epi32(1);
+    set_round_key(schedule, 0, a);
+    set_round_key(schedule, 1, b);
+    for (unsigned i = 2;; i += 2) {
+        a = _mm_xor_si128(sums(a), sub_words(rotated(_mm_shuffle_epi32(b, 0xff)), constant));
+        set_round_key(schedule, i, a);
+        if (i == 14) break;
+        b = _mm_xor_si128(sums(b), sub_words(_mm_shuffle_epi32(a, 0xff), _mm_setzero_si128()));
+        set_round_key(schedule, i + 1, b);
+        constant = _mm_slli_epi32(constant, 1);
+    }
+}
+
+BY_AES void keywrap_aes_expand(const uint8_t *kek, size_t kek_len, uint8_t *schedule, size_t len) {
+    __m128i a = _mm_loadu_si128((const __m128i *)kek);
+    (void)len;
+    if (kek_len == 16) expand_16(schedule, a);
+    else if (kek_len == 24) expand_24(schedule, a, _mm_loadl_epi64((const __m128i *)(kek + 16)));
+    else expand_32(schedule, a, _mm_loadu_si128((const __m128i *)(kek + 16)));
+}
+
+BY_AES static __m128i load(const uint8_t block[BLOCK]) {
+    __m128i low = _mm_loadl_epi64((const __m128i *)block);
+    __m128i high = _mm_loadl_epi64((const __m128i *)(block + 8));
+    return _mm_unpacklo_epi64(low, high);
+}
+
+/* Adds the first round key. Only the lower half of a block depends on the AES of the block before, so
+ * it is added last: the empty asm keeps the compiler from another order. */
+BY_AES static __m128i begin(__m128i key, const uint8_t block[BLOCK]) {
+    __m128i high = _mm_loadl_epi64((const __m128i *)(block + 8));
+    __m128i state = _mm_xor_si128(_mm_slli_si128(high, 8), key);
+    __asm__("" : "+x"(state));
+    return _mm_xor_si128(state, _mm_loadl_epi64((const __m128i *)block));
+}
+
+BY_AES void keywrap_aes_encrypt(const uint8_t *schedule, size_t len, uint8_t block[BLOCK]) {
+    const size_t rounds = len / BLOCK - 1;
+    __m128i state = begin(round_key(schedule, 0), block);
+    for (size_t i = 1; i < rounds; i++) state = _mm_aesenc_si128(state, round_key(schedule, i));
+    state = _mm_aesenclast_si128(state, round_key(schedule, rounds));
+    _mm_storeu_si128((__m128i *)block, state);
+}
+
+/* The equivalent inverse cipher (section 5.3.5). Its round keys are made on the way: this does not
+ * wait for the block, and so takes no time. */
+BY_AES void keywrap_aes_decrypt(const uint8_t *schedule, size_t len, uint8_t block[BLOCK]) {
+    size_t i = len / BLOCK - 1;
+    __m128i state = begin(round_key(schedule, i), block);
+    while (--i > 0) state = _mm_aesdec_si128(state, _mm_aesimc_si128(round_key(schedule, i)));
+    state = _mm_aesdeclast_si128(state, round_key(schedule, 0));
+    _mm_storeu_si128((__m128i *)block, state);
+}
+
+/* The processor begins a round of each block before the round of the first one ends. */
+#define EACH(X) X(0) X(1) X(2) X(3) X(4) X(5) X(6) X(7)
+#define BEGIN(i) __m128i b##i = _mm_xor_si128(load(blocks + BLOCK * i), key);
+#define END(i) _mm_storeu_si128((__m128i *)(blocks + BLOCK * i), b##i);
+#define ENCRYPT(i) b##i = _mm_aesenc_si128(b##i, key);
+#define ENCRYPT_LAST(i) b##i = _mm_aesenclast_si128(b##i, key);
+#define DECRYPT(i) b##i = _mm_aesdec_si128(b##i, key);
+#define DECRYPT_LAST(i) b##i = _mm_aesdeclast_si128(b##i, key);
+
+BY_AES static void encrypt_8(const uint8_t *schedule, size_t rounds, uint8_t *blocks) {
+    __m128i key = round_key(schedule, 0);
+    EACH(BEGIN)
+    for (size_t i = 1; i < rounds; i++) {
+        key = round_key(schedule, i);
+        EACH(ENCRYPT)
+    }
+    key = round_key(schedule, rounds);
+    EACH(ENCRYPT_LAST)
+    EACH(END)
+}
+
+/* By a schedule that is inverted. */
+BY_AES static void decrypt_8(const uint8_t *inverted, size_t rounds, uint8_t *blocks) {
+    __m128i key = round_key(inverted, 0);
+    EACH(BEGIN)
+    for (size_t i = 1; i < rounds; i++) {
+        key = round_key(inverted, i);
+        EACH(DECRYPT)
+    }
+    key = round_key(inverted, rounds);
+    EACH(DECRYPT_LAST)
+    EACH(END)
+}
+
+/* The schedule of the equivalent inverse cipher (section 5.3.5): in the other order, with all round
+ * keys but the outer two mixed. */
+BY_AES static void invert(const uint8_t *schedule, size_t rounds, uint8_t *inverted) {
+    set_round_key(inverted, 0, round_key(schedule, rounds));
+    for (size_t i = 1; i < rounds; i++)
+        set_round_key(inverted, i, _mm_aesimc_si128(round_key(schedule, rounds - i)));
+    set_round_key(inverted, rounds, round_key(schedule, 0));
+}
+
+/* Clears a schedule. gcc would make one slow instruction of memset. */
+BY_AES static void forget(uint8_t *schedule, size_t rounds) {
+    for (size_t i = 0; i <= rounds; i++) {
+        set_round_key(schedule, i, _mm_setzero_si128());
+        __asm__ volatile("" : : "r"(schedule) : "memory");
+    }
+}
+
+void keywrap_aes_encrypt_groups(const uint8_t *schedule, size_t len, uint8_t *blocks,
+                                size_t blocks_len) {
+    for (size_t at = 0; at < blocks_len; at += GROUP * BLOCK)
+        encrypt_8(schedule, len / BLOCK - 1, blocks + at);
+}
+
+void keywrap_aes_decrypt_groups(const uint8_t *schedule, size_t len, uint8_t *blocks,
+                                size_t blocks_len) {
+    uint8_t inverted[SCHEDULE];
+    invert(schedule, len / BLOCK - 1, inverted);
+    for (size_t at = 0; at < blocks_len; at += GROUP * BLOCK)
+        decrypt_8(inverted, len / BLOCK - 1, blocks + at);
+    forget(inverted, len / BLOCK - 1);
+}
+
+#else
+typedef int of_another_processor;
+#endif
+
+/* aarch64.c: AES by the Arm cryptographic extension. AESE and AESD add the round key first, so the
+ * last round key needs an addition of its own. */
+
+#ifdef __aarch64__
+
+#include <arm_neon.h>
+#ifndef __ARM_FEATURE_AES
+#include <sys/auxv.h>
+#endif
+
+
+#ifdef __clang__
+#define BY_AES __attribute__((target("aes")))
+#else
+#define BY_AES __attribute__((target("+crypto")))
+#endif
+
+/* The compiler knows it of every processor of Apple. Otherwise Linux is asked: HWCAP_AES of asm/hwcap.h. */
+bool keywrap_aes_has_instructions(void) {
+#ifdef __ARM_FEATURE_AES
+    return 1;
+#else
+    enum { HAS_AES = 1 << 3 };
+    return (getauxval(AT_HWCAP) & HAS_AES) != 0;
+#endif
+}
+
+/* ShiftRows changes nothing in a block of four equal columns. */
+BY_AES static uint32_t sub_word(uint32_t word) {
+    uint8x16_t columns = vreinterpretq_u8_u32(vdupq_n_u32(word));
+    return vgetq_lane_u32(vreinterpretq_u32_u8(vaeseq_u8(columns, vdupq_n_u8(0))), 0);
+}
+
+static uint32_t word_at(const uint8_t *schedule, size_t i) {
+    uint32_t word;
+    memcpy(&word, schedule + 4 * i, 4);
+    return word;
+}
+
+/* Words are in the order of their bytes in memory. */
+void keywrap_aes_expand(const uint8_t *kek, size_t kek_len, uint8_t *schedule, size_t len) {
+    const size_t n = kek_len / 4;
+    uint32_t constant = 1;
+    memcpy(schedule, kek, kek_len);
+    for (size_t i = n; i < len / 4; i++) {
+        uint32_t word = word_at(schedule, i - 1);
+        if (i % n == 0) {
+            word = sub_word(word >> 8 | word << 24) ^ constant;
+            constant = constant << 1 ^ (constant >> 7) * 0x11b;
+        } else if (n == 8 && i % n == 4) {
+            word = sub_word(word);
+        }
+        word ^= word_at(schedule, i - n);
+        memcpy(schedule + 4 * i, &word, 4);
+    }
+}
+
+static uint8x16_t round_key(const uint8_t *schedule, size_t i) {
+    return vld1q_u8(schedule + BLOCK * i);
+}
+
+static void set_round_key(uint8_t *schedule, size_t i, uint8x16_t key) {
+    vst1q_u8(schedule + BLOCK * i, key);
+}
+
+static uint8x16_t load(const uint8_t block[BLOCK]) {
+    return vcombine_u8(vld1_u8(block), vld1_u8(block + 8));
+}
+
+BY_AES void keywrap_aes_encrypt(const uint8_t *schedule, size_t len, uint8_t block[BLOCK]) {
+    const size_t last = len / BLOCK - 2;
+    uint8x16_t state = load(block);
+    for (size_t i = 0; i < last; i++) state = vaesmcq_u8(vaeseq_u8(state, round_key(schedule, i)));
+    state = vaeseq_u8(state, round_key(schedule, last));
+    vst1q_u8(block, veorq_u8(state, round_key(schedule, last + 1)));
+}
+
+/* The equivalent inverse cipher (section 5.3.5). Its round keys are made on the way: this does not
+ * wait for the block. */
+BY_AES void keywrap_aes_decrypt(const uint8_t *schedule, size_t len, uint8_t block[BLOCK]) {
+    size_t i = len / BLOCK - 1;
+    uint8x16_t state = vaesimcq_u8(vaesdq_u8(load(block), round_key(schedule, i)));
+    while (--i > 1) state = vaesimcq_u8(vaesdq_u8(state, vaesimcq_u8(round_key(schedule, i))));
+    state = vaesdq_u8(state, vaesimcq_u8(round_key(schedule, 1)));
+    vst1q_u8(block, veorq_u8(state, round_key(schedule, 0)));
+}
+
+#define EACH(X) X(0) X(1) X(2) X(3) X(4) X(5) X(6) X(7)
+#define BEGIN(i) uint8x16_t b##i = load(blocks + BLOCK * i);
+#define END(i) vst1q_u8(blocks + BLOCK * i, veorq_u8(b##i, key));
+#define ENCRYPT(i) b##i = vaesmcq_u8(vaeseq_u8(b##i, key));
+#define ENCRYPT_LAST(i) b##i = vaeseq_u8(b##i, key);
+#define DECRYPT(i) b##i = vaesimcq_u8(vaesdq_u8(b##i, key));
+#define DECRYPT_LAST(i) b##i = vaesdq_u8(b##i, key);
+
+BY_AES static void encrypt_8(const uint8_t *schedule, size_t rounds, uint8_t *blocks) {
+    uint8x16_t key = round_key(schedule, 0);
+    EACH(BEGIN)
+    for (size_t i = 1; i < rounds; i++) {
+        EACH(ENCRYPT)
+        key = round_key(schedule, i);
+    }
+    EACH(ENCRYPT_LAST)
+    key = round_key(schedule, rounds);
+    EACH(END)
+}
+
+/* By a schedule that is inverted. */
+BY_AES static void decrypt_8(const uint8_t *inverted, size_t rounds, uint8_t *blocks) {
+    uint8x16_t key = round_key(inverted, 0);
+    EACH(BEGIN)
+    for (size_t i = 1; i < rounds; i++) {
+        EACH(DECRYPT)
+        key = round_key(inverted, i);
+    }
+    EACH(DECRYPT_LAST)
+    key = round_key(inverted, rounds);
+    EACH(END)
+}
+
+/* The schedule of the equivalent inverse cipher (section 5.3.5): in the other order, with all round
+ * keys but the outer two mixed. */
+BY_AES static void invert(const uint8_t *schedule, size_t rounds, uint8_t *inverted) {
+    set_round_key(inverted, 0, round_key(schedule, rounds));
+    for (size_t i = 1; i < rounds; i++)
+        set_round_key(inverted, i, vaesimcq_u8(round_key(schedule, rounds - i)));
+    set_round_key(inverted, rounds, round_key(schedule, 0));
+}
+
+void keywrap_aes_encrypt_groups(const uint8_t *schedule, size_t len, uint8_t *blocks,
+                                size_t blocks_len) {
+    for (size_t at = 0; at < blocks_len; at += GROUP * BLOCK)
+        encrypt_8(schedule, len / BLOCK - 1, blocks + at);
+}
+
+void keywrap_aes_decrypt_groups(const uint8_t *schedule, size_t len, uint8_t *blocks,
+                                size_t blocks_len) {
+    uint8_t inverted[SCHEDULE];
+    invert(schedule, len / BLOCK - 1, inverted);
+    for (size_t at = 0; at < blocks_len; at += GROUP * BLOCK)
+        decrypt_8(inverted, len / BLOCK - 1, blocks + at);
+    wipe(inverted, len);
+}
+
+#else
+typedef int of_another_processor;
+#endif
+
+/* aes.c: whether the processor's AES is used, and the blocks that are not a whole group. */
+
+
+static void crypt_groups(bool decrypts, const uint8_t *schedule, size_t len, uint8_t *blocks,
+                         size_t blocks_len) {
+    if (decrypts) keywrap_aes_decrypt_groups(schedule, len, blocks, blocks_len);
+    else keywrap_aes_encrypt_groups(schedule, len, blocks, blocks_len);
+}
+
+/* The blocks behind the last whole group become a group of their own. */
+static void crypt_many(bool decrypts, const uint8_t *schedule, size_t len, uint8_t *blocks,
+                       size_t blocks_len) {
+    const size_t rest = blocks_len % (GROUP * BLOCK);
+    uint8_t *const last = blocks + blocks_len - rest;
+    if (last != blocks) crypt_groups(decrypts, schedule, len, blocks, blocks_len - rest);
+    if (rest != 0) {
+        uint8_t group[GROUP * BLOCK] = {0};
+        memcpy(group, last, rest);
+        crypt_groups(decrypts, schedule, len, group, sizeof group);
+        memcpy(last, group, rest);
+        wipe(group, sizeof group);
+    }
+}
+
+void keywrap_aes_encrypt_many(const uint8_t *schedule, size_t len, uint8_t *blocks,
+                              size_t blocks_len) {
+    crypt_many(false, schedule, len, blocks, blocks_len);
+}
+
+void keywrap_aes_decrypt_many(const uint8_t *schedule, size_t len, uint8_t *blocks,
+                              size_t blocks_len) {
+    crypt_many(true, schedule, len, blocks, blocks_len);
+}
+
+/* 16 bytes at any address. */
+typedef uint64_t zeros __attribute__((vector_size(16), aligned(1), may_alias));
+
+/* gcc would make one slow instruction of memset. The empty asm keeps these stores. */
+static inline void write_zeros(uint8_t *memory, size_t len) {
+    for (size_t i = 0; i < len; i += 16) {
+        *(zeros *)(memory + i) = (zeros){0, 0};
+        __asm__ volatile("" : : "r"(memory) : "memory");
+    }
+}
+
+void keywrap_aes_clear(uint8_t room[SCHEDULE]) {
+    uint8_t cover[512];
+    write_zeros(room, SCHEDULE);
+    write_zeros(cover, sizeof cover);
+}
+
+/* FIPS 197, appendix C: 00112233445566778899aabbccddeeff under the keys that count from 00. */
+static const uint8_t CIPHERTEXTS[3][BLOCK] = {
+    {0x69, 0xc4, 0xe0, 0xd8, 0x6a, 0x7b, 0x04, 0x30, 0xd8, 0xcd, 0xb7, 0x80, 0x70, 0xb4, 0xc5,
+     0x5a},
+    {0xdd, 0xa9, 0x7c, 0xa4, 0x86, 0x4c, 0xdf, 0xe0, 0x6e, 0xaf, 0x70, 0xa0, 0xec, 0x0d, 0x71,
+     0x91},
+    {0x8e, 0xa2, 0xb7, 0xca, 0x51, 0x67, 0x45, 0xbf, 0xea, 0xfc, 0x49, 0x90, 0x4b, 0x49, 0x60,
+     0x89},
+};
+
+/* A group and the blocks of most of another. */
+enum { TESTED = 2 * GROUP - 1 };
+
+/* Whether each of these blocks is this one. */
+static bool are_all(const uint8_t blocks[TESTED * BLOCK], const uint8_t block[BLOCK]) {
+    bool same = true;
+    for (unsigned i = 0; i < TESTED; i++) same &= memcmp(blocks + BLOCK * i, block, BLOCK) == 0;
+    return same;
+}
+
+bool keywrap_aes_known_answers(void) {
+    uint8_t kek[32], plaintext[BLOCK], block[BLOCK], blocks[TESTED * BLOCK];
+    uint8_t schedule[SCHEDULE];
+    for (unsigned i = 0; i < sizeof kek; i++) kek[i] = (uint8_t)i;
+    for (unsigned i = 0; i < BLOCK; i++) block[i] = plaintext[i] = (uint8_t)(0x11 * i);
+    for (unsigned i = 0; i < TESTED; i++) memcpy(blocks + BLOCK * i, plaintext, BLOCK);
+    for (unsigned i = 0; i < 3; i++) {
+        const size_t len = 176 + 32 * i;
+        keywrap_aes_expand(kek, 16 + 8 * i, schedule, len);
+        keywrap_aes_encrypt(schedule, len, block);
+        keywrap_aes_encrypt_many(schedule, len, blocks, sizeof blocks);
+        if (memcmp(block, CIPHERTEXTS[i], BLOCK) != 0 || !are_all(blocks, block)) return false;
+        keywrap_aes_decrypt(schedule, len, block);
+        keywrap_aes_decrypt_many(schedule, len, blocks, sizeof blocks);
+        if (memcmp(block, plaintext, BLOCK) != 0 || !are_all(blocks, block)) return false;
+    }
+    return true;
+}
+
+bool keywrap_aes_available(void) {
+    enum { UNKNOWN, WORKS, MISSING };
+    static int state = UNKNOWN;
+    int known = __atomic_load_n(&state, __ATOMIC_ACQUIRE);
+    if (known == UNKNOWN) {
+        const bool works = keywrap_aes_has_instructions() && keywrap_aes_known_answers();
+        known = works ? WORKS : MISSING;
+        __atomic_store_n(&state, known, __ATOMIC_RELEASE);
+    }
+    return known == WORKS;
+}
+
+/* The functions that the module imports: AES over its memory. The module has checked the lengths. */
+
+static void leaf_expand(struct memory memory, u64 kek, u64 kek_len, u64 schedule, u64 len) {
+    keywrap_aes_expand(read_at(memory, kek, kek_len), (size_t)kek_len,
+                       written_at(memory, schedule, len), (size_t)len);
+}
+
+INLINE void leaf_encrypt(struct memory memory, u64 schedule, u64 len, u64 block) {
+    keywrap_aes_encrypt(read_at(memory, schedule, len), (size_t)len,
+                        written_at(memory, block, BLOCK));
+}
+
+INLINE void leaf_decrypt(struct memory memory, u64 schedule, u64 len, u64 block) {
+    keywrap_aes_decrypt(read_at(memory, schedule, len), (size_t)len,
+                        written_at(memory, block, BLOCK));
+}
+
+static void leaf_encrypt_many(struct memory memory, u64 schedule, u64 len, u64 blocks,
+                              u64 blocks_len) {
+    if (blocks_len == 0) return;
+    keywrap_aes_encrypt_many(read_at(memory, schedule, len), (size_t)len,
+                             written_at(memory, blocks, blocks_len), (size_t)blocks_len);
+}
+
+static void leaf_decrypt_many(struct memory memory, u64 schedule, u64 len, u64 blocks,
+                              u64 blocks_len) {
+    if (blocks_len == 0) return;
+    keywrap_aes_decrypt_many(read_at(memory, schedule, len), (size_t)len,
+                             written_at(memory, blocks, blocks_len), (size_t)blocks_len);
+}
+
+static void leaf_clear(struct memory memory, u64 room) {
+    keywrap_aes_clear(written_at(memory, room, SCHEDULE));
+}
+#endif
 
 /*** The module, by wasm2c ***/
 
-static u32 w2c_f0(struct instance *);
-static void w2c_f1(struct instance *);
-static void w2c_f2(struct instance *);
-static void w2c_f3(struct instance *, u64, u64, u64, u64);
-#ifndef KEYWRAP_STEPS_ONLY
-static void w2c_f4(struct instance *, u64, u64, u64);
-static void w2c_f5(struct instance *, u64, u64, u64, u64, u64, u64, u64);
-static u64 w2c_f6(struct instance *, u64, u64, u64, u64);
-static void w2c_f7(struct instance *, u64, u64, u64, u64, u64, u64, u64, u64);
+static u32 w2c_f6(struct instance *);
+static void w2c_f7(struct instance *);
+static void w2c_f8(struct instance *);
+static void w2c_f9(struct instance *, u64, u64, u64, u64, u64);
+#ifdef WITH_AES
+static void w2c_f10(struct instance *, u64, u64, u64, u64);
+static void w2c_f11(struct instance *, u64, u64, u64, u64, u64, u64, u64);
+static u64 w2c_f12(struct instance *, u64, u64, u64, u64);
 #endif
-static void w2c_f8(struct instance *, u64, u64, u64, u64, u64);
-static void w2c_f9(struct instance *, u64, u64, u32, u64, u64, u64);
-#ifndef KEYWRAP_STEPS_ONLY
-static void w2c_f10(struct instance *, u64, u64, u64, u64, u64, u64);
-static void w2c_f11(struct instance *, u64, u64, u64, u64, u64);
-static u32 w2c_f12(struct instance *, u64, u64, u64, u64, u64);
 static void w2c_f13(struct instance *, u64, u64, u64, u64);
-static void w2c_f14(struct instance *, u64, u64, u64);
-static void w2c_f15(struct instance *, u64, u64, u64, u64, u64, u64, u64);
-static u32 w2c_f16(struct instance *, u64, u64, u64, u64, u64, u64);
-static u32 w2c_f17(struct instance *, u64, u64, u64);
-static u32 w2c_f18(struct instance *, u64, u64, u64, u64, u64, u64);
-static u32 w2c_f19(struct instance *, u64, u64, u64, u64);
-static u32 w2c_f20(struct instance *, u64, u64, u64, u64, u64, u64);
-static u32 w2c_f21(struct instance *, u64, u64, u64, u64, u64, u64, u64);
-static void w2c_f22(struct instance *, u64, u32, u64, u64, u64, u64, u64);
-static void w2c_f23(struct instance *, u64, u32, u64, u64, u64, u64, u64);
+#ifdef WITH_AES
+static void w2c_f14(struct instance *, u64, u64, u64, u64, u64, u64, u64, u64);
+static void w2c_f15(struct instance *, u64, u64, u64, u64, u64, u64, u64, u64);
+static void w2c_f16(struct instance *, u64, u64, u64, u64, u64, u64);
+static void w2c_f17(struct instance *, u64, u64, u64, u64, u64, u64);
+static void w2c_f18(struct instance *, u64, u64, u64, u64, u64);
+static u32 w2c_f19(struct instance *, u64, u64, u64, u64, u64);
+static void w2c_f20(struct instance *, u64, u64, u64, u64);
+static void w2c_f21(struct instance *, u64, u64, u64, u64, u64, u64, u64);
+static void w2c_f22(struct instance *, u64, u64, u64, u64, u64, u64, u64);
+static void w2c_f23(struct instance *, u64, u64, u64, u64, u64, u64);
+#endif
+static void w2c_f24(struct instance *, u64, u64, u64, u64, u64);
+static void w2c_f25(struct instance *, u64, u64, u32, u64, u64, u64);
+#ifdef WITH_AES
+static u32 w2c_f26(struct instance *, u64, u64, u64, u64, u64, u64);
+static u32 w2c_f27(struct instance *, u64, u64, u64, u64, u64, u64);
+#endif
+#ifndef KEYWRAP_STEPS_ONLY
+static u32 w2c_f28(struct instance *, u64, u64, u64);
+#endif
+#ifdef WITH_AES
+static u32 w2c_f29(struct instance *, u64, u64, u64, u64, u64, u64);
+static u32 w2c_f30(struct instance *, u64, u64, u64, u64);
+static u32 w2c_f31(struct instance *, u64, u64, u64, u64, u64, u64);
+static u32 w2c_f32(struct instance *, u64, u64, u64, u64, u64, u64, u64);
+static void w2c_f33(struct instance *, u64, u32, u64, u64, u64, u64);
+static void w2c_f34(struct instance *, u64, u32, u64, u64, u64, u64, u64);
+static void w2c_f35(struct instance *, u64, u32, u64, u64, u64, u64);
+static void w2c_f36(struct instance *, u64, u32, u64, u64, u64, u64, u64);
+#endif
+#ifndef KEYWRAP_STEPS_ONLY
+static void w2c_f37(struct instance *, u64, u64, u64);
+static void w2c_f38(struct instance *, u64, u64, u64, u64, u64, u64, u64);
+static u64 w2c_f39(struct instance *, u64, u64, u64, u64);
+static void w2c_f40(struct instance *, u64, u64, u64, u64, u64, u64, u64, u64);
+static void w2c_f41(struct instance *, u64, u64, u64, u64, u64, u64);
+static void w2c_f42(struct instance *, u64, u64, u64, u64, u64);
+static u32 w2c_f43(struct instance *, u64, u64, u64, u64, u64);
+static void w2c_f44(struct instance *, u64, u64, u64, u64);
+static void w2c_f45(struct instance *, u64, u64, u64);
+static void w2c_f46(struct instance *, u64, u64, u64, u64, u64, u64, u64);
+static u32 w2c_f47(struct instance *, u64, u64, u64, u64, u64, u64);
+static u32 w2c_f48(struct instance *, u64, u64, u64, u64, u64, u64);
+static u32 w2c_f49(struct instance *, u64, u64, u64, u64);
+static u32 w2c_f50(struct instance *, u64, u64, u64, u64, u64, u64);
+static u32 w2c_f51(struct instance *, u64, u64, u64, u64, u64, u64, u64);
+static void w2c_f52(struct instance *, u64, u32, u64, u64, u64, u64, u64);
+static void w2c_f53(struct instance *, u64, u32, u64, u64, u64, u64, u64);
+#endif
+#ifdef WITH_AES
+static u32 w2c_aes_kek_init(struct instance *, u64, u64, u64, u64);
+static u32 w2c_f55(struct instance *, u64, u64, u64, u64);
+static u32 w2c_aes_kind(struct instance *, u64, u64, u64, u64, u64, u64, u64, u64);
+static u32 w2c_f57(struct instance *, u64, u64, u64, u64, u64, u64, u64, u64);
+static u32 w2c_aes_kind_many(struct instance *, u64, u64, u64, u64, u64, u64, u64, u64, u64, u64, u64, u64);
+static u32 w2c_f59(struct instance *, u64, u64, u64, u64, u64, u64, u64, u64, u64, u64, u64, u64);
+static u32 w2c_aes_rewrap(struct instance *, u64, u64, u64, u64, u64, u64, u32, u64);
+static u32 w2c_f61(struct instance *, u64, u64, u64, u64, u64, u64, u32, u64);
+static u32 w2c_aes_rewrap_in_place(struct instance *, u64, u64, u64, u64, u64, u64, u32);
+static u32 w2c_f63(struct instance *, u64, u64, u64, u64, u64, u64, u32);
+static u32 w2c_aes_rewrap_many(struct instance *, u64, u64, u64, u64, u64, u64, u32, u64, u64);
+static u32 w2c_f65(struct instance *, u64, u64, u64, u64, u64, u64, u32, u64, u64);
+static u32 w2c_aes_self_test(struct instance *);
+static u32 w2c_f67(struct instance *);
+static u32 w2c_aes_unwrap(struct instance *, u64, u64, u64, u64, u64, u64);
+static u32 w2c_f69(struct instance *, u64, u64, u64, u64, u64, u64);
+static u32 w2c_aes_unwrap_any(struct instance *, u64, u64, u64, u64, u64, u64, u64, u64);
+static u32 w2c_f71(struct instance *, u64, u64, u64, u64, u64, u64, u64, u64);
+static u32 w2c_aes_unwrap_in_place(struct instance *, u64, u64, u64, u64);
+static u32 w2c_f73(struct instance *, u64, u64, u64, u64);
+static u32 w2c_aes_unwrap_many(struct instance *, u64, u64, u64, u64, u32, u64, u64, u64, u64);
+static u32 w2c_f75(struct instance *, u64, u64, u64, u64, u32, u64, u64, u64, u64);
+static u32 w2c_aes_unwrap_padded(struct instance *, u64, u64, u64, u64, u64, u64, u64);
+static u32 w2c_f77(struct instance *, u64, u64, u64, u64, u64, u64, u64);
+static u32 w2c_aes_unwrap_padded_in_place(struct instance *, u64, u64, u64, u64, u64);
+static u32 w2c_f79(struct instance *, u64, u64, u64, u64, u64);
+static u32 w2c_aes_unwrap_with(struct instance *, u64, u64, u64, u64, u64, u64, u64, u64);
+static u32 w2c_f81(struct instance *, u64, u64, u64, u64, u64, u64, u64, u64);
+static u32 w2c_aes_wrap(struct instance *, u64, u64, u64, u64, u64, u64);
+static u32 w2c_f83(struct instance *, u64, u64, u64, u64, u64, u64);
+static u32 w2c_aes_wrap_in_place(struct instance *, u64, u64, u64, u64);
+static u32 w2c_f85(struct instance *, u64, u64, u64, u64);
+static u32 w2c_aes_wrap_many(struct instance *, u64, u64, u64, u64, u64, u32, u64, u64);
+static u32 w2c_f87(struct instance *, u64, u64, u64, u64, u64, u32, u64, u64);
+static u32 w2c_aes_wrap_padded(struct instance *, u64, u64, u64, u64, u64, u64);
+static u32 w2c_f89(struct instance *, u64, u64, u64, u64, u64, u64);
+static u32 w2c_aes_wrap_padded_in_place(struct instance *, u64, u64, u64, u64, u64);
+static u32 w2c_f91(struct instance *, u64, u64, u64, u64, u64);
+static u32 w2c_aes_wrap_with(struct instance *, u64, u64, u64, u64, u64, u64, u64, u64);
+static u32 w2c_f93(struct instance *, u64, u64, u64, u64, u64, u64, u64, u64);
 #endif
 static u32 w2c_keywrap_begin_rewrap(struct instance *, u32, u64, u64, u64, u64, u64);
-static u32 w2c_f25(struct instance *, u32, u64, u64, u64, u64, u64);
+static u32 w2c_f95(struct instance *, u32, u64, u64, u64, u64, u64);
 static u32 w2c_keywrap_begin_unwrap(struct instance *, u64, u64, u64, u64, u64);
-static u32 w2c_f27(struct instance *, u64, u64, u64, u64, u64);
+static u32 w2c_f97(struct instance *, u64, u64, u64, u64, u64);
+static u32 w2c_keywrap_begin_unwrap_many(struct instance *, u64, u64, u64, u64, u64, u64);
+static u32 w2c_f99(struct instance *, u64, u64, u64, u64, u64, u64);
 static u32 w2c_keywrap_begin_unwrap_padded(struct instance *, u64, u64, u64, u64, u64);
-static u32 w2c_f29(struct instance *, u64, u64, u64, u64, u64);
+static u32 w2c_f101(struct instance *, u64, u64, u64, u64, u64);
 static u32 w2c_keywrap_begin_wrap(struct instance *, u64, u64, u64, u64, u64, u64);
-static u32 w2c_f31(struct instance *, u64, u64, u64, u64, u64, u64);
+static u32 w2c_f103(struct instance *, u64, u64, u64, u64, u64, u64);
+static u32 w2c_keywrap_begin_wrap_many(struct instance *, u64, u64, u64, u64, u64, u64, u64, u64);
+static u32 w2c_f105(struct instance *, u64, u64, u64, u64, u64, u64, u64, u64);
 static u32 w2c_keywrap_begin_wrap_padded(struct instance *, u64, u64, u64, u64, u64);
-static u32 w2c_f33(struct instance *, u64, u64, u64, u64, u64);
-#ifdef WITH_AES
-static u32 w2c_keywrap_begin_wrap_slot(struct instance *, u32, u64, u64, u64, u64, u64);
-static u32 w2c_f35(struct instance *, u32, u64, u64, u64, u64, u64);
-static u32 w2c_keywrap_check_keks(struct instance *, u64, u64, u64, u64);
-static u32 w2c_f37(struct instance *, u64, u64, u64, u64);
-static u32 w2c_keywrap_check_kind(struct instance *, u64, u64, u64, u64);
-static u32 w2c_f39(struct instance *, u64, u64, u64, u64);
-static u32 w2c_keywrap_check_kind_many(struct instance *, u64, u64, u64, u64, u64, u64, u64);
-static u32 w2c_f41(struct instance *, u64, u64, u64, u64, u64, u64, u64);
-static u32 w2c_keywrap_check_padded(struct instance *, u64, u64, u64, u64);
-static u32 w2c_f43(struct instance *, u64, u64, u64, u64);
-static u32 w2c_keywrap_check_plain(struct instance *, u64, u64, u64, u64, u64, u64);
-static u32 w2c_f45(struct instance *, u64, u64, u64, u64, u64, u64);
-static u32 w2c_keywrap_check_rewrap_in_place(struct instance *, u64, u64, u64, u64, u32);
-static u32 w2c_f47(struct instance *, u64, u64, u64, u64, u32);
-static u32 w2c_keywrap_check_rewrap_many(struct instance *, u64, u64, u64, u64, u64, u32, u64);
-static u32 w2c_f49(struct instance *, u64, u64, u64, u64, u64, u32, u64);
-static u32 w2c_keywrap_check_room(struct instance *, u64, u64, u64, u64);
-static u32 w2c_f51(struct instance *, u64, u64, u64, u64);
-static u32 w2c_keywrap_check_unwrap_many(struct instance *, u64, u64, u64, u32, u64, u64);
-static u32 w2c_f53(struct instance *, u64, u64, u64, u32, u64, u64);
-static u32 w2c_keywrap_check_wrap_many(struct instance *, u64, u64, u64, u64, u32, u64);
-static u32 w2c_f55(struct instance *, u64, u64, u64, u64, u32, u64);
-static u32 w2c_keywrap_end_rewrap(struct instance *, u32, u64);
-static u32 w2c_f57(struct instance *, u32, u64);
-static u32 w2c_keywrap_end_rewrap_in_place(struct instance *, u32, u64, u64);
-static u32 w2c_f59(struct instance *, u32, u64, u64);
-#endif
+static u32 w2c_f107(struct instance *, u64, u64, u64, u64, u64);
 static u32 w2c_keywrap_end_unwrap(struct instance *, u64, u64, u64, u64, u64, u64);
-static u32 w2c_f61(struct instance *, u64, u64, u64, u64, u64, u64);
+static u32 w2c_f109(struct instance *, u64, u64, u64, u64, u64, u64);
 static u32 w2c_keywrap_end_unwrap_any(struct instance *, u64, u64, u64, u64, u64, u64);
-static u32 w2c_f63(struct instance *, u64, u64, u64, u64, u64, u64);
+static u32 w2c_f111(struct instance *, u64, u64, u64, u64, u64, u64);
+static u32 w2c_keywrap_end_unwrap_many(struct instance *, u64, u64, u64, u64, u64, u64, u64, u64, u64, u64);
+static u32 w2c_f113(struct instance *, u64, u64, u64, u64, u64, u64, u64, u64, u64, u64);
 static u32 w2c_keywrap_end_unwrap_padded(struct instance *, u64, u64, u64, u64, u64);
-static u32 w2c_f65(struct instance *, u64, u64, u64, u64, u64);
-#ifdef WITH_AES
-static u32 w2c_keywrap_end_unwrap_slot(struct instance *, u32, u64, u64, u64, u64, u64);
-static u32 w2c_f67(struct instance *, u32, u64, u64, u64, u64, u64);
-#endif
+static u32 w2c_f115(struct instance *, u64, u64, u64, u64, u64);
 static u32 w2c_keywrap_end_wrap(struct instance *, u64, u64, u64, u64, u64);
-static u32 w2c_f69(struct instance *, u64, u64, u64, u64);
+static u32 w2c_f117(struct instance *, u64, u64, u64, u64);
+static u32 w2c_keywrap_end_wrap_many(struct instance *, u64, u64, u64, u64, u64, u64);
+static u32 w2c_f119(struct instance *, u64, u64, u64, u64, u64, u64);
 #ifndef KEYWRAP_STEPS_ONLY
 static void w2c_keywrap_kek_clear(struct instance *, u64, u64);
-static void w2c_f71(struct instance *, u64, u64);
+static void w2c_f121(struct instance *, u64, u64);
 static u32 w2c_keywrap_kek_init(struct instance *, u64, u64, u64, u64);
-static u32 w2c_f73(struct instance *, u64, u64, u64, u64);
+static u32 w2c_f123(struct instance *, u64, u64, u64, u64);
 static u32 w2c_keywrap_kind(struct instance *, u64, u64, u64, u64, u64, u64, u64, u64);
-static u32 w2c_f75(struct instance *, u64, u64, u64, u64, u64, u64, u64, u64);
+static u32 w2c_f125(struct instance *, u64, u64, u64, u64, u64, u64, u64, u64);
 static u32 w2c_keywrap_kind_many(struct instance *, u64, u64, u64, u64, u64, u64, u64, u64, u64, u64, u64, u64);
-static u32 w2c_f77(struct instance *, u64, u64, u64, u64, u64, u64, u64, u64, u64, u64, u64, u64);
+static u32 w2c_f127(struct instance *, u64, u64, u64, u64, u64, u64, u64, u64, u64, u64, u64, u64);
 #endif
 static u32 w2c_keywrap_next_rewrap(struct instance *, u32, u64, u64, u64, u64, u64);
-static u32 w2c_f79(struct instance *, u32, u64, u64, u64, u64, u64);
+static u32 w2c_f129(struct instance *, u32, u64, u64, u64, u64, u64);
 static u32 w2c_keywrap_next_rewrap_from(struct instance *, u32, u64, u64, u64, u64, u64, u64, u64);
-static u32 w2c_f81(struct instance *, u32, u64, u64, u64, u64, u64, u64, u64);
+static u32 w2c_f131(struct instance *, u32, u64, u64, u64, u64, u64, u64, u64);
 #ifndef KEYWRAP_STEPS_ONLY
 static u32 w2c_keywrap_rewrap(struct instance *, u64, u64, u64, u64, u64, u64, u32, u64);
-static u32 w2c_f83(struct instance *, u64, u64, u64, u64, u64, u64, u32, u64);
+static u32 w2c_f133(struct instance *, u64, u64, u64, u64, u64, u64, u32, u64);
 static u32 w2c_keywrap_rewrap_in_place(struct instance *, u64, u64, u64, u64, u64, u64, u32);
-static u32 w2c_f85(struct instance *, u64, u64, u64, u64, u64, u64, u32);
+static u32 w2c_f135(struct instance *, u64, u64, u64, u64, u64, u64, u32);
 static u32 w2c_keywrap_rewrap_many(struct instance *, u64, u64, u64, u64, u64, u64, u32, u64, u64);
-static u32 w2c_f87(struct instance *, u64, u64, u64, u64, u64, u64, u32, u64, u64);
+static u32 w2c_f137(struct instance *, u64, u64, u64, u64, u64, u64, u32, u64, u64);
 static u32 w2c_keywrap_self_test(struct instance *);
-static u32 w2c_f89(struct instance *);
+static u32 w2c_f139(struct instance *);
 static u64 w2c_keywrap_status_text(struct instance *, u32, u64, u64);
-static u64 w2c_f91(struct instance *, u32, u64, u64);
+static u64 w2c_f141(struct instance *, u32, u64, u64);
 #endif
 static u64 w2c_keywrap_step_count(struct instance *, u64);
-static u64 w2c_f93(struct instance *, u64);
+static u64 w2c_f143(struct instance *, u64);
 static u32 w2c_keywrap_step_unwrap(struct instance *, u64, u64, u64, u64);
-static u32 w2c_f95(struct instance *, u64, u64, u64, u64);
+static u32 w2c_f145(struct instance *, u64, u64, u64, u64);
+static u32 w2c_keywrap_step_unwrap_many(struct instance *, u64, u64, u64, u64, u64, u64);
+static u32 w2c_f147(struct instance *, u64, u64, u64, u64, u64, u64);
 static u32 w2c_keywrap_step_wrap(struct instance *, u64, u64, u64, u64);
-static u32 w2c_f97(struct instance *, u64, u64, u64, u64);
+static u32 w2c_f149(struct instance *, u64, u64, u64, u64);
+static u32 w2c_keywrap_step_wrap_many(struct instance *, u64, u64, u64, u64, u64, u64);
+static u32 w2c_f151(struct instance *, u64, u64, u64, u64, u64, u64);
 #ifndef KEYWRAP_STEPS_ONLY
 static u32 w2c_keywrap_unwrap(struct instance *, u64, u64, u64, u64, u64, u64);
-static u32 w2c_f99(struct instance *, u64, u64, u64, u64, u64, u64);
+static u32 w2c_f153(struct instance *, u64, u64, u64, u64, u64, u64);
 static u32 w2c_keywrap_unwrap_any(struct instance *, u64, u64, u64, u64, u64, u64, u64, u64);
-static u32 w2c_f101(struct instance *, u64, u64, u64, u64, u64, u64, u64, u64);
+static u32 w2c_f155(struct instance *, u64, u64, u64, u64, u64, u64, u64, u64);
 static u32 w2c_keywrap_unwrap_in_place(struct instance *, u64, u64, u64, u64);
-static u32 w2c_f103(struct instance *, u64, u64, u64, u64);
+static u32 w2c_f157(struct instance *, u64, u64, u64, u64);
 static u32 w2c_keywrap_unwrap_many(struct instance *, u64, u64, u64, u64, u32, u64, u64, u64, u64);
-static u32 w2c_f105(struct instance *, u64, u64, u64, u64, u32, u64, u64, u64, u64);
+static u32 w2c_f159(struct instance *, u64, u64, u64, u64, u32, u64, u64, u64, u64);
 static u32 w2c_keywrap_unwrap_padded(struct instance *, u64, u64, u64, u64, u64, u64, u64);
-static u32 w2c_f107(struct instance *, u64, u64, u64, u64, u64, u64, u64);
+static u32 w2c_f161(struct instance *, u64, u64, u64, u64, u64, u64, u64);
 static u32 w2c_keywrap_unwrap_padded_in_place(struct instance *, u64, u64, u64, u64, u64);
-static u32 w2c_f109(struct instance *, u64, u64, u64, u64, u64);
+static u32 w2c_f163(struct instance *, u64, u64, u64, u64, u64);
 static u32 w2c_keywrap_unwrap_with(struct instance *, u64, u64, u64, u64, u64, u64, u64, u64);
-static u32 w2c_f111(struct instance *, u64, u64, u64, u64, u64, u64, u64, u64);
+static u32 w2c_f165(struct instance *, u64, u64, u64, u64, u64, u64, u64, u64);
 static u32 w2c_keywrap_version(struct instance *);
-static void w2c_f113(struct instance *);
+static void w2c_f167(struct instance *);
 static u32 w2c_keywrap_wrap(struct instance *, u64, u64, u64, u64, u64, u64);
-static u32 w2c_f115(struct instance *, u64, u64, u64, u64, u64, u64);
+static u32 w2c_f169(struct instance *, u64, u64, u64, u64, u64, u64);
 static u32 w2c_keywrap_wrap_in_place(struct instance *, u64, u64, u64, u64);
-static u32 w2c_f117(struct instance *, u64, u64, u64, u64);
+static u32 w2c_f171(struct instance *, u64, u64, u64, u64);
 static u32 w2c_keywrap_wrap_many(struct instance *, u64, u64, u64, u64, u64, u32, u64, u64);
-static u32 w2c_f119(struct instance *, u64, u64, u64, u64, u64, u32, u64, u64);
+static u32 w2c_f173(struct instance *, u64, u64, u64, u64, u64, u32, u64, u64);
 static u32 w2c_keywrap_wrap_padded(struct instance *, u64, u64, u64, u64, u64, u64);
-static u32 w2c_f121(struct instance *, u64, u64, u64, u64, u64, u64);
+static u32 w2c_f175(struct instance *, u64, u64, u64, u64, u64, u64);
 static u32 w2c_keywrap_wrap_padded_in_place(struct instance *, u64, u64, u64, u64, u64);
-static u32 w2c_f123(struct instance *, u64, u64, u64, u64, u64);
+static u32 w2c_f177(struct instance *, u64, u64, u64, u64, u64);
 static u32 w2c_keywrap_wrap_with(struct instance *, u64, u64, u64, u64, u64, u64, u64, u64);
-static u32 w2c_f125(struct instance *, u64, u64, u64, u64, u64, u64, u64, u64);
+static u32 w2c_f179(struct instance *, u64, u64, u64, u64, u64, u64, u64, u64);
 #endif
-static u32 w2c_f0(struct instance *instance) {
+static u32 w2c_f6(struct instance *instance) {
   u32 w2c_l0 = 0;
   const struct memory memory = instance->w2c_memory;
   (void)memory;
@@ -808,845 +1494,385 @@ static u32 w2c_f0(struct instance *instance) {
   w2c_i0 = w2c_i0 != w2c_i1;
   return w2c_i0;
 }
-static void w2c_f1(struct instance *instance) {
+static void w2c_f7(struct instance *instance) {
   const struct memory memory = instance->w2c_memory;
   (void)memory;
   u32 w2c_i0;
   w2c_i0 = 0u;
   instance->w2c_g1 = w2c_i0;
 }
-static void w2c_f2(struct instance *instance) {
+static void w2c_f8(struct instance *instance) {
   const struct memory memory = instance->w2c_memory;
   (void)memory;
   UNREACHABLE;
 }
-static void w2c_f3(struct instance *instance, u64 w2c_p0, u64 w2c_p1, u64 w2c_p2, u64 w2c_p3) {
-  u32 w2c_l4 = 0, w2c_l5 = 0;
+static void w2c_f9(struct instance *instance, u64 w2c_p0, u64 w2c_p1, u64 w2c_p2, u64 w2c_p3, u64 w2c_p4) {
+  u64 w2c_l5 = 0, w2c_l6 = 0;
+  const struct memory memory = instance->w2c_memory;
+  (void)memory;
+  u32 w2c_i0;
+  u64 w2c_j0, w2c_j1, w2c_j2, w2c_j3, w2c_j4;
+  w2c_j0 = w2c_p0;
+  w2c_i0 = (u32)(w2c_j0);
+  w2c_j1 = w2c_p3;
+  w2c_j2 = 32ull;
+  w2c_j1 >>= (w2c_j2 & 63);
+  w2c_l5 = w2c_j1;
+  w2c_j2 = w2c_p1;
+  w2c_j3 = 32ull;
+  w2c_j2 >>= (w2c_j3 & 63);
+  w2c_l6 = w2c_j2;
+  w2c_j1 *= w2c_j2;
+  w2c_j2 = w2c_p2;
+  w2c_j3 = w2c_p3;
+  w2c_j2 *= w2c_j3;
+  w2c_j1 += w2c_j2;
+  w2c_j2 = w2c_p4;
+  w2c_j3 = w2c_p1;
+  w2c_j2 *= w2c_j3;
+  w2c_j1 += w2c_j2;
+  w2c_j2 = w2c_p3;
+  w2c_j3 = 4294967295ull;
+  w2c_j2 &= w2c_j3;
+  w2c_p3 = w2c_j2;
+  w2c_j3 = w2c_p1;
+  w2c_j4 = 4294967295ull;
+  w2c_j3 &= w2c_j4;
+  w2c_p1 = w2c_j3;
+  w2c_j2 *= w2c_j3;
+  w2c_p2 = w2c_j2;
+  w2c_j3 = 32ull;
+  w2c_j2 >>= (w2c_j3 & 63);
+  w2c_j3 = w2c_p3;
+  w2c_j4 = w2c_l6;
+  w2c_j3 *= w2c_j4;
+  w2c_j2 += w2c_j3;
+  w2c_p3 = w2c_j2;
+  w2c_j3 = 32ull;
+  w2c_j2 >>= (w2c_j3 & 63);
+  w2c_j1 += w2c_j2;
+  w2c_j2 = w2c_p3;
+  w2c_j3 = 4294967295ull;
+  w2c_j2 &= w2c_j3;
+  w2c_j3 = w2c_l5;
+  w2c_j4 = w2c_p1;
+  w2c_j3 *= w2c_j4;
+  w2c_j2 += w2c_j3;
+  w2c_p1 = w2c_j2;
+  w2c_j3 = 32ull;
+  w2c_j2 >>= (w2c_j3 & 63);
+  w2c_j1 += w2c_j2;
+  i64_store(memory, (u64)(w2c_i0) + 8, w2c_j1);
+  w2c_j0 = w2c_p0;
+  w2c_i0 = (u32)(w2c_j0);
+  w2c_j1 = w2c_p1;
+  w2c_j2 = 32ull;
+  w2c_j1 <<= (w2c_j2 & 63);
+  w2c_j2 = w2c_p2;
+  w2c_j3 = 4294967295ull;
+  w2c_j2 &= w2c_j3;
+  w2c_j1 |= w2c_j2;
+  i64_store(memory, (u64)(w2c_i0), w2c_j1);
+}
+#ifdef WITH_AES
+static void w2c_f10(struct instance *instance, u64 w2c_p0, u64 w2c_p1, u64 w2c_p2, u64 w2c_p3) {
+  u64 w2c_l4 = 0, w2c_l5 = 0, w2c_l6 = 0, w2c_l7 = 0, w2c_l8 = 0, w2c_l9 = 0, w2c_l10 = 0, w2c_l11 = 0;
   const struct memory memory = instance->w2c_memory;
   (void)memory;
   u32 w2c_i0, w2c_i1, w2c_i2;
-  u64 w2c_j0, w2c_j1, w2c_j2;
+  u64 w2c_j0, w2c_j1, w2c_j2, w2c_j3;
   w2c_j0 = instance->w2c_g0;
-  w2c_j1 = 16ull;
-  w2c_i0 = (u64)((s64)w2c_j0 < (s64)w2c_j1);
-  if (w2c_i0) {goto w2c_B0;}
-  w2c_j0 = w2c_p1;
-  w2c_i0 = !(w2c_j0);
-  w2c_i0 = !(w2c_i0);
-  if (w2c_i0) {goto w2c_B2;}
-  w2c_i0 = 0u;
-  w2c_l4 = w2c_i0;
-  goto w2c_B1;
-  w2c_B2:;
-  w2c_i0 = 1u;
-  w2c_l4 = w2c_i0;
-  w2c_j0 = w2c_p3;
-  w2c_i0 = !(w2c_j0);
-  if (w2c_i0) {goto w2c_B1;}
-  w2c_j0 = w2c_p3;
-  w2c_j1 = 18446744073709551615ull;
-  w2c_j0 += w2c_j1;
-  w2c_p3 = w2c_j0;
-  w2c_i0 = !(w2c_j0);
-  w2c_l5 = w2c_i0;
-  if (w2c_i0) {goto w2c_B3;}
-  w2c_i0 = w2c_l5;
-  if (w2c_i0) {goto w2c_B3;}
-  w2c_j0 = w2c_p2;
-  w2c_i0 = (u32)(w2c_j0);
-  w2c_i1 = 0u;
-  w2c_j2 = w2c_p3;
-  w2c_i2 = (u32)(w2c_j2);
-  memory_fill(memory, w2c_i0, w2c_i1, w2c_i2);
-  w2c_B3:;
-  w2c_j0 = w2c_p2;
-  w2c_j1 = w2c_p3;
-  w2c_j0 += w2c_j1;
-  w2c_i0 = (u32)(w2c_j0);
-  w2c_i1 = 0u;
-  i32_store8(memory, (u64)(w2c_i0), w2c_i1);
-  w2c_B1:;
-  w2c_j0 = w2c_p0;
-  w2c_i0 = (u32)(w2c_j0);
-  w2c_i1 = w2c_l4;
-  i32_store8(memory, (u64)(w2c_i0) + 1, w2c_i1);
-  w2c_j0 = w2c_p0;
-  w2c_i0 = (u32)(w2c_j0);
-  w2c_i1 = w2c_l4;
-  i32_store8(memory, (u64)(w2c_i0), w2c_i1);
-  goto w2c_Bfunc;
-  w2c_B0:;
-  UNREACHABLE;
-  w2c_Bfunc:;
-}
-#ifndef KEYWRAP_STEPS_ONLY
-static void w2c_f4(struct instance *instance, u64 w2c_p0, u64 w2c_p1, u64 w2c_p2) {
-  u32 w2c_l11 = 0, w2c_l12 = 0;
-  u64 w2c_l3 = 0, w2c_l4 = 0, w2c_l5 = 0, w2c_l6 = 0, w2c_l7 = 0, w2c_l8 = 0, w2c_l9 = 0, w2c_l10 = 0;
-  const struct memory memory = instance->w2c_memory;
-  (void)memory;
-  u32 w2c_i0, w2c_i1, w2c_i2, w2c_i3;
-  u64 w2c_j0, w2c_j1, w2c_j2;
-  w2c_j0 = instance->w2c_g0;
-  w2c_j1 = 976ull;
-  w2c_j0 -= w2c_j1;
-  w2c_l3 = w2c_j0;
-  instance->w2c_g0 = w2c_j0;
-  w2c_j0 = w2c_l3;
   w2c_l4 = w2c_j0;
   w2c_j1 = 16ull;
   w2c_i0 = (u64)((s64)w2c_j0 < (s64)w2c_j1);
-  if (w2c_i0) {goto w2c_B3;}
-  w2c_j0 = w2c_l4;
-  w2c_j1 = 12ull;
+  if (w2c_i0) {goto w2c_B0;}
+  w2c_j0 = 0ull;
+  w2c_l5 = w2c_j0;
+  w2c_j0 = 0ull;
+  w2c_l6 = w2c_j0;
+  w2c_j0 = w2c_p2;
+  w2c_j1 = 183ull;
+  w2c_i0 = (u64)((s64)w2c_j0 > (s64)w2c_j1);
+  if (w2c_i0) {goto w2c_B5;}
+  w2c_j0 = w2c_p2;
+  w2c_j1 = 18446744073709551600ull;
   w2c_j0 += w2c_j1;
+  w2c_l7 = w2c_j0;
+  w2c_j1 = 16ull;
+  w2c_i0 = w2c_j0 <= w2c_j1;
+  if (w2c_i0) {goto w2c_B6;}
+  w2c_j0 = 0ull;
+  w2c_l8 = w2c_j0;
+  goto w2c_B1;
+  w2c_B6:;
+  w2c_j0 = 176ull;
+  w2c_l9 = w2c_j0;
+  w2c_j0 = 0ull;
+  w2c_l8 = w2c_j0;
+  w2c_j0 = w2c_l7;
   w2c_i0 = (u32)(w2c_j0);
-  w2c_i1 = 0u;
-  w2c_j2 = 240ull;
-  w2c_i2 = (u32)(w2c_j2);
-  memory_fill(memory, w2c_i0, w2c_i1, w2c_i2);
-  w2c_j0 = w2c_l4;
-  w2c_i0 = (u32)(w2c_j0);
-  w2c_i1 = 0u;
-  i32_store8(memory, (u64)(w2c_i0) + 10, w2c_i1);
-  w2c_j0 = w2c_l4;
-  w2c_i0 = (u32)(w2c_j0);
-  w2c_i1 = 0u;
-  i32_store16(memory, (u64)(w2c_i0) + 8, w2c_i1);
+  switch (w2c_i0) {
+    case 0: goto w2c_B2;
+    case 1: goto w2c_B1;
+    case 2: goto w2c_B1;
+    case 3: goto w2c_B1;
+    case 4: goto w2c_B1;
+    case 5: goto w2c_B1;
+    case 6: goto w2c_B1;
+    case 7: goto w2c_B1;
+    case 8: goto w2c_B4;
+    case 9: goto w2c_B1;
+    case 10: goto w2c_B1;
+    case 11: goto w2c_B1;
+    case 12: goto w2c_B1;
+    case 13: goto w2c_B1;
+    case 14: goto w2c_B1;
+    case 15: goto w2c_B1;
+    case 16: goto w2c_B3;
+    default: goto w2c_B2;
+  }
+  w2c_B5:;
   w2c_j0 = w2c_p2;
   w2c_j1 = 184ull;
   w2c_i0 = w2c_j0 == w2c_j1;
-  if (w2c_i0) {goto w2c_B5;}
+  if (w2c_i0) {goto w2c_B7;}
   w2c_j0 = w2c_p2;
   w2c_j1 = 248ull;
   w2c_i0 = w2c_j0 == w2c_j1;
-  if (w2c_i0) {goto w2c_B5;}
+  if (w2c_i0) {goto w2c_B7;}
+  w2c_j0 = 0ull;
+  w2c_l8 = w2c_j0;
   w2c_j0 = w2c_p2;
   w2c_j1 = 216ull;
   w2c_i0 = w2c_j0 != w2c_j1;
-  if (w2c_i0) {goto w2c_B4;}
-  w2c_B5:;
+  if (w2c_i0) {goto w2c_B1;}
+  w2c_B7:;
+  w2c_j0 = 0ull;
+  w2c_l6 = w2c_j0;
+  w2c_j0 = 0ull;
+  w2c_l5 = w2c_j0;
+  w2c_j0 = 0ull;
+  w2c_l8 = w2c_j0;
   w2c_j0 = w2c_p1;
   w2c_i0 = (u32)(w2c_j0);
-  w2c_j0 = i64_load(memory, (u64)(w2c_i0));
+  w2c_j0 = step_i64_load(memory, (u64)(w2c_i0));
   w2c_j1 = 5423823929002190187ull;
   w2c_i0 = w2c_j0 != w2c_j1;
-  if (w2c_i0) {goto w2c_B4;}
-  w2c_i0 = 0u;
-  w2c_l11 = w2c_i0;
-  w2c_j0 = w2c_l4;
-  w2c_j1 = 496ull;
-  w2c_j0 += w2c_j1;
-  w2c_i0 = (u32)(w2c_j0);
-  w2c_i1 = 0u;
-  w2c_j2 = 240ull;
-  w2c_i2 = (u32)(w2c_j2);
-  memory_fill(memory, w2c_i0, w2c_i1, w2c_i2);
-  w2c_j0 = w2c_l4;
-  w2c_i0 = (u32)(w2c_j0);
-  w2c_i1 = 0u;
-  i32_store8(memory, (u64)(w2c_i0) + 494, w2c_i1);
-  w2c_j0 = w2c_l4;
-  w2c_i0 = (u32)(w2c_j0);
-  w2c_i1 = 0u;
-  i32_store16(memory, (u64)(w2c_i0) + 492, w2c_i1);
-  w2c_j0 = w2c_l4;
-  w2c_j1 = 736ull;
-  w2c_j0 += w2c_j1;
-  w2c_i0 = (u32)(w2c_j0);
-  w2c_i1 = 0u;
-  w2c_j2 = 240ull;
-  w2c_i2 = (u32)(w2c_j2);
-  memory_fill(memory, w2c_i0, w2c_i1, w2c_i2);
+  if (w2c_i0) {goto w2c_B1;}
   w2c_j0 = w2c_p2;
   w2c_j1 = 184ull;
-  w2c_i0 = w2c_j0 != w2c_j1;
-  if (w2c_i0) {goto w2c_B8;}
-  w2c_i0 = 10u;
-  w2c_l12 = w2c_i0;
-  goto w2c_B7;
-  w2c_B8:;
+  w2c_i0 = w2c_j0 == w2c_j1;
+  if (w2c_i0) {goto w2c_B9;}
   w2c_j0 = w2c_p2;
   w2c_j1 = 248ull;
   w2c_i0 = w2c_j0 == w2c_j1;
   if (w2c_i0) {goto w2c_B9;}
-  w2c_i0 = 0u;
-  w2c_l12 = w2c_i0;
+  w2c_j0 = 0ull;
+  w2c_l9 = w2c_j0;
+  w2c_j0 = 0ull;
+  w2c_l5 = w2c_j0;
+  w2c_j0 = 0ull;
+  w2c_l10 = w2c_j0;
   w2c_j0 = w2c_p2;
   w2c_j1 = 216ull;
   w2c_i0 = w2c_j0 != w2c_j1;
-  if (w2c_i0) {goto w2c_B6;}
-  w2c_i0 = 12u;
-  w2c_l12 = w2c_i0;
-  goto w2c_B7;
+  if (w2c_i0) {goto w2c_B8;}
   w2c_B9:;
-  w2c_i0 = 14u;
-  w2c_l12 = w2c_i0;
-  w2c_B7:;
-  w2c_i0 = w2c_l12;
-  w2c_j0 = (u64)(w2c_i0);
-  w2c_j1 = 4ull;
-  w2c_j0 <<= (w2c_j1 & 63);
-  w2c_l5 = w2c_j0;
-  w2c_j0 = 18446744073709551600ull;
-  w2c_l3 = w2c_j0;
-  w2c_L10: 
-    w2c_j0 = w2c_l4;
-    w2c_j1 = 736ull;
-    w2c_j0 += w2c_j1;
-    w2c_j1 = w2c_l3;
-    w2c_j0 += w2c_j1;
-    w2c_l6 = w2c_j0;
-    w2c_j1 = 16ull;
-    w2c_j0 += w2c_j1;
-    w2c_i0 = (u32)(w2c_j0);
-    w2c_j1 = w2c_p1;
-    w2c_j2 = w2c_l3;
-    w2c_j1 += w2c_j2;
-    w2c_l7 = w2c_j1;
-    w2c_j2 = 24ull;
-    w2c_j1 += w2c_j2;
-    w2c_i1 = (u32)(w2c_j1);
-    w2c_i1 = i32_load(memory, (u64)(w2c_i1));
-    w2c_l11 = w2c_i1;
-    w2c_i2 = 16711935u;
-    w2c_i1 &= w2c_i2;
-    w2c_i2 = 8u;
-    w2c_i1 = I32_ROTR(w2c_i1, w2c_i2);
-    w2c_i2 = w2c_l11;
-    w2c_i3 = 24u;
-    w2c_i2 = I32_ROTR(w2c_i2, w2c_i3);
-    w2c_i3 = 16711935u;
-    w2c_i2 &= w2c_i3;
-    w2c_i1 |= w2c_i2;
-    i32_store(memory, (u64)(w2c_i0), w2c_i1);
-    w2c_j0 = w2c_l6;
-    w2c_j1 = 20ull;
-    w2c_j0 += w2c_j1;
-    w2c_i0 = (u32)(w2c_j0);
-    w2c_j1 = w2c_l7;
-    w2c_j2 = 28ull;
-    w2c_j1 += w2c_j2;
-    w2c_i1 = (u32)(w2c_j1);
-    w2c_i1 = i32_load(memory, (u64)(w2c_i1));
-    w2c_l11 = w2c_i1;
-    w2c_i2 = 16711935u;
-    w2c_i1 &= w2c_i2;
-    w2c_i2 = 8u;
-    w2c_i1 = I32_ROTR(w2c_i1, w2c_i2);
-    w2c_i2 = w2c_l11;
-    w2c_i3 = 24u;
-    w2c_i2 = I32_ROTR(w2c_i2, w2c_i3);
-    w2c_i3 = 16711935u;
-    w2c_i2 &= w2c_i3;
-    w2c_i1 |= w2c_i2;
-    i32_store(memory, (u64)(w2c_i0), w2c_i1);
-    w2c_j0 = w2c_l6;
-    w2c_j1 = 24ull;
-    w2c_j0 += w2c_j1;
-    w2c_i0 = (u32)(w2c_j0);
-    w2c_j1 = w2c_l7;
-    w2c_j2 = 32ull;
-    w2c_j1 += w2c_j2;
-    w2c_i1 = (u32)(w2c_j1);
-    w2c_i1 = i32_load(memory, (u64)(w2c_i1));
-    w2c_l11 = w2c_i1;
-    w2c_i2 = 16711935u;
-    w2c_i1 &= w2c_i2;
-    w2c_i2 = 8u;
-    w2c_i1 = I32_ROTR(w2c_i1, w2c_i2);
-    w2c_i2 = w2c_l11;
-    w2c_i3 = 24u;
-    w2c_i2 = I32_ROTR(w2c_i2, w2c_i3);
-    w2c_i3 = 16711935u;
-    w2c_i2 &= w2c_i3;
-    w2c_i1 |= w2c_i2;
-    i32_store(memory, (u64)(w2c_i0), w2c_i1);
-    w2c_j0 = w2c_l6;
-    w2c_j1 = 28ull;
-    w2c_j0 += w2c_j1;
-    w2c_i0 = (u32)(w2c_j0);
-    w2c_j1 = w2c_l7;
-    w2c_j2 = 36ull;
-    w2c_j1 += w2c_j2;
-    w2c_i1 = (u32)(w2c_j1);
-    w2c_i1 = i32_load(memory, (u64)(w2c_i1));
-    w2c_l11 = w2c_i1;
-    w2c_i2 = 16711935u;
-    w2c_i1 &= w2c_i2;
-    w2c_i2 = 8u;
-    w2c_i1 = I32_ROTR(w2c_i1, w2c_i2);
-    w2c_i2 = w2c_l11;
-    w2c_i3 = 24u;
-    w2c_i2 = I32_ROTR(w2c_i2, w2c_i3);
-    w2c_i3 = 16711935u;
-    w2c_i2 &= w2c_i3;
-    w2c_i1 |= w2c_i2;
-    i32_store(memory, (u64)(w2c_i0), w2c_i1);
-    w2c_j0 = w2c_l5;
-    w2c_j1 = w2c_l3;
-    w2c_j2 = 16ull;
-    w2c_j1 += w2c_j2;
-    w2c_l3 = w2c_j1;
-    w2c_i0 = w2c_j0 != w2c_j1;
-    if (w2c_i0) {goto w2c_L10;}
-  w2c_j0 = w2c_l4;
-  w2c_j1 = 496ull;
-  w2c_j0 += w2c_j1;
-  w2c_i0 = (u32)(w2c_j0);
-  w2c_j1 = w2c_l4;
-  w2c_j2 = 736ull;
+  w2c_j0 = w2c_p3;
+  w2c_j1 = w2c_p1;
+  w2c_j2 = 8ull;
   w2c_j1 += w2c_j2;
-  w2c_i1 = (u32)(w2c_j1);
-  w2c_j2 = 240ull;
-  w2c_i2 = (u32)(w2c_j2);
-  memory_copy(memory, memory, w2c_i0, w2c_i1, w2c_i2);
-  w2c_j0 = w2c_l4;
-  w2c_i0 = (u32)(w2c_j0);
-  w2c_i1 = 0u;
-  i32_store8(memory, (u64)(w2c_i0) + 494, w2c_i1);
-  w2c_j0 = w2c_l4;
-  w2c_i0 = (u32)(w2c_j0);
-  w2c_i1 = 0u;
-  i32_store16(memory, (u64)(w2c_i0) + 492, w2c_i1);
-  w2c_i0 = 1u;
-  w2c_l11 = w2c_i0;
-  w2c_B6:;
-  w2c_j0 = w2c_p0;
-  w2c_i0 = (u32)(w2c_j0);
-  w2c_i1 = w2c_l11;
-  i32_store(memory, (u64)(w2c_i0), w2c_i1);
-  w2c_j0 = w2c_p0;
-  w2c_j1 = 4ull;
-  w2c_j0 += w2c_j1;
-  w2c_i0 = (u32)(w2c_j0);
-  w2c_j1 = w2c_l4;
-  w2c_j2 = 496ull;
+  w2c_l7 = w2c_j1;
+  w2c_j0 -= w2c_j1;
+  w2c_j1 = w2c_p2;
+  w2c_j2 = 18446744073709551608ull;
   w2c_j1 += w2c_j2;
-  w2c_i1 = (u32)(w2c_j1);
-  w2c_j2 = 240ull;
-  w2c_i2 = (u32)(w2c_j2);
-  memory_copy(memory, memory, w2c_i0, w2c_i1, w2c_i2);
-  w2c_j0 = w2c_p0;
-  w2c_j1 = 244ull;
-  w2c_j0 += w2c_j1;
-  w2c_i0 = (u32)(w2c_j0);
-  w2c_i1 = w2c_l12;
-  i32_store8(memory, (u64)(w2c_i0), w2c_i1);
-  w2c_j0 = w2c_p0;
-  w2c_j1 = 245ull;
-  w2c_j0 += w2c_j1;
-  w2c_i0 = (u32)(w2c_j0);
-  w2c_j1 = w2c_l4;
-  w2c_i1 = (u32)(w2c_j1);
-  w2c_i1 = i32_load16_u(memory, (u64)(w2c_i1) + 492u);
-  i32_store16(memory, (u64)(w2c_i0), w2c_i1);
-  w2c_j0 = w2c_p0;
-  w2c_j1 = 247ull;
-  w2c_j0 += w2c_j1;
-  w2c_i0 = (u32)(w2c_j0);
-  w2c_j1 = w2c_l4;
-  w2c_i1 = (u32)(w2c_j1);
-  w2c_i1 = i32_load8_u(memory, (u64)(w2c_i1) + 494u);
-  i32_store8(memory, (u64)(w2c_i0), w2c_i1);
-  goto w2c_B0;
-  w2c_B4:;
+  w2c_l10 = w2c_j1;
+  w2c_i0 = w2c_j0 >= w2c_j1;
+  if (w2c_i0) {goto w2c_B11;}
   w2c_j0 = w2c_p2;
-  w2c_j1 = 18446744073709551600ull;
-  w2c_j0 += w2c_j1;
-  w2c_l3 = w2c_j0;
-  w2c_j1 = 16ull;
-  w2c_i0 = w2c_j0 > w2c_j1;
-  if (w2c_i0) {goto w2c_B2;}
-  w2c_i0 = 10u;
-  w2c_l12 = w2c_i0;
-  w2c_j0 = w2c_l3;
-  w2c_i0 = (u32)(w2c_j0);
-  switch (w2c_i0) {
-    case 0: goto w2c_B11;
-    case 1: goto w2c_B2;
-    case 2: goto w2c_B2;
-    case 3: goto w2c_B2;
-    case 4: goto w2c_B2;
-    case 5: goto w2c_B2;
-    case 6: goto w2c_B2;
-    case 7: goto w2c_B2;
-    case 8: goto w2c_B13;
-    case 9: goto w2c_B2;
-    case 10: goto w2c_B2;
-    case 11: goto w2c_B2;
-    case 12: goto w2c_B2;
-    case 13: goto w2c_B2;
-    case 14: goto w2c_B2;
-    case 15: goto w2c_B2;
-    case 16: goto w2c_B12;
-    default: goto w2c_B11;
-  }
-  w2c_B13:;
-  w2c_i0 = 12u;
-  w2c_l12 = w2c_i0;
-  goto w2c_B11;
-  w2c_B12:;
-  w2c_i0 = 14u;
-  w2c_l12 = w2c_i0;
-  w2c_B11:;
-  w2c_j0 = w2c_l4;
-  w2c_j1 = 736ull;
-  w2c_j0 += w2c_j1;
-  w2c_i0 = (u32)(w2c_j0);
-  w2c_i1 = 0u;
-  w2c_j2 = 240ull;
-  w2c_i2 = (u32)(w2c_j2);
-  memory_fill(memory, w2c_i0, w2c_i1, w2c_i2);
-  w2c_j0 = w2c_p2;
-  w2c_j1 = 2ull;
-  w2c_j0 >>= (w2c_j1 & 63);
-  w2c_l7 = w2c_j0;
   w2c_j1 = 3ull;
   w2c_j0 &= w2c_j1;
   w2c_l8 = w2c_j0;
   w2c_j0 = 0ull;
-  w2c_l9 = w2c_j0;
-  w2c_j0 = w2c_l7;
-  w2c_j1 = 18446744073709551615ull;
+  w2c_l5 = w2c_j0;
+  w2c_j0 = w2c_p2;
+  w2c_j1 = 18446744073709551607ull;
   w2c_j0 += w2c_j1;
   w2c_j1 = 3ull;
   w2c_i0 = w2c_j0 < w2c_j1;
-  if (w2c_i0) {goto w2c_B15;}
-  w2c_j0 = w2c_l7;
-  w2c_j1 = 4611686018427387900ull;
+  if (w2c_i0) {goto w2c_B12;}
+  w2c_j0 = w2c_l10;
+  w2c_j1 = 18446744073709551612ull;
   w2c_j0 &= w2c_j1;
-  w2c_l10 = w2c_j0;
+  w2c_l11 = w2c_j0;
   w2c_j0 = 0ull;
-  w2c_l3 = w2c_j0;
-  w2c_j0 = 0ull;
-  w2c_l9 = w2c_j0;
-  w2c_L16: 
-    w2c_j0 = w2c_l4;
-    w2c_j1 = 736ull;
+  w2c_l5 = w2c_j0;
+  w2c_L13: 
+    w2c_j0 = w2c_p3;
+    w2c_j1 = w2c_l5;
     w2c_j0 += w2c_j1;
-    w2c_j1 = w2c_l3;
-    w2c_j0 += w2c_j1;
-    w2c_l6 = w2c_j0;
+    w2c_p2 = w2c_j0;
     w2c_i0 = (u32)(w2c_j0);
     w2c_j1 = w2c_p1;
-    w2c_j2 = w2c_l3;
+    w2c_j2 = w2c_l5;
     w2c_j1 += w2c_j2;
-    w2c_l5 = w2c_j1;
-    w2c_i1 = (u32)(w2c_j1);
-    w2c_i1 = i32_load(memory, (u64)(w2c_i1));
-    w2c_l11 = w2c_i1;
-    w2c_i2 = 16711935u;
-    w2c_i1 &= w2c_i2;
-    w2c_i2 = 8u;
-    w2c_i1 = I32_ROTR(w2c_i1, w2c_i2);
-    w2c_i2 = w2c_l11;
-    w2c_i3 = 24u;
-    w2c_i2 = I32_ROTR(w2c_i2, w2c_i3);
-    w2c_i3 = 16711935u;
-    w2c_i2 &= w2c_i3;
-    w2c_i1 |= w2c_i2;
-    i32_store(memory, (u64)(w2c_i0), w2c_i1);
-    w2c_j0 = w2c_l6;
-    w2c_j1 = 4ull;
-    w2c_j0 += w2c_j1;
-    w2c_i0 = (u32)(w2c_j0);
-    w2c_j1 = w2c_l5;
-    w2c_j2 = 4ull;
-    w2c_j1 += w2c_j2;
-    w2c_i1 = (u32)(w2c_j1);
-    w2c_i1 = i32_load(memory, (u64)(w2c_i1));
-    w2c_l11 = w2c_i1;
-    w2c_i2 = 16711935u;
-    w2c_i1 &= w2c_i2;
-    w2c_i2 = 8u;
-    w2c_i1 = I32_ROTR(w2c_i1, w2c_i2);
-    w2c_i2 = w2c_l11;
-    w2c_i3 = 24u;
-    w2c_i2 = I32_ROTR(w2c_i2, w2c_i3);
-    w2c_i3 = 16711935u;
-    w2c_i2 &= w2c_i3;
-    w2c_i1 |= w2c_i2;
-    i32_store(memory, (u64)(w2c_i0), w2c_i1);
-    w2c_j0 = w2c_l6;
-    w2c_j1 = 8ull;
-    w2c_j0 += w2c_j1;
-    w2c_i0 = (u32)(w2c_j0);
-    w2c_j1 = w2c_l5;
+    w2c_l6 = w2c_j1;
     w2c_j2 = 8ull;
     w2c_j1 += w2c_j2;
     w2c_i1 = (u32)(w2c_j1);
-    w2c_i1 = i32_load(memory, (u64)(w2c_i1));
-    w2c_l11 = w2c_i1;
-    w2c_i2 = 16711935u;
-    w2c_i1 &= w2c_i2;
-    w2c_i2 = 8u;
-    w2c_i1 = I32_ROTR(w2c_i1, w2c_i2);
-    w2c_i2 = w2c_l11;
-    w2c_i3 = 24u;
-    w2c_i2 = I32_ROTR(w2c_i2, w2c_i3);
-    w2c_i3 = 16711935u;
-    w2c_i2 &= w2c_i3;
-    w2c_i1 |= w2c_i2;
-    i32_store(memory, (u64)(w2c_i0), w2c_i1);
-    w2c_j0 = w2c_l6;
-    w2c_j1 = 12ull;
+    w2c_i1 = i32_load8_u(memory, (u64)(w2c_i1));
+    i32_store8(memory, (u64)(w2c_i0), w2c_i1);
+    w2c_j0 = 1ull;
+    w2c_l9 = w2c_j0;
+    w2c_j0 = w2c_p2;
+    w2c_j1 = 1ull;
     w2c_j0 += w2c_j1;
     w2c_i0 = (u32)(w2c_j0);
-    w2c_j1 = w2c_l5;
-    w2c_j2 = 12ull;
+    w2c_j1 = w2c_l6;
+    w2c_j2 = 9ull;
     w2c_j1 += w2c_j2;
     w2c_i1 = (u32)(w2c_j1);
-    w2c_i1 = i32_load(memory, (u64)(w2c_i1));
-    w2c_l11 = w2c_i1;
-    w2c_i2 = 16711935u;
-    w2c_i1 &= w2c_i2;
-    w2c_i2 = 8u;
-    w2c_i1 = I32_ROTR(w2c_i1, w2c_i2);
-    w2c_i2 = w2c_l11;
-    w2c_i3 = 24u;
-    w2c_i2 = I32_ROTR(w2c_i2, w2c_i3);
-    w2c_i3 = 16711935u;
-    w2c_i2 &= w2c_i3;
-    w2c_i1 |= w2c_i2;
-    i32_store(memory, (u64)(w2c_i0), w2c_i1);
-    w2c_j0 = w2c_l3;
-    w2c_j1 = 16ull;
+    w2c_i1 = i32_load8_u(memory, (u64)(w2c_i1));
+    i32_store8(memory, (u64)(w2c_i0), w2c_i1);
+    w2c_j0 = w2c_p2;
+    w2c_j1 = 2ull;
     w2c_j0 += w2c_j1;
-    w2c_l3 = w2c_j0;
-    w2c_j0 = w2c_l10;
-    w2c_j1 = w2c_l9;
+    w2c_i0 = (u32)(w2c_j0);
+    w2c_j1 = w2c_l6;
+    w2c_j2 = 10ull;
+    w2c_j1 += w2c_j2;
+    w2c_i1 = (u32)(w2c_j1);
+    w2c_i1 = i32_load8_u(memory, (u64)(w2c_i1));
+    i32_store8(memory, (u64)(w2c_i0), w2c_i1);
+    w2c_j0 = w2c_p2;
+    w2c_j1 = 3ull;
+    w2c_j0 += w2c_j1;
+    w2c_i0 = (u32)(w2c_j0);
+    w2c_j1 = w2c_l6;
+    w2c_j2 = 11ull;
+    w2c_j1 += w2c_j2;
+    w2c_i1 = (u32)(w2c_j1);
+    w2c_i1 = i32_load8_u(memory, (u64)(w2c_i1));
+    i32_store8(memory, (u64)(w2c_i0), w2c_i1);
+    w2c_j0 = w2c_l11;
+    w2c_j1 = w2c_l5;
     w2c_j2 = 4ull;
     w2c_j1 += w2c_j2;
-    w2c_l9 = w2c_j1;
+    w2c_l5 = w2c_j1;
     w2c_i0 = w2c_j0 != w2c_j1;
-    if (w2c_i0) {goto w2c_L16;}
+    if (w2c_i0) {goto w2c_L13;}
   w2c_j0 = w2c_l8;
   w2c_i0 = !(w2c_j0);
-  if (w2c_i0) {goto w2c_B14;}
-  w2c_B15:;
-  w2c_j0 = w2c_p1;
-  w2c_j1 = w2c_l9;
-  w2c_j2 = 2ull;
-  w2c_j1 <<= (w2c_j2 & 63);
-  w2c_l6 = w2c_j1;
-  w2c_j0 += w2c_j1;
-  w2c_l3 = w2c_j0;
-  w2c_j0 = w2c_l4;
-  w2c_j1 = 736ull;
-  w2c_j0 += w2c_j1;
-  w2c_j1 = w2c_l6;
-  w2c_j0 += w2c_j1;
-  w2c_l6 = w2c_j0;
-  w2c_L17: 
-    w2c_j0 = w2c_l6;
+  if (w2c_i0) {goto w2c_B10;}
+  w2c_B12:;
+  w2c_L14: 
+    w2c_j0 = w2c_p3;
+    w2c_j1 = w2c_l5;
+    w2c_j0 += w2c_j1;
     w2c_i0 = (u32)(w2c_j0);
-    w2c_j1 = w2c_l3;
+    w2c_j1 = w2c_l7;
+    w2c_j2 = w2c_l5;
+    w2c_j1 += w2c_j2;
     w2c_i1 = (u32)(w2c_j1);
-    w2c_i1 = i32_load(memory, (u64)(w2c_i1));
-    w2c_l11 = w2c_i1;
-    w2c_i2 = 16711935u;
-    w2c_i1 &= w2c_i2;
-    w2c_i2 = 8u;
-    w2c_i1 = I32_ROTR(w2c_i1, w2c_i2);
-    w2c_i2 = w2c_l11;
-    w2c_i3 = 24u;
-    w2c_i2 = I32_ROTR(w2c_i2, w2c_i3);
-    w2c_i3 = 16711935u;
-    w2c_i2 &= w2c_i3;
-    w2c_i1 |= w2c_i2;
-    i32_store(memory, (u64)(w2c_i0), w2c_i1);
-    w2c_j0 = w2c_l3;
-    w2c_j1 = 4ull;
+    w2c_i1 = i32_load8_u(memory, (u64)(w2c_i1));
+    i32_store8(memory, (u64)(w2c_i0), w2c_i1);
+    w2c_j0 = 1ull;
+    w2c_l9 = w2c_j0;
+    w2c_j0 = w2c_l5;
+    w2c_j1 = 1ull;
     w2c_j0 += w2c_j1;
-    w2c_l3 = w2c_j0;
-    w2c_j0 = w2c_l6;
-    w2c_j1 = 4ull;
-    w2c_j0 += w2c_j1;
-    w2c_l6 = w2c_j0;
+    w2c_l5 = w2c_j0;
     w2c_j0 = w2c_l8;
     w2c_j1 = 18446744073709551615ull;
     w2c_j0 += w2c_j1;
     w2c_l8 = w2c_j0;
     w2c_j1 = 0ull;
     w2c_i0 = w2c_j0 != w2c_j1;
-    if (w2c_i0) {goto w2c_L17;}
-  w2c_B14:;
-  w2c_j0 = w2c_l7;
-  w2c_j1 = 2ull;
-  w2c_j0 <<= (w2c_j1 & 63);
-  w2c_l8 = w2c_j0;
-  w2c_j0 = w2c_p2;
-  w2c_j1 = 28ull;
-  w2c_j0 += w2c_j1;
-  w2c_p1 = w2c_j0;
-  w2c_j0 = w2c_l4;
-  w2c_j1 = 736ull;
-  w2c_j0 += w2c_j1;
-  w2c_j1 = w2c_p2;
-  w2c_j2 = 18446744073709551612ull;
-  w2c_j1 &= w2c_j2;
-  w2c_j0 += w2c_j1;
-  w2c_j1 = 18446744073709551612ull;
-  w2c_j0 += w2c_j1;
-  w2c_i0 = (u32)(w2c_j0);
-  w2c_i0 = i32_load(memory, (u64)(w2c_i0));
-  w2c_l11 = w2c_i0;
-  w2c_j0 = w2c_l4;
-  w2c_j1 = 736ull;
-  w2c_j0 += w2c_j1;
-  w2c_l6 = w2c_j0;
-  w2c_j0 = w2c_l7;
-  w2c_l3 = w2c_j0;
-  w2c_L18: 
-    w2c_j0 = w2c_l3;
-    w2c_j1 = w2c_l3;
-    w2c_j2 = w2c_l7;
-    w2c_j1 = DIV_U(w2c_j1, w2c_j2);
-    w2c_l5 = w2c_j1;
-    w2c_j2 = w2c_l7;
-    w2c_j1 *= w2c_j2;
-    w2c_j0 -= w2c_j1;
-    w2c_j1 = 0ull;
-    w2c_i0 = w2c_j0 != w2c_j1;
-    if (w2c_i0) {goto w2c_B20;}
-    w2c_i0 = w2c_l11;
-    w2c_i1 = 8u;
-    w2c_i0 = I32_ROTL(w2c_i0, w2c_i1);
-    w2c_l11 = w2c_i0;
-    w2c_i1 = 16u;
-    w2c_i0 >>= (w2c_i1 & 31);
-    w2c_j0 = (u64)(w2c_i0);
-    w2c_j1 = 255ull;
-    w2c_j0 &= w2c_j1;
-    w2c_j1 = 65576ull;
-    w2c_j0 += w2c_j1;
-    w2c_i0 = (u32)(w2c_j0);
-    w2c_i0 = constant_i32_load8_u((u64)(w2c_i0));
-    w2c_i1 = 8u;
-    w2c_i0 <<= (w2c_i1 & 31);
-    w2c_i1 = w2c_l11;
-    w2c_j1 = (u64)(w2c_i1);
-    w2c_l9 = w2c_j1;
-    w2c_j2 = 24ull;
-    w2c_j1 >>= (w2c_j2 & 63);
-    w2c_i1 = (u32)(w2c_j1);
-    w2c_i1 = constant_i32_load8_u((u64)(w2c_i1) + 65576u);
-    w2c_i0 |= w2c_i1;
-    w2c_i1 = w2c_l11;
-    w2c_i2 = 8u;
-    w2c_i1 >>= (w2c_i2 & 31);
-    w2c_j1 = (u64)(w2c_i1);
-    w2c_j2 = 255ull;
-    w2c_j1 &= w2c_j2;
-    w2c_j2 = 65576ull;
-    w2c_j1 += w2c_j2;
-    w2c_i1 = (u32)(w2c_j1);
-    w2c_i1 = constant_i32_load8_u((u64)(w2c_i1));
-    w2c_i2 = 16u;
-    w2c_i1 <<= (w2c_i2 & 31);
-    w2c_i0 |= w2c_i1;
-    w2c_j1 = w2c_l9;
-    w2c_j2 = 255ull;
-    w2c_j1 &= w2c_j2;
-    w2c_i1 = (u32)(w2c_j1);
-    w2c_i1 = constant_i32_load8_u((u64)(w2c_i1) + 65576u);
-    w2c_i2 = 24u;
-    w2c_i1 <<= (w2c_i2 & 31);
-    w2c_i0 |= w2c_i1;
-    w2c_l11 = w2c_i0;
-    w2c_i1 = 16711935u;
-    w2c_i0 &= w2c_i1;
-    w2c_i1 = 8u;
-    w2c_i0 = I32_ROTR(w2c_i0, w2c_i1);
-    w2c_i1 = w2c_l11;
-    w2c_i2 = 24u;
-    w2c_i1 = I32_ROTR(w2c_i1, w2c_i2);
-    w2c_i2 = 16711935u;
-    w2c_i1 &= w2c_i2;
-    w2c_i0 |= w2c_i1;
-    w2c_j1 = w2c_l5;
-    w2c_j2 = 2ull;
-    w2c_j1 <<= (w2c_j2 & 63);
-    w2c_j2 = 65532ull;
-    w2c_j1 += w2c_j2;
-    w2c_i1 = (u32)(w2c_j1);
-    w2c_i1 = i32_load(memory, (u64)(w2c_i1));
-    w2c_i0 ^= w2c_i1;
-    w2c_l11 = w2c_i0;
-    goto w2c_B19;
-    w2c_B20:;
-    w2c_j0 = w2c_l7;
-    w2c_j1 = 8ull;
-    w2c_i0 = w2c_j0 != w2c_j1;
-    if (w2c_i0) {goto w2c_B19;}
-    w2c_j0 = w2c_l3;
-    w2c_j1 = 7ull;
-    w2c_j0 &= w2c_j1;
-    w2c_j1 = 4ull;
-    w2c_i0 = w2c_j0 != w2c_j1;
-    if (w2c_i0) {goto w2c_B19;}
-    w2c_i0 = w2c_l11;
-    w2c_i1 = 16u;
-    w2c_i0 >>= (w2c_i1 & 31);
-    w2c_j0 = (u64)(w2c_i0);
-    w2c_j1 = 255ull;
-    w2c_j0 &= w2c_j1;
-    w2c_j1 = 65576ull;
-    w2c_j0 += w2c_j1;
-    w2c_i0 = (u32)(w2c_j0);
-    w2c_i0 = constant_i32_load8_u((u64)(w2c_i0));
-    w2c_i1 = 8u;
-    w2c_i0 <<= (w2c_i1 & 31);
-    w2c_i1 = w2c_l11;
-    w2c_j1 = (u64)(w2c_i1);
-    w2c_l5 = w2c_j1;
-    w2c_j2 = 24ull;
-    w2c_j1 >>= (w2c_j2 & 63);
-    w2c_i1 = (u32)(w2c_j1);
-    w2c_i1 = constant_i32_load8_u((u64)(w2c_i1) + 65576u);
-    w2c_i0 |= w2c_i1;
-    w2c_i1 = w2c_l11;
-    w2c_i2 = 8u;
-    w2c_i1 >>= (w2c_i2 & 31);
-    w2c_j1 = (u64)(w2c_i1);
-    w2c_j2 = 255ull;
-    w2c_j1 &= w2c_j2;
-    w2c_j2 = 65576ull;
-    w2c_j1 += w2c_j2;
-    w2c_i1 = (u32)(w2c_j1);
-    w2c_i1 = constant_i32_load8_u((u64)(w2c_i1));
-    w2c_i2 = 16u;
-    w2c_i1 <<= (w2c_i2 & 31);
-    w2c_i0 |= w2c_i1;
-    w2c_j1 = w2c_l5;
-    w2c_j2 = 255ull;
-    w2c_j1 &= w2c_j2;
-    w2c_i1 = (u32)(w2c_j1);
-    w2c_i1 = constant_i32_load8_u((u64)(w2c_i1) + 65576u);
-    w2c_i2 = 24u;
-    w2c_i1 <<= (w2c_i2 & 31);
-    w2c_i0 |= w2c_i1;
-    w2c_l11 = w2c_i0;
-    w2c_i1 = 16711935u;
-    w2c_i0 &= w2c_i1;
-    w2c_i1 = 8u;
-    w2c_i0 = I32_ROTR(w2c_i0, w2c_i1);
-    w2c_i1 = w2c_l11;
-    w2c_i2 = 24u;
-    w2c_i1 = I32_ROTR(w2c_i1, w2c_i2);
-    w2c_i2 = 16711935u;
-    w2c_i1 &= w2c_i2;
-    w2c_i0 |= w2c_i1;
-    w2c_l11 = w2c_i0;
-    w2c_B19:;
-    w2c_j0 = w2c_l6;
-    w2c_j1 = w2c_l8;
-    w2c_j0 += w2c_j1;
-    w2c_i0 = (u32)(w2c_j0);
-    w2c_i1 = w2c_l11;
-    w2c_j2 = w2c_l6;
-    w2c_i2 = (u32)(w2c_j2);
-    w2c_i2 = i32_load(memory, (u64)(w2c_i2));
-    w2c_i1 ^= w2c_i2;
-    w2c_l11 = w2c_i1;
-    i32_store(memory, (u64)(w2c_i0), w2c_i1);
-    w2c_j0 = w2c_l6;
-    w2c_j1 = 4ull;
-    w2c_j0 += w2c_j1;
-    w2c_l6 = w2c_j0;
-    w2c_j0 = w2c_p1;
-    w2c_j1 = w2c_l3;
-    w2c_j2 = 1ull;
-    w2c_j1 += w2c_j2;
-    w2c_l3 = w2c_j1;
-    w2c_i0 = w2c_j0 != w2c_j1;
-    if (w2c_i0) {goto w2c_L18;}
-  w2c_j0 = w2c_l4;
-  w2c_j1 = 252ull;
-  w2c_j0 += w2c_j1;
-  w2c_i0 = (u32)(w2c_j0);
-  w2c_j1 = w2c_l4;
-  w2c_j2 = 736ull;
-  w2c_j1 += w2c_j2;
-  w2c_i1 = (u32)(w2c_j1);
-  w2c_j2 = 240ull;
-  w2c_i2 = (u32)(w2c_j2);
-  memory_copy(memory, memory, w2c_i0, w2c_i1, w2c_i2);
-  w2c_j0 = w2c_l4;
-  w2c_j1 = 12ull;
-  w2c_j0 += w2c_j1;
-  w2c_i0 = (u32)(w2c_j0);
-  w2c_j1 = w2c_l4;
-  w2c_j2 = 252ull;
-  w2c_j1 += w2c_j2;
-  w2c_i1 = (u32)(w2c_j1);
-  w2c_j2 = 240ull;
-  w2c_i2 = (u32)(w2c_j2);
-  memory_copy(memory, memory, w2c_i0, w2c_i1, w2c_i2);
-  w2c_j0 = w2c_l4;
-  w2c_i0 = (u32)(w2c_j0);
-  w2c_i1 = 0u;
-  i32_store8(memory, (u64)(w2c_i0) + 10, w2c_i1);
-  w2c_j0 = w2c_l4;
-  w2c_i0 = (u32)(w2c_j0);
-  w2c_i1 = 0u;
-  i32_store16(memory, (u64)(w2c_i0) + 8, w2c_i1);
-  w2c_i0 = 1u;
-  w2c_l11 = w2c_i0;
-  goto w2c_B1;
-  w2c_B3:;
+    if (w2c_i0) {goto w2c_L14;}
+    goto w2c_B10;
   UNREACHABLE;
+  w2c_B11:;
+  w2c_j0 = w2c_l10;
+  w2c_i0 = !(w2c_j0);
+  if (w2c_i0) {goto w2c_B15;}
+  w2c_j0 = w2c_p3;
+  w2c_i0 = (u32)(w2c_j0);
+  w2c_j1 = w2c_l7;
+  w2c_i1 = (u32)(w2c_j1);
+  w2c_j2 = w2c_l10;
+  w2c_i2 = (u32)(w2c_j2);
+  memory_copy(memory, memory, w2c_i0, w2c_i1, w2c_i2);
+  w2c_B15:;
+  w2c_j0 = 1ull;
+  w2c_l9 = w2c_j0;
+  w2c_B10:;
+  w2c_j0 = w2c_p3;
+  w2c_l5 = w2c_j0;
+  w2c_B8:;
+  w2c_j0 = w2c_p0;
+  w2c_i0 = (u32)(w2c_j0);
+  w2c_j1 = w2c_l9;
+  step_i64_store(memory, (u64)(w2c_i0), w2c_j1);
+  w2c_j0 = w2c_p0;
+  w2c_j1 = 16ull;
+  w2c_j0 += w2c_j1;
+  w2c_i0 = (u32)(w2c_j0);
+  w2c_j1 = w2c_l10;
+  step_i64_store(memory, (u64)(w2c_i0), w2c_j1);
+  w2c_j0 = w2c_p0;
+  w2c_j1 = 8ull;
+  w2c_j0 += w2c_j1;
+  w2c_i0 = (u32)(w2c_j0);
+  w2c_j1 = w2c_l5;
+  step_i64_store(memory, (u64)(w2c_i0), w2c_j1);
+  w2c_j0 = w2c_l4;
+  instance->w2c_g0 = w2c_j0;
+  goto w2c_Bfunc;
+  w2c_B4:;
+  w2c_j0 = 208ull;
+  w2c_l9 = w2c_j0;
+  goto w2c_B2;
+  w2c_B3:;
+  w2c_j0 = 240ull;
+  w2c_l9 = w2c_j0;
   w2c_B2:;
-  w2c_i0 = 0u;
-  w2c_l12 = w2c_i0;
-  w2c_i0 = 0u;
-  w2c_l11 = w2c_i0;
+  w2c_j0 = w2c_p1;
+  w2c_j1 = w2c_p2;
+  w2c_j2 = w2c_p3;
+  w2c_j3 = w2c_l9;
+  leaf_expand(memory, w2c_j0, w2c_j1, w2c_j2, w2c_j3);
+  w2c_j0 = 1ull;
+  w2c_l8 = w2c_j0;
+  w2c_j0 = w2c_p3;
+  w2c_l6 = w2c_j0;
+  w2c_j0 = w2c_l9;
+  w2c_l5 = w2c_j0;
   w2c_B1:;
   w2c_j0 = w2c_p0;
   w2c_i0 = (u32)(w2c_j0);
-  w2c_i1 = w2c_l11;
-  i32_store(memory, (u64)(w2c_i0), w2c_i1);
+  w2c_j1 = w2c_l8;
+  step_i64_store(memory, (u64)(w2c_i0), w2c_j1);
   w2c_j0 = w2c_p0;
-  w2c_j1 = 4ull;
+  w2c_j1 = 16ull;
   w2c_j0 += w2c_j1;
   w2c_i0 = (u32)(w2c_j0);
-  w2c_j1 = w2c_l4;
-  w2c_j2 = 12ull;
-  w2c_j1 += w2c_j2;
-  w2c_i1 = (u32)(w2c_j1);
-  w2c_j2 = 240ull;
-  w2c_i2 = (u32)(w2c_j2);
-  memory_copy(memory, memory, w2c_i0, w2c_i1, w2c_i2);
+  w2c_j1 = w2c_l5;
+  step_i64_store(memory, (u64)(w2c_i0), w2c_j1);
   w2c_j0 = w2c_p0;
-  w2c_j1 = 244ull;
+  w2c_j1 = 8ull;
   w2c_j0 += w2c_j1;
   w2c_i0 = (u32)(w2c_j0);
-  w2c_i1 = w2c_l12;
-  i32_store8(memory, (u64)(w2c_i0), w2c_i1);
-  w2c_j0 = w2c_p0;
-  w2c_j1 = 245ull;
-  w2c_j0 += w2c_j1;
-  w2c_i0 = (u32)(w2c_j0);
-  w2c_j1 = w2c_l4;
-  w2c_i1 = (u32)(w2c_j1);
-  w2c_i1 = i32_load16_u(memory, (u64)(w2c_i1) + 8u);
-  i32_store16(memory, (u64)(w2c_i0), w2c_i1);
-  w2c_j0 = w2c_p0;
-  w2c_j1 = 247ull;
-  w2c_j0 += w2c_j1;
-  w2c_i0 = (u32)(w2c_j0);
-  w2c_j1 = w2c_l4;
-  w2c_i1 = (u32)(w2c_j1);
-  w2c_i1 = i32_load8_u(memory, (u64)(w2c_i1) + 10u);
-  i32_store8(memory, (u64)(w2c_i0), w2c_i1);
-  w2c_B0:;
+  w2c_j1 = w2c_l6;
+  step_i64_store(memory, (u64)(w2c_i0), w2c_j1);
   w2c_j0 = w2c_l4;
-  w2c_j1 = 976ull;
-  w2c_j0 += w2c_j1;
   instance->w2c_g0 = w2c_j0;
+  goto w2c_Bfunc;
+  w2c_B0:;
+  UNREACHABLE;
+  w2c_Bfunc:;
 }
-static void w2c_f5(struct instance *instance, u64 w2c_p0, u64 w2c_p1, u64 w2c_p2, u64 w2c_p3, u64 w2c_p4, u64 w2c_p5, u64 w2c_p6) {
+static void w2c_f11(struct instance *instance, u64 w2c_p0, u64 w2c_p1, u64 w2c_p2, u64 w2c_p3, u64 w2c_p4, u64 w2c_p5, u64 w2c_p6) {
   u32 w2c_l12 = 0, w2c_l13 = 0, w2c_l14 = 0;
   u64 w2c_l7 = 0, w2c_l8 = 0, w2c_l9 = 0, w2c_l10 = 0, w2c_l11 = 0;
   const struct memory memory = instance->w2c_memory;
@@ -1692,13 +1918,13 @@ static void w2c_f5(struct instance *instance, u64 w2c_p0, u64 w2c_p1, u64 w2c_p2
   w2c_j0 += w2c_j1;
   w2c_i0 = (u32)(w2c_j0);
   w2c_j1 = 0ull;
-  i64_store(memory, (u64)(w2c_i0), w2c_j1);
+  step_i64_store(memory, (u64)(w2c_i0), w2c_j1);
   w2c_j0 = w2c_p0;
   w2c_j1 = 16ull;
   w2c_j0 += w2c_j1;
   w2c_i0 = (u32)(w2c_j0);
   w2c_j1 = 0ull;
-  i64_store(memory, (u64)(w2c_i0), w2c_j1);
+  step_i64_store(memory, (u64)(w2c_i0), w2c_j1);
   goto w2c_B0;
   w2c_B2:;
   w2c_j0 = w2c_p5;
@@ -1838,11 +2064,11 @@ static void w2c_f5(struct instance *instance, u64 w2c_p0, u64 w2c_p1, u64 w2c_p2
   w2c_i1 = w2c_j1 == w2c_j2;
   w2c_j2 = w2c_p2;
   w2c_i2 = (u32)(w2c_j2);
-  w2c_j2 = i64_load(memory, (u64)(w2c_i2));
+  w2c_j2 = step_i64_load(memory, (u64)(w2c_i2));
   w2c_j3 = w2c_p1;
   w2c_j4 = w2c_p3;
   w2c_i4 = (u32)(w2c_j4);
-  w2c_j4 = i64_load(memory, (u64)(w2c_i4));
+  w2c_j4 = step_i64_load(memory, (u64)(w2c_i4));
   w2c_p4 = w2c_j4;
   w2c_j5 = 56ull;
   w2c_j4 <<= (w2c_j5 & 63);
@@ -1888,7 +2114,7 @@ static void w2c_f5(struct instance *instance, u64 w2c_p0, u64 w2c_p1, u64 w2c_p2
   w2c_j4 |= w2c_j5;
   w2c_j5 = w2c_p5;
   w2c_j6 = w2c_p6;
-  w2c_j3 = w2c_f6(instance, w2c_j3, w2c_j4, w2c_j5, w2c_j6);
+  w2c_j3 = w2c_f12(instance, w2c_j3, w2c_j4, w2c_j5, w2c_j6);
   w2c_p4 = w2c_j3;
   w2c_i2 = w2c_j2 != w2c_j3;
   w2c_i1 |= w2c_i2;
@@ -1913,7 +2139,7 @@ static void w2c_f5(struct instance *instance, u64 w2c_p0, u64 w2c_p1, u64 w2c_p2
   w2c_j4 = 18446744073709551608ull;
   w2c_j3 += w2c_j4;
   w2c_i3 = (u32)(w2c_j3);
-  w2c_j3 = i64_load(memory, (u64)(w2c_i3));
+  w2c_j3 = step_i64_load(memory, (u64)(w2c_i3));
   w2c_p4 = w2c_j3;
   w2c_j4 = 56ull;
   w2c_j3 <<= (w2c_j4 & 63);
@@ -1973,7 +2199,7 @@ static void w2c_f5(struct instance *instance, u64 w2c_p0, u64 w2c_p1, u64 w2c_p2
   w2c_j1 = (u64)(w2c_i1);
   w2c_j2 = w2c_p5;
   w2c_j3 = w2c_p6;
-  w2c_f3(instance, w2c_j0, w2c_j1, w2c_j2, w2c_j3);
+  w2c_f13(instance, w2c_j0, w2c_j1, w2c_j2, w2c_j3);
   w2c_j0 = w2c_l8;
   w2c_i0 = (u32)(w2c_j0);
   w2c_i0 = i32_load8_u(memory, (u64)(w2c_i0) + 8u);
@@ -1984,7 +2210,7 @@ static void w2c_f5(struct instance *instance, u64 w2c_p0, u64 w2c_p1, u64 w2c_p2
   w2c_j3 = 31ull;
   w2c_j2 += w2c_j3;
   w2c_j3 = 0ull;
-  w2c_f3(instance, w2c_j0, w2c_j1, w2c_j2, w2c_j3);
+  w2c_f13(instance, w2c_j0, w2c_j1, w2c_j2, w2c_j3);
   w2c_i0 = 0u;
   w2c_l12 = w2c_i0;
   w2c_j0 = w2c_l8;
@@ -2076,7 +2302,7 @@ static void w2c_f5(struct instance *instance, u64 w2c_p0, u64 w2c_p1, u64 w2c_p2
   w2c_j0 += w2c_j1;
   w2c_i0 = (u32)(w2c_j0);
   w2c_j1 = w2c_l7;
-  i64_store(memory, (u64)(w2c_i0), w2c_j1);
+  step_i64_store(memory, (u64)(w2c_i0), w2c_j1);
   goto w2c_B0;
   w2c_B1:;
   UNREACHABLE;
@@ -2086,14 +2312,20 @@ static void w2c_f5(struct instance *instance, u64 w2c_p0, u64 w2c_p1, u64 w2c_p2
   w2c_j0 += w2c_j1;
   instance->w2c_g0 = w2c_j0;
 }
-static u64 w2c_f6(struct instance *instance, u64 w2c_p0, u64 w2c_p1, u64 w2c_p2, u64 w2c_p3) {
-  u32 w2c_l11 = 0, w2c_l12 = 0, w2c_l13 = 0, w2c_l14 = 0, w2c_l15 = 0, w2c_l16 = 0;
-  u64 w2c_l4 = 0, w2c_l5 = 0, w2c_l6 = 0, w2c_l7 = 0, w2c_l8 = 0, w2c_l9 = 0, w2c_l10 = 0;
+static u64 w2c_f12(struct instance *instance, u64 w2c_p0, u64 w2c_p1, u64 w2c_p2, u64 w2c_p3) {
+  u32 w2c_l8 = 0;
+  u64 w2c_l4 = 0, w2c_l5 = 0, w2c_l6 = 0, w2c_l7 = 0;
   const struct memory memory = instance->w2c_memory;
   (void)memory;
-  u32 w2c_i0, w2c_i1, w2c_i2, w2c_i3, w2c_i4;
+  u32 w2c_i0, w2c_i1, w2c_i2, w2c_i3;
   u64 w2c_j0, w2c_j1, w2c_j2, w2c_j3, w2c_j4, w2c_j5;
   w2c_j0 = instance->w2c_g0;
+  w2c_j1 = 16ull;
+  w2c_j0 -= w2c_j1;
+  w2c_l4 = w2c_j0;
+  instance->w2c_g0 = w2c_j0;
+  w2c_j0 = w2c_l4;
+  w2c_l5 = w2c_j0;
   w2c_j1 = 16ull;
   w2c_i0 = (u64)((s64)w2c_j0 < (s64)w2c_j1);
   if (w2c_i0) {goto w2c_B0;}
@@ -2101,25 +2333,334 @@ static u64 w2c_f6(struct instance *instance, u64 w2c_p0, u64 w2c_p1, u64 w2c_p2,
   w2c_j1 = w2c_p3;
   w2c_j2 = 3ull;
   w2c_j1 >>= (w2c_j2 & 63);
-  w2c_l4 = w2c_j1;
+  w2c_l6 = w2c_j1;
   w2c_j2 = 6ull;
   w2c_j1 *= w2c_j2;
-  w2c_l5 = w2c_j1;
+  w2c_l7 = w2c_j1;
   w2c_j2 = w2c_p3;
   w2c_j3 = 8ull;
   w2c_i2 = w2c_j2 == w2c_j3;
-  w2c_l11 = w2c_i2;
+  w2c_l8 = w2c_i2;
   w2c_j0 = w2c_i2 ? w2c_j0 : w2c_j1;
   w2c_j1 = w2c_p1;
   w2c_j0 ^= w2c_j1;
+  w2c_l4 = w2c_j0;
+  w2c_j1 = 56ull;
+  w2c_j0 <<= (w2c_j1 & 63);
+  w2c_j1 = w2c_l4;
+  w2c_j2 = 65280ull;
+  w2c_j1 &= w2c_j2;
+  w2c_j2 = 40ull;
+  w2c_j1 <<= (w2c_j2 & 63);
+  w2c_j0 |= w2c_j1;
+  w2c_j1 = w2c_l4;
+  w2c_j2 = 16711680ull;
+  w2c_j1 &= w2c_j2;
+  w2c_j2 = 24ull;
+  w2c_j1 <<= (w2c_j2 & 63);
+  w2c_j2 = w2c_l4;
+  w2c_j3 = 4278190080ull;
+  w2c_j2 &= w2c_j3;
+  w2c_j3 = 8ull;
+  w2c_j2 <<= (w2c_j3 & 63);
+  w2c_j1 |= w2c_j2;
+  w2c_j0 |= w2c_j1;
+  w2c_j1 = w2c_l4;
+  w2c_j2 = 8ull;
+  w2c_j1 >>= (w2c_j2 & 63);
+  w2c_j2 = 4278190080ull;
+  w2c_j1 &= w2c_j2;
+  w2c_j2 = w2c_l4;
+  w2c_j3 = 24ull;
+  w2c_j2 >>= (w2c_j3 & 63);
+  w2c_j3 = 16711680ull;
+  w2c_j2 &= w2c_j3;
+  w2c_j1 |= w2c_j2;
+  w2c_j2 = w2c_l4;
+  w2c_j3 = 40ull;
+  w2c_j2 >>= (w2c_j3 & 63);
+  w2c_j3 = 65280ull;
+  w2c_j2 &= w2c_j3;
+  w2c_j3 = w2c_l4;
+  w2c_j4 = 56ull;
+  w2c_j3 >>= (w2c_j4 & 63);
+  w2c_j2 |= w2c_j3;
+  w2c_j1 |= w2c_j2;
+  w2c_j0 |= w2c_j1;
   w2c_p1 = w2c_j0;
   w2c_j0 = 1ull;
-  w2c_j1 = w2c_l5;
-  w2c_i2 = w2c_l11;
+  w2c_j1 = w2c_l7;
+  w2c_i2 = w2c_l8;
   w2c_j0 = w2c_i2 ? w2c_j0 : w2c_j1;
-  w2c_l6 = w2c_j0;
+  w2c_l4 = w2c_j0;
   w2c_i0 = !(w2c_j0);
   if (w2c_i0) {goto w2c_B1;}
+  w2c_j0 = w2c_p2;
+  w2c_j1 = w2c_p3;
+  w2c_j0 += w2c_j1;
+  w2c_j1 = 18446744073709551608ull;
+  w2c_j0 += w2c_j1;
+  w2c_i0 = (u32)(w2c_j0);
+  w2c_j0 = step_i64_load(memory, (u64)(w2c_i0));
+  w2c_l7 = w2c_j0;
+  w2c_j0 = w2c_p3;
+  w2c_j1 = 9ull;
+  w2c_i0 = w2c_j0 < w2c_j1;
+  if (w2c_i0) {goto w2c_B2;}
+  w2c_j0 = w2c_l4;
+  w2c_j1 = 18446744073709551615ull;
+  w2c_j0 += w2c_j1;
+  w2c_l4 = w2c_j0;
+  w2c_L3: 
+    w2c_j0 = w2c_p0;
+    w2c_j1 = 8ull;
+    w2c_j0 += w2c_j1;
+    w2c_p3 = w2c_j0;
+    w2c_i0 = (u32)(w2c_j0);
+    w2c_j1 = 18446744073709551615ull;
+    w2c_j2 = w2c_p3;
+    w2c_i2 = (u32)(w2c_j2);
+    w2c_j2 = step_i64_load(memory, (u64)(w2c_i2));
+    w2c_j3 = 1ull;
+    w2c_j2 += w2c_j3;
+    w2c_p3 = w2c_j2;
+    w2c_j3 = w2c_p3;
+    w2c_i3 = !(w2c_j3);
+    w2c_j1 = w2c_i3 ? w2c_j1 : w2c_j2;
+    step_i64_store(memory, (u64)(w2c_i0), w2c_j1);
+    w2c_j0 = w2c_p0;
+    w2c_i0 = (u32)(w2c_j0);
+    w2c_j0 = step_i64_load(memory, (u64)(w2c_i0));
+    w2c_p3 = w2c_j0;
+    w2c_j0 = w2c_l5;
+    w2c_i0 = (u32)(w2c_j0);
+    w2c_j1 = w2c_l7;
+    step_i64_store(memory, (u64)(w2c_i0) + 8, w2c_j1);
+    w2c_j0 = w2c_l5;
+    w2c_i0 = (u32)(w2c_j0);
+    w2c_j1 = w2c_p1;
+    step_i64_store(memory, (u64)(w2c_i0), w2c_j1);
+    w2c_j0 = w2c_p3;
+    w2c_i0 = (u32)(w2c_j0);
+    w2c_j0 = step_i64_load(memory, (u64)(w2c_i0));
+    w2c_j1 = w2c_p3;
+    w2c_i1 = (u32)(w2c_j1);
+    w2c_j1 = step_i64_load(memory, (u64)(w2c_i1) + 8u);
+    w2c_j2 = w2c_l5;
+    leaf_decrypt(memory, w2c_j0, w2c_j1, w2c_j2);
+    w2c_j0 = w2c_l5;
+    w2c_i0 = (u32)(w2c_j0);
+    w2c_j0 = step_i64_load(memory, (u64)(w2c_i0));
+    w2c_p1 = w2c_j0;
+    w2c_j0 = w2c_p2;
+    w2c_j1 = w2c_l4;
+    w2c_j2 = w2c_l6;
+    w2c_j1 = REM_U(w2c_j1, w2c_j2);
+    w2c_l7 = w2c_j1;
+    w2c_j2 = 3ull;
+    w2c_j1 <<= (w2c_j2 & 63);
+    w2c_j0 += w2c_j1;
+    w2c_i0 = (u32)(w2c_j0);
+    w2c_j1 = w2c_l5;
+    w2c_i1 = (u32)(w2c_j1);
+    w2c_j1 = step_i64_load(memory, (u64)(w2c_i1) + 8u);
+    step_i64_store(memory, (u64)(w2c_i0), w2c_j1);
+    w2c_j0 = w2c_p1;
+    w2c_j1 = w2c_l4;
+    w2c_j2 = 56ull;
+    w2c_j1 <<= (w2c_j2 & 63);
+    w2c_j2 = w2c_l4;
+    w2c_j3 = 65280ull;
+    w2c_j2 &= w2c_j3;
+    w2c_j3 = 40ull;
+    w2c_j2 <<= (w2c_j3 & 63);
+    w2c_j1 |= w2c_j2;
+    w2c_j2 = w2c_l4;
+    w2c_j3 = 16711680ull;
+    w2c_j2 &= w2c_j3;
+    w2c_j3 = 24ull;
+    w2c_j2 <<= (w2c_j3 & 63);
+    w2c_j3 = w2c_l4;
+    w2c_j4 = 4278190080ull;
+    w2c_j3 &= w2c_j4;
+    w2c_j4 = 8ull;
+    w2c_j3 <<= (w2c_j4 & 63);
+    w2c_j2 |= w2c_j3;
+    w2c_j1 |= w2c_j2;
+    w2c_j2 = w2c_l4;
+    w2c_j3 = 8ull;
+    w2c_j2 >>= (w2c_j3 & 63);
+    w2c_j3 = 4278190080ull;
+    w2c_j2 &= w2c_j3;
+    w2c_j3 = w2c_l4;
+    w2c_j4 = 24ull;
+    w2c_j3 >>= (w2c_j4 & 63);
+    w2c_j4 = 16711680ull;
+    w2c_j3 &= w2c_j4;
+    w2c_j2 |= w2c_j3;
+    w2c_j3 = w2c_l4;
+    w2c_j4 = 40ull;
+    w2c_j3 >>= (w2c_j4 & 63);
+    w2c_j4 = 65280ull;
+    w2c_j3 &= w2c_j4;
+    w2c_j4 = w2c_l4;
+    w2c_j5 = 56ull;
+    w2c_j4 >>= (w2c_j5 & 63);
+    w2c_j3 |= w2c_j4;
+    w2c_j2 |= w2c_j3;
+    w2c_j1 |= w2c_j2;
+    w2c_j0 ^= w2c_j1;
+    w2c_p1 = w2c_j0;
+    w2c_j0 = w2c_p2;
+    w2c_j1 = w2c_l6;
+    w2c_j2 = w2c_l7;
+    w2c_j3 = w2c_l7;
+    w2c_i3 = !(w2c_j3);
+    w2c_j1 = w2c_i3 ? w2c_j1 : w2c_j2;
+    w2c_j2 = 3ull;
+    w2c_j1 <<= (w2c_j2 & 63);
+    w2c_j0 += w2c_j1;
+    w2c_j1 = 18446744073709551608ull;
+    w2c_j0 += w2c_j1;
+    w2c_i0 = (u32)(w2c_j0);
+    w2c_j0 = step_i64_load(memory, (u64)(w2c_i0));
+    w2c_l7 = w2c_j0;
+    w2c_j0 = w2c_l4;
+    w2c_j1 = 18446744073709551615ull;
+    w2c_j0 += w2c_j1;
+    w2c_l4 = w2c_j0;
+    w2c_j1 = 18446744073709551615ull;
+    w2c_i0 = w2c_j0 != w2c_j1;
+    if (w2c_i0) {goto w2c_L3;}
+    goto w2c_B1;
+  UNREACHABLE;
+  w2c_B2:;
+  w2c_j0 = w2c_p2;
+  w2c_j1 = w2c_l5;
+  w2c_j0 -= w2c_j1;
+  w2c_j1 = 18446744073709551608ull;
+  w2c_j0 += w2c_j1;
+  w2c_j1 = 8ull;
+  w2c_i0 = w2c_j0 >= w2c_j1;
+  if (w2c_i0) {goto w2c_B4;}
+  w2c_L5: 
+    w2c_j0 = w2c_p0;
+    w2c_j1 = 8ull;
+    w2c_j0 += w2c_j1;
+    w2c_p3 = w2c_j0;
+    w2c_i0 = (u32)(w2c_j0);
+    w2c_j1 = 18446744073709551615ull;
+    w2c_j2 = w2c_p3;
+    w2c_i2 = (u32)(w2c_j2);
+    w2c_j2 = step_i64_load(memory, (u64)(w2c_i2));
+    w2c_j3 = 1ull;
+    w2c_j2 += w2c_j3;
+    w2c_p3 = w2c_j2;
+    w2c_j3 = w2c_p3;
+    w2c_i3 = !(w2c_j3);
+    w2c_j1 = w2c_i3 ? w2c_j1 : w2c_j2;
+    step_i64_store(memory, (u64)(w2c_i0), w2c_j1);
+    w2c_j0 = w2c_p0;
+    w2c_i0 = (u32)(w2c_j0);
+    w2c_j0 = step_i64_load(memory, (u64)(w2c_i0));
+    w2c_p3 = w2c_j0;
+    w2c_j0 = w2c_l5;
+    w2c_i0 = (u32)(w2c_j0);
+    w2c_j1 = w2c_l7;
+    step_i64_store(memory, (u64)(w2c_i0) + 8, w2c_j1);
+    w2c_j0 = w2c_l5;
+    w2c_i0 = (u32)(w2c_j0);
+    w2c_j1 = w2c_p1;
+    step_i64_store(memory, (u64)(w2c_i0), w2c_j1);
+    w2c_j0 = w2c_p3;
+    w2c_i0 = (u32)(w2c_j0);
+    w2c_j0 = step_i64_load(memory, (u64)(w2c_i0));
+    w2c_j1 = w2c_p3;
+    w2c_i1 = (u32)(w2c_j1);
+    w2c_j1 = step_i64_load(memory, (u64)(w2c_i1) + 8u);
+    w2c_j2 = w2c_l5;
+    leaf_decrypt(memory, w2c_j0, w2c_j1, w2c_j2);
+    w2c_j0 = w2c_l5;
+    w2c_i0 = (u32)(w2c_j0);
+    w2c_j0 = step_i64_load(memory, (u64)(w2c_i0));
+    w2c_p1 = w2c_j0;
+    w2c_j0 = w2c_p2;
+    w2c_i0 = (u32)(w2c_j0);
+    w2c_j1 = w2c_l5;
+    w2c_i1 = (u32)(w2c_j1);
+    w2c_j1 = step_i64_load(memory, (u64)(w2c_i1) + 8u);
+    w2c_l7 = w2c_j1;
+    step_i64_store(memory, (u64)(w2c_i0), w2c_j1);
+    w2c_j0 = w2c_l4;
+    w2c_j1 = 18446744073709551615ull;
+    w2c_j0 += w2c_j1;
+    w2c_l4 = w2c_j0;
+    w2c_i0 = !(w2c_j0);
+    w2c_i0 = !(w2c_i0);
+    if (w2c_i0) {goto w2c_L5;}
+    goto w2c_B1;
+  UNREACHABLE;
+  w2c_B4:;
+  w2c_L6: 
+    w2c_j0 = w2c_p0;
+    w2c_j1 = 8ull;
+    w2c_j0 += w2c_j1;
+    w2c_p3 = w2c_j0;
+    w2c_i0 = (u32)(w2c_j0);
+    w2c_j1 = 18446744073709551615ull;
+    w2c_j2 = w2c_p3;
+    w2c_i2 = (u32)(w2c_j2);
+    w2c_j2 = step_i64_load(memory, (u64)(w2c_i2));
+    w2c_j3 = 1ull;
+    w2c_j2 += w2c_j3;
+    w2c_p3 = w2c_j2;
+    w2c_j3 = w2c_p3;
+    w2c_i3 = !(w2c_j3);
+    w2c_j1 = w2c_i3 ? w2c_j1 : w2c_j2;
+    step_i64_store(memory, (u64)(w2c_i0), w2c_j1);
+    w2c_j0 = w2c_p0;
+    w2c_i0 = (u32)(w2c_j0);
+    w2c_j0 = step_i64_load(memory, (u64)(w2c_i0));
+    w2c_p3 = w2c_j0;
+    w2c_j0 = w2c_l5;
+    w2c_i0 = (u32)(w2c_j0);
+    w2c_j1 = w2c_l7;
+    step_i64_store(memory, (u64)(w2c_i0) + 8, w2c_j1);
+    w2c_j0 = w2c_l5;
+    w2c_i0 = (u32)(w2c_j0);
+    w2c_j1 = w2c_p1;
+    step_i64_store(memory, (u64)(w2c_i0), w2c_j1);
+    w2c_j0 = w2c_p3;
+    w2c_i0 = (u32)(w2c_j0);
+    w2c_j0 = step_i64_load(memory, (u64)(w2c_i0));
+    w2c_j1 = w2c_p3;
+    w2c_i1 = (u32)(w2c_j1);
+    w2c_j1 = step_i64_load(memory, (u64)(w2c_i1) + 8u);
+    w2c_j2 = w2c_l5;
+    leaf_decrypt(memory, w2c_j0, w2c_j1, w2c_j2);
+    w2c_j0 = w2c_l5;
+    w2c_i0 = (u32)(w2c_j0);
+    w2c_j0 = step_i64_load(memory, (u64)(w2c_i0));
+    w2c_p1 = w2c_j0;
+    w2c_j0 = w2c_p2;
+    w2c_i0 = (u32)(w2c_j0);
+    w2c_j1 = w2c_l5;
+    w2c_i1 = (u32)(w2c_j1);
+    w2c_j1 = step_i64_load(memory, (u64)(w2c_i1) + 8u);
+    w2c_l7 = w2c_j1;
+    step_i64_store(memory, (u64)(w2c_i0), w2c_j1);
+    w2c_j0 = w2c_l4;
+    w2c_j1 = 18446744073709551615ull;
+    w2c_j0 += w2c_j1;
+    w2c_l4 = w2c_j0;
+    w2c_j1 = 0ull;
+    w2c_i0 = w2c_j0 != w2c_j1;
+    if (w2c_i0) {goto w2c_L6;}
+  w2c_B1:;
+  w2c_j0 = w2c_l5;
+  w2c_j1 = 16ull;
+  w2c_j0 += w2c_j1;
+  instance->w2c_g0 = w2c_j0;
   w2c_j0 = w2c_p1;
   w2c_j1 = 56ull;
   w2c_j0 <<= (w2c_j1 & 63);
@@ -2163,887 +2704,74 @@ static u64 w2c_f6(struct instance *instance, u64 w2c_p0, u64 w2c_p1, u64 w2c_p2,
   w2c_j2 |= w2c_j3;
   w2c_j1 |= w2c_j2;
   w2c_j0 |= w2c_j1;
-  w2c_l7 = w2c_j0;
-  w2c_j0 = w2c_p2;
-  w2c_j1 = w2c_p3;
-  w2c_j0 += w2c_j1;
-  w2c_j1 = 18446744073709551608ull;
-  w2c_j0 += w2c_j1;
-  w2c_i0 = (u32)(w2c_j0);
-  w2c_j0 = i64_load(memory, (u64)(w2c_i0));
-  w2c_p1 = w2c_j0;
-  w2c_L2: 
-    w2c_j0 = w2c_p0;
-    w2c_j1 = 8ull;
-    w2c_j0 += w2c_j1;
-    w2c_l5 = w2c_j0;
-    w2c_i0 = (u32)(w2c_j0);
-    w2c_j1 = 18446744073709551615ull;
-    w2c_j2 = w2c_l5;
-    w2c_i2 = (u32)(w2c_j2);
-    w2c_j2 = i64_load(memory, (u64)(w2c_i2));
-    w2c_j3 = 1ull;
-    w2c_j2 += w2c_j3;
-    w2c_l5 = w2c_j2;
-    w2c_j3 = w2c_l5;
-    w2c_i3 = !(w2c_j3);
-    w2c_j1 = w2c_i3 ? w2c_j1 : w2c_j2;
-    i64_store(memory, (u64)(w2c_i0), w2c_j1);
-    w2c_j0 = w2c_p0;
-    w2c_i0 = (u32)(w2c_j0);
-    w2c_j0 = i64_load(memory, (u64)(w2c_i0));
-    w2c_l8 = w2c_j0;
-    w2c_j1 = w2c_l8;
-    w2c_j2 = 240ull;
-    w2c_j1 += w2c_j2;
-    w2c_i1 = (u32)(w2c_j1);
-    w2c_j1 = i64_load8_u(memory, (u64)(w2c_i1));
-    w2c_l5 = w2c_j1;
-    w2c_j2 = 4ull;
-    w2c_j1 <<= (w2c_j2 & 63);
-    w2c_j0 += w2c_j1;
-    w2c_l9 = w2c_j0;
-    w2c_i0 = (u32)(w2c_j0);
-    w2c_i0 = i32_load(memory, (u64)(w2c_i0) + 12u);
-    w2c_j1 = w2c_p1;
-    w2c_j2 = 32ull;
-    w2c_j1 >>= (w2c_j2 & 63);
-    w2c_i1 = (u32)(w2c_j1);
-    w2c_l11 = w2c_i1;
-    w2c_i2 = 16711935u;
-    w2c_i1 &= w2c_i2;
-    w2c_i2 = 8u;
-    w2c_i1 = I32_ROTR(w2c_i1, w2c_i2);
-    w2c_i2 = w2c_l11;
-    w2c_i3 = 24u;
-    w2c_i2 = I32_ROTR(w2c_i2, w2c_i3);
-    w2c_i3 = 16711935u;
-    w2c_i2 &= w2c_i3;
-    w2c_i1 |= w2c_i2;
-    w2c_i0 ^= w2c_i1;
-    w2c_l12 = w2c_i0;
-    w2c_j0 = w2c_l9;
-    w2c_i0 = (u32)(w2c_j0);
-    w2c_i0 = i32_load(memory, (u64)(w2c_i0) + 8u);
-    w2c_j1 = w2c_p1;
-    w2c_i1 = (u32)(w2c_j1);
-    w2c_l11 = w2c_i1;
-    w2c_i2 = 16711935u;
-    w2c_i1 &= w2c_i2;
-    w2c_i2 = 8u;
-    w2c_i1 = I32_ROTR(w2c_i1, w2c_i2);
-    w2c_i2 = w2c_l11;
-    w2c_i3 = 24u;
-    w2c_i2 = I32_ROTR(w2c_i2, w2c_i3);
-    w2c_i3 = 16711935u;
-    w2c_i2 &= w2c_i3;
-    w2c_i1 |= w2c_i2;
-    w2c_i0 ^= w2c_i1;
-    w2c_l13 = w2c_i0;
-    w2c_j0 = w2c_l9;
-    w2c_i0 = (u32)(w2c_j0);
-    w2c_i0 = i32_load(memory, (u64)(w2c_i0) + 4u);
-    w2c_j1 = w2c_l7;
-    w2c_j2 = 32ull;
-    w2c_j1 >>= (w2c_j2 & 63);
-    w2c_i1 = (u32)(w2c_j1);
-    w2c_l11 = w2c_i1;
-    w2c_i2 = 16711935u;
-    w2c_i1 &= w2c_i2;
-    w2c_i2 = 8u;
-    w2c_i1 = I32_ROTR(w2c_i1, w2c_i2);
-    w2c_i2 = w2c_l11;
-    w2c_i3 = 24u;
-    w2c_i2 = I32_ROTR(w2c_i2, w2c_i3);
-    w2c_i3 = 16711935u;
-    w2c_i2 &= w2c_i3;
-    w2c_i1 |= w2c_i2;
-    w2c_i0 ^= w2c_i1;
-    w2c_l11 = w2c_i0;
-    w2c_j0 = w2c_l9;
-    w2c_i0 = (u32)(w2c_j0);
-    w2c_i0 = i32_load(memory, (u64)(w2c_i0));
-    w2c_j1 = w2c_l7;
-    w2c_i1 = (u32)(w2c_j1);
-    w2c_l14 = w2c_i1;
-    w2c_i2 = 16711935u;
-    w2c_i1 &= w2c_i2;
-    w2c_i2 = 8u;
-    w2c_i1 = I32_ROTR(w2c_i1, w2c_i2);
-    w2c_i2 = w2c_l14;
-    w2c_i3 = 24u;
-    w2c_i2 = I32_ROTR(w2c_i2, w2c_i3);
-    w2c_i3 = 16711935u;
-    w2c_i2 &= w2c_i3;
-    w2c_i1 |= w2c_i2;
-    w2c_i0 ^= w2c_i1;
-    w2c_l14 = w2c_i0;
-    w2c_j0 = w2c_l5;
-    w2c_j1 = 2ull;
-    w2c_i0 = w2c_j0 < w2c_j1;
-    if (w2c_i0) {goto w2c_B3;}
-    w2c_j0 = w2c_l9;
-    w2c_j1 = 18446744073709551600ull;
-    w2c_j0 += w2c_j1;
-    w2c_p1 = w2c_j0;
-    w2c_L4: 
-      w2c_i0 = w2c_l13;
-      w2c_l15 = w2c_i0;
-      w2c_i1 = 16u;
-      w2c_i0 >>= (w2c_i1 & 31);
-      w2c_j0 = (u64)(w2c_i0);
-      w2c_j1 = 255ull;
-      w2c_j0 &= w2c_j1;
-      w2c_j1 = 65832ull;
-      w2c_j0 += w2c_j1;
-      w2c_i0 = (u32)(w2c_j0);
-      w2c_i0 = constant_i32_load8_u((u64)(w2c_i0));
-      w2c_j1 = w2c_p1;
-      w2c_j2 = 12ull;
-      w2c_j1 += w2c_j2;
-      w2c_i1 = (u32)(w2c_j1);
-      w2c_i1 = i32_load(memory, (u64)(w2c_i1));
-      w2c_l13 = w2c_i1;
-      w2c_i2 = 16u;
-      w2c_i1 >>= (w2c_i2 & 31);
-      w2c_i0 ^= w2c_i1;
-      w2c_j0 = (u64)(w2c_i0);
-      w2c_j1 = 255ull;
-      w2c_j0 &= w2c_j1;
-      w2c_j1 = 2ull;
-      w2c_j0 <<= (w2c_j1 & 63);
-      w2c_i0 = (u32)(w2c_j0);
-      w2c_i0 = constant_i32_load((u64)(w2c_i0) + 66088u);
-      w2c_i1 = 24u;
-      w2c_i0 = I32_ROTL(w2c_i0, w2c_i1);
-      w2c_i1 = w2c_l12;
-      w2c_l16 = w2c_i1;
-      w2c_j1 = (u64)(w2c_i1);
-      w2c_l9 = w2c_j1;
-      w2c_j2 = 24ull;
-      w2c_j1 >>= (w2c_j2 & 63);
-      w2c_i1 = (u32)(w2c_j1);
-      w2c_i1 = constant_i32_load8_u((u64)(w2c_i1) + 65832u);
-      w2c_i2 = w2c_l13;
-      w2c_i3 = 24u;
-      w2c_i2 >>= (w2c_i3 & 31);
-      w2c_i1 ^= w2c_i2;
-      w2c_j1 = (u64)(w2c_i1);
-      w2c_j2 = 255ull;
-      w2c_j1 &= w2c_j2;
-      w2c_j2 = 2ull;
-      w2c_j1 <<= (w2c_j2 & 63);
-      w2c_i1 = (u32)(w2c_j1);
-      w2c_i1 = constant_i32_load((u64)(w2c_i1) + 66088u);
-      w2c_i0 ^= w2c_i1;
-      w2c_i1 = w2c_l11;
-      w2c_i2 = 8u;
-      w2c_i1 >>= (w2c_i2 & 31);
-      w2c_j1 = (u64)(w2c_i1);
-      w2c_j2 = 255ull;
-      w2c_j1 &= w2c_j2;
-      w2c_j2 = 65832ull;
-      w2c_j1 += w2c_j2;
-      w2c_i1 = (u32)(w2c_j1);
-      w2c_i1 = constant_i32_load8_u((u64)(w2c_i1));
-      w2c_i2 = w2c_l13;
-      w2c_i3 = 8u;
-      w2c_i2 >>= (w2c_i3 & 31);
-      w2c_i1 ^= w2c_i2;
-      w2c_j1 = (u64)(w2c_i1);
-      w2c_j2 = 255ull;
-      w2c_j1 &= w2c_j2;
-      w2c_j2 = 2ull;
-      w2c_j1 <<= (w2c_j2 & 63);
-      w2c_i1 = (u32)(w2c_j1);
-      w2c_i1 = constant_i32_load((u64)(w2c_i1) + 66088u);
-      w2c_i2 = 16u;
-      w2c_i1 = I32_ROTL(w2c_i1, w2c_i2);
-      w2c_i0 ^= w2c_i1;
-      w2c_i1 = w2c_l14;
-      w2c_j1 = (u64)(w2c_i1);
-      w2c_l7 = w2c_j1;
-      w2c_j2 = 255ull;
-      w2c_j1 &= w2c_j2;
-      w2c_i1 = (u32)(w2c_j1);
-      w2c_i1 = constant_i32_load8_u((u64)(w2c_i1) + 65832u);
-      w2c_i2 = w2c_l13;
-      w2c_i1 ^= w2c_i2;
-      w2c_j1 = (u64)(w2c_i1);
-      w2c_j2 = 255ull;
-      w2c_j1 &= w2c_j2;
-      w2c_j2 = 2ull;
-      w2c_j1 <<= (w2c_j2 & 63);
-      w2c_i1 = (u32)(w2c_j1);
-      w2c_i1 = constant_i32_load((u64)(w2c_i1) + 66088u);
-      w2c_i2 = 8u;
-      w2c_i1 = I32_ROTL(w2c_i1, w2c_i2);
-      w2c_i0 ^= w2c_i1;
-      w2c_l12 = w2c_i0;
-      w2c_i0 = w2c_l11;
-      w2c_i1 = 16u;
-      w2c_i0 >>= (w2c_i1 & 31);
-      w2c_j0 = (u64)(w2c_i0);
-      w2c_j1 = 255ull;
-      w2c_j0 &= w2c_j1;
-      w2c_j1 = 65832ull;
-      w2c_j0 += w2c_j1;
-      w2c_i0 = (u32)(w2c_j0);
-      w2c_i0 = constant_i32_load8_u((u64)(w2c_i0));
-      w2c_j1 = w2c_p1;
-      w2c_j2 = 8ull;
-      w2c_j1 += w2c_j2;
-      w2c_i1 = (u32)(w2c_j1);
-      w2c_i1 = i32_load(memory, (u64)(w2c_i1));
-      w2c_l13 = w2c_i1;
-      w2c_i2 = 16u;
-      w2c_i1 >>= (w2c_i2 & 31);
-      w2c_i0 ^= w2c_i1;
-      w2c_j0 = (u64)(w2c_i0);
-      w2c_j1 = 255ull;
-      w2c_j0 &= w2c_j1;
-      w2c_j1 = 2ull;
-      w2c_j0 <<= (w2c_j1 & 63);
-      w2c_i0 = (u32)(w2c_j0);
-      w2c_i0 = constant_i32_load((u64)(w2c_i0) + 66088u);
-      w2c_i1 = 24u;
-      w2c_i0 = I32_ROTL(w2c_i0, w2c_i1);
-      w2c_i1 = w2c_l15;
-      w2c_j1 = (u64)(w2c_i1);
-      w2c_l10 = w2c_j1;
-      w2c_j2 = 24ull;
-      w2c_j1 >>= (w2c_j2 & 63);
-      w2c_i1 = (u32)(w2c_j1);
-      w2c_i1 = constant_i32_load8_u((u64)(w2c_i1) + 65832u);
-      w2c_i2 = w2c_l13;
-      w2c_i3 = 24u;
-      w2c_i2 >>= (w2c_i3 & 31);
-      w2c_i1 ^= w2c_i2;
-      w2c_j1 = (u64)(w2c_i1);
-      w2c_j2 = 255ull;
-      w2c_j1 &= w2c_j2;
-      w2c_j2 = 2ull;
-      w2c_j1 <<= (w2c_j2 & 63);
-      w2c_i1 = (u32)(w2c_j1);
-      w2c_i1 = constant_i32_load((u64)(w2c_i1) + 66088u);
-      w2c_i0 ^= w2c_i1;
-      w2c_i1 = w2c_l14;
-      w2c_i2 = 8u;
-      w2c_i1 >>= (w2c_i2 & 31);
-      w2c_j1 = (u64)(w2c_i1);
-      w2c_j2 = 255ull;
-      w2c_j1 &= w2c_j2;
-      w2c_j2 = 65832ull;
-      w2c_j1 += w2c_j2;
-      w2c_i1 = (u32)(w2c_j1);
-      w2c_i1 = constant_i32_load8_u((u64)(w2c_i1));
-      w2c_i2 = w2c_l13;
-      w2c_i3 = 8u;
-      w2c_i2 >>= (w2c_i3 & 31);
-      w2c_i1 ^= w2c_i2;
-      w2c_j1 = (u64)(w2c_i1);
-      w2c_j2 = 255ull;
-      w2c_j1 &= w2c_j2;
-      w2c_j2 = 2ull;
-      w2c_j1 <<= (w2c_j2 & 63);
-      w2c_i1 = (u32)(w2c_j1);
-      w2c_i1 = constant_i32_load((u64)(w2c_i1) + 66088u);
-      w2c_i2 = 16u;
-      w2c_i1 = I32_ROTL(w2c_i1, w2c_i2);
-      w2c_i0 ^= w2c_i1;
-      w2c_j1 = w2c_l9;
-      w2c_j2 = 255ull;
-      w2c_j1 &= w2c_j2;
-      w2c_i1 = (u32)(w2c_j1);
-      w2c_i1 = constant_i32_load8_u((u64)(w2c_i1) + 65832u);
-      w2c_i2 = w2c_l13;
-      w2c_i1 ^= w2c_i2;
-      w2c_j1 = (u64)(w2c_i1);
-      w2c_j2 = 255ull;
-      w2c_j1 &= w2c_j2;
-      w2c_j2 = 2ull;
-      w2c_j1 <<= (w2c_j2 & 63);
-      w2c_i1 = (u32)(w2c_j1);
-      w2c_i1 = constant_i32_load((u64)(w2c_i1) + 66088u);
-      w2c_i2 = 8u;
-      w2c_i1 = I32_ROTL(w2c_i1, w2c_i2);
-      w2c_i0 ^= w2c_i1;
-      w2c_l13 = w2c_i0;
-      w2c_i0 = w2c_l14;
-      w2c_i1 = 16u;
-      w2c_i0 >>= (w2c_i1 & 31);
-      w2c_j0 = (u64)(w2c_i0);
-      w2c_j1 = 255ull;
-      w2c_j0 &= w2c_j1;
-      w2c_j1 = 65832ull;
-      w2c_j0 += w2c_j1;
-      w2c_i0 = (u32)(w2c_j0);
-      w2c_i0 = constant_i32_load8_u((u64)(w2c_i0));
-      w2c_j1 = w2c_p1;
-      w2c_j2 = 4ull;
-      w2c_j1 += w2c_j2;
-      w2c_i1 = (u32)(w2c_j1);
-      w2c_i1 = i32_load(memory, (u64)(w2c_i1));
-      w2c_l14 = w2c_i1;
-      w2c_i2 = 16u;
-      w2c_i1 >>= (w2c_i2 & 31);
-      w2c_i0 ^= w2c_i1;
-      w2c_j0 = (u64)(w2c_i0);
-      w2c_j1 = 255ull;
-      w2c_j0 &= w2c_j1;
-      w2c_j1 = 2ull;
-      w2c_j0 <<= (w2c_j1 & 63);
-      w2c_i0 = (u32)(w2c_j0);
-      w2c_i0 = constant_i32_load((u64)(w2c_i0) + 66088u);
-      w2c_i1 = 24u;
-      w2c_i0 = I32_ROTL(w2c_i0, w2c_i1);
-      w2c_i1 = w2c_l11;
-      w2c_j1 = (u64)(w2c_i1);
-      w2c_l9 = w2c_j1;
-      w2c_j2 = 24ull;
-      w2c_j1 >>= (w2c_j2 & 63);
-      w2c_i1 = (u32)(w2c_j1);
-      w2c_i1 = constant_i32_load8_u((u64)(w2c_i1) + 65832u);
-      w2c_i2 = w2c_l14;
-      w2c_i3 = 24u;
-      w2c_i2 >>= (w2c_i3 & 31);
-      w2c_i1 ^= w2c_i2;
-      w2c_j1 = (u64)(w2c_i1);
-      w2c_j2 = 255ull;
-      w2c_j1 &= w2c_j2;
-      w2c_j2 = 2ull;
-      w2c_j1 <<= (w2c_j2 & 63);
-      w2c_i1 = (u32)(w2c_j1);
-      w2c_i1 = constant_i32_load((u64)(w2c_i1) + 66088u);
-      w2c_i0 ^= w2c_i1;
-      w2c_i1 = w2c_l16;
-      w2c_i2 = 8u;
-      w2c_i1 >>= (w2c_i2 & 31);
-      w2c_j1 = (u64)(w2c_i1);
-      w2c_j2 = 255ull;
-      w2c_j1 &= w2c_j2;
-      w2c_j2 = 65832ull;
-      w2c_j1 += w2c_j2;
-      w2c_i1 = (u32)(w2c_j1);
-      w2c_i1 = constant_i32_load8_u((u64)(w2c_i1));
-      w2c_i2 = w2c_l14;
-      w2c_i3 = 8u;
-      w2c_i2 >>= (w2c_i3 & 31);
-      w2c_i1 ^= w2c_i2;
-      w2c_j1 = (u64)(w2c_i1);
-      w2c_j2 = 255ull;
-      w2c_j1 &= w2c_j2;
-      w2c_j2 = 2ull;
-      w2c_j1 <<= (w2c_j2 & 63);
-      w2c_i1 = (u32)(w2c_j1);
-      w2c_i1 = constant_i32_load((u64)(w2c_i1) + 66088u);
-      w2c_i2 = 16u;
-      w2c_i1 = I32_ROTL(w2c_i1, w2c_i2);
-      w2c_i0 ^= w2c_i1;
-      w2c_j1 = w2c_l10;
-      w2c_j2 = 255ull;
-      w2c_j1 &= w2c_j2;
-      w2c_i1 = (u32)(w2c_j1);
-      w2c_i1 = constant_i32_load8_u((u64)(w2c_i1) + 65832u);
-      w2c_i2 = w2c_l14;
-      w2c_i1 ^= w2c_i2;
-      w2c_j1 = (u64)(w2c_i1);
-      w2c_j2 = 255ull;
-      w2c_j1 &= w2c_j2;
-      w2c_j2 = 2ull;
-      w2c_j1 <<= (w2c_j2 & 63);
-      w2c_i1 = (u32)(w2c_j1);
-      w2c_i1 = constant_i32_load((u64)(w2c_i1) + 66088u);
-      w2c_i2 = 8u;
-      w2c_i1 = I32_ROTL(w2c_i1, w2c_i2);
-      w2c_i0 ^= w2c_i1;
-      w2c_l11 = w2c_i0;
-      w2c_i0 = w2c_l16;
-      w2c_i1 = 16u;
-      w2c_i0 >>= (w2c_i1 & 31);
-      w2c_j0 = (u64)(w2c_i0);
-      w2c_j1 = 255ull;
-      w2c_j0 &= w2c_j1;
-      w2c_j1 = 65832ull;
-      w2c_j0 += w2c_j1;
-      w2c_i0 = (u32)(w2c_j0);
-      w2c_i0 = constant_i32_load8_u((u64)(w2c_i0));
-      w2c_j1 = w2c_p1;
-      w2c_i1 = (u32)(w2c_j1);
-      w2c_i1 = i32_load(memory, (u64)(w2c_i1));
-      w2c_l14 = w2c_i1;
-      w2c_i2 = 16u;
-      w2c_i1 >>= (w2c_i2 & 31);
-      w2c_i0 ^= w2c_i1;
-      w2c_j0 = (u64)(w2c_i0);
-      w2c_j1 = 255ull;
-      w2c_j0 &= w2c_j1;
-      w2c_j1 = 2ull;
-      w2c_j0 <<= (w2c_j1 & 63);
-      w2c_i0 = (u32)(w2c_j0);
-      w2c_i0 = constant_i32_load((u64)(w2c_i0) + 66088u);
-      w2c_i1 = 24u;
-      w2c_i0 = I32_ROTL(w2c_i0, w2c_i1);
-      w2c_j1 = w2c_l7;
-      w2c_j2 = 24ull;
-      w2c_j1 >>= (w2c_j2 & 63);
-      w2c_i1 = (u32)(w2c_j1);
-      w2c_i1 = constant_i32_load8_u((u64)(w2c_i1) + 65832u);
-      w2c_i2 = w2c_l14;
-      w2c_i3 = 24u;
-      w2c_i2 >>= (w2c_i3 & 31);
-      w2c_i1 ^= w2c_i2;
-      w2c_j1 = (u64)(w2c_i1);
-      w2c_j2 = 255ull;
-      w2c_j1 &= w2c_j2;
-      w2c_j2 = 2ull;
-      w2c_j1 <<= (w2c_j2 & 63);
-      w2c_i1 = (u32)(w2c_j1);
-      w2c_i1 = constant_i32_load((u64)(w2c_i1) + 66088u);
-      w2c_i0 ^= w2c_i1;
-      w2c_i1 = w2c_l15;
-      w2c_i2 = 8u;
-      w2c_i1 >>= (w2c_i2 & 31);
-      w2c_j1 = (u64)(w2c_i1);
-      w2c_j2 = 255ull;
-      w2c_j1 &= w2c_j2;
-      w2c_j2 = 65832ull;
-      w2c_j1 += w2c_j2;
-      w2c_i1 = (u32)(w2c_j1);
-      w2c_i1 = constant_i32_load8_u((u64)(w2c_i1));
-      w2c_i2 = w2c_l14;
-      w2c_i3 = 8u;
-      w2c_i2 >>= (w2c_i3 & 31);
-      w2c_i1 ^= w2c_i2;
-      w2c_j1 = (u64)(w2c_i1);
-      w2c_j2 = 255ull;
-      w2c_j1 &= w2c_j2;
-      w2c_j2 = 2ull;
-      w2c_j1 <<= (w2c_j2 & 63);
-      w2c_i1 = (u32)(w2c_j1);
-      w2c_i1 = constant_i32_load((u64)(w2c_i1) + 66088u);
-      w2c_i2 = 16u;
-      w2c_i1 = I32_ROTL(w2c_i1, w2c_i2);
-      w2c_i0 ^= w2c_i1;
-      w2c_j1 = w2c_l9;
-      w2c_j2 = 255ull;
-      w2c_j1 &= w2c_j2;
-      w2c_i1 = (u32)(w2c_j1);
-      w2c_i1 = constant_i32_load8_u((u64)(w2c_i1) + 65832u);
-      w2c_i2 = w2c_l14;
-      w2c_i1 ^= w2c_i2;
-      w2c_j1 = (u64)(w2c_i1);
-      w2c_j2 = 255ull;
-      w2c_j1 &= w2c_j2;
-      w2c_j2 = 2ull;
-      w2c_j1 <<= (w2c_j2 & 63);
-      w2c_i1 = (u32)(w2c_j1);
-      w2c_i1 = constant_i32_load((u64)(w2c_i1) + 66088u);
-      w2c_i2 = 8u;
-      w2c_i1 = I32_ROTL(w2c_i1, w2c_i2);
-      w2c_i0 ^= w2c_i1;
-      w2c_l14 = w2c_i0;
-      w2c_j0 = w2c_p1;
-      w2c_j1 = 18446744073709551600ull;
-      w2c_j0 += w2c_j1;
-      w2c_p1 = w2c_j0;
-      w2c_j0 = w2c_l5;
-      w2c_j1 = 18446744073709551615ull;
-      w2c_j0 += w2c_j1;
-      w2c_l5 = w2c_j0;
-      w2c_j1 = 1ull;
-      w2c_i0 = w2c_j0 > w2c_j1;
-      if (w2c_i0) {goto w2c_L4;}
-    w2c_B3:;
-    w2c_j0 = w2c_l6;
-    w2c_j1 = 18446744073709551615ull;
-    w2c_j0 += w2c_j1;
-    w2c_l6 = w2c_j0;
-    w2c_i0 = w2c_l13;
-    w2c_i1 = 16u;
-    w2c_i0 >>= (w2c_i1 & 31);
-    w2c_j0 = (u64)(w2c_i0);
-    w2c_j1 = 255ull;
-    w2c_j0 &= w2c_j1;
-    w2c_j1 = 65832ull;
-    w2c_j0 += w2c_j1;
-    w2c_i0 = (u32)(w2c_j0);
-    w2c_i0 = constant_i32_load8_u((u64)(w2c_i0));
-    w2c_i1 = 8u;
-    w2c_i0 <<= (w2c_i1 & 31);
-    w2c_i1 = w2c_l12;
-    w2c_j1 = (u64)(w2c_i1);
-    w2c_p1 = w2c_j1;
-    w2c_j2 = 24ull;
-    w2c_j1 >>= (w2c_j2 & 63);
-    w2c_i1 = (u32)(w2c_j1);
-    w2c_i1 = constant_i32_load8_u((u64)(w2c_i1) + 65832u);
-    w2c_i0 |= w2c_i1;
-    w2c_i1 = w2c_l11;
-    w2c_i2 = 8u;
-    w2c_i1 >>= (w2c_i2 & 31);
-    w2c_j1 = (u64)(w2c_i1);
-    w2c_j2 = 255ull;
-    w2c_j1 &= w2c_j2;
-    w2c_j2 = 65832ull;
-    w2c_j1 += w2c_j2;
-    w2c_i1 = (u32)(w2c_j1);
-    w2c_i1 = constant_i32_load8_u((u64)(w2c_i1));
-    w2c_i2 = 16u;
-    w2c_i1 <<= (w2c_i2 & 31);
-    w2c_i0 |= w2c_i1;
-    w2c_i1 = w2c_l14;
-    w2c_j1 = (u64)(w2c_i1);
-    w2c_l5 = w2c_j1;
-    w2c_j2 = 255ull;
-    w2c_j1 &= w2c_j2;
-    w2c_i1 = (u32)(w2c_j1);
-    w2c_i1 = constant_i32_load8_u((u64)(w2c_i1) + 65832u);
-    w2c_i2 = 24u;
-    w2c_i1 <<= (w2c_i2 & 31);
-    w2c_i0 |= w2c_i1;
-    w2c_j1 = w2c_l8;
-    w2c_i1 = (u32)(w2c_j1);
-    w2c_i1 = i32_load(memory, (u64)(w2c_i1) + 12u);
-    w2c_l15 = w2c_i1;
-    w2c_i2 = 16711935u;
-    w2c_i1 &= w2c_i2;
-    w2c_i2 = 8u;
-    w2c_i1 = I32_ROTR(w2c_i1, w2c_i2);
-    w2c_i2 = w2c_l15;
-    w2c_i3 = 24u;
-    w2c_i2 = I32_ROTR(w2c_i2, w2c_i3);
-    w2c_i3 = 16711935u;
-    w2c_i2 &= w2c_i3;
-    w2c_i1 |= w2c_i2;
-    w2c_i0 ^= w2c_i1;
-    w2c_j0 = (u64)(w2c_i0);
-    w2c_j1 = 32ull;
-    w2c_j0 <<= (w2c_j1 & 63);
-    w2c_i1 = w2c_l11;
-    w2c_i2 = 16u;
-    w2c_i1 >>= (w2c_i2 & 31);
-    w2c_j1 = (u64)(w2c_i1);
-    w2c_j2 = 255ull;
-    w2c_j1 &= w2c_j2;
-    w2c_j2 = 65832ull;
-    w2c_j1 += w2c_j2;
-    w2c_i1 = (u32)(w2c_j1);
-    w2c_i1 = constant_i32_load8_u((u64)(w2c_i1));
-    w2c_i2 = 8u;
-    w2c_i1 <<= (w2c_i2 & 31);
-    w2c_i2 = w2c_l13;
-    w2c_j2 = (u64)(w2c_i2);
-    w2c_l9 = w2c_j2;
-    w2c_j3 = 24ull;
-    w2c_j2 >>= (w2c_j3 & 63);
-    w2c_i2 = (u32)(w2c_j2);
-    w2c_i2 = constant_i32_load8_u((u64)(w2c_i2) + 65832u);
-    w2c_i1 |= w2c_i2;
-    w2c_i2 = w2c_l14;
-    w2c_i3 = 8u;
-    w2c_i2 >>= (w2c_i3 & 31);
-    w2c_j2 = (u64)(w2c_i2);
-    w2c_j3 = 255ull;
-    w2c_j2 &= w2c_j3;
-    w2c_j3 = 65832ull;
-    w2c_j2 += w2c_j3;
-    w2c_i2 = (u32)(w2c_j2);
-    w2c_i2 = constant_i32_load8_u((u64)(w2c_i2));
-    w2c_i3 = 16u;
-    w2c_i2 <<= (w2c_i3 & 31);
-    w2c_i1 |= w2c_i2;
-    w2c_j2 = w2c_p1;
-    w2c_j3 = 255ull;
-    w2c_j2 &= w2c_j3;
-    w2c_i2 = (u32)(w2c_j2);
-    w2c_i2 = constant_i32_load8_u((u64)(w2c_i2) + 65832u);
-    w2c_i3 = 24u;
-    w2c_i2 <<= (w2c_i3 & 31);
-    w2c_i1 |= w2c_i2;
-    w2c_j2 = w2c_l8;
-    w2c_i2 = (u32)(w2c_j2);
-    w2c_i2 = i32_load(memory, (u64)(w2c_i2) + 8u);
-    w2c_l15 = w2c_i2;
-    w2c_i3 = 16711935u;
-    w2c_i2 &= w2c_i3;
-    w2c_i3 = 8u;
-    w2c_i2 = I32_ROTR(w2c_i2, w2c_i3);
-    w2c_i3 = w2c_l15;
-    w2c_i4 = 24u;
-    w2c_i3 = I32_ROTR(w2c_i3, w2c_i4);
-    w2c_i4 = 16711935u;
-    w2c_i3 &= w2c_i4;
-    w2c_i2 |= w2c_i3;
-    w2c_i1 ^= w2c_i2;
-    w2c_j1 = (u64)(w2c_i1);
-    w2c_j0 |= w2c_j1;
-    w2c_p1 = w2c_j0;
-    w2c_i0 = w2c_l14;
-    w2c_i1 = 16u;
-    w2c_i0 >>= (w2c_i1 & 31);
-    w2c_j0 = (u64)(w2c_i0);
-    w2c_j1 = 255ull;
-    w2c_j0 &= w2c_j1;
-    w2c_j1 = 65832ull;
-    w2c_j0 += w2c_j1;
-    w2c_i0 = (u32)(w2c_j0);
-    w2c_i0 = constant_i32_load8_u((u64)(w2c_i0));
-    w2c_i1 = 8u;
-    w2c_i0 <<= (w2c_i1 & 31);
-    w2c_i1 = w2c_l11;
-    w2c_j1 = (u64)(w2c_i1);
-    w2c_l7 = w2c_j1;
-    w2c_j2 = 24ull;
-    w2c_j1 >>= (w2c_j2 & 63);
-    w2c_i1 = (u32)(w2c_j1);
-    w2c_i1 = constant_i32_load8_u((u64)(w2c_i1) + 65832u);
-    w2c_i0 |= w2c_i1;
-    w2c_i1 = w2c_l12;
-    w2c_i2 = 8u;
-    w2c_i1 >>= (w2c_i2 & 31);
-    w2c_j1 = (u64)(w2c_i1);
-    w2c_j2 = 255ull;
-    w2c_j1 &= w2c_j2;
-    w2c_j2 = 65832ull;
-    w2c_j1 += w2c_j2;
-    w2c_i1 = (u32)(w2c_j1);
-    w2c_i1 = constant_i32_load8_u((u64)(w2c_i1));
-    w2c_i2 = 16u;
-    w2c_i1 <<= (w2c_i2 & 31);
-    w2c_i0 |= w2c_i1;
-    w2c_j1 = w2c_l9;
-    w2c_j2 = 255ull;
-    w2c_j1 &= w2c_j2;
-    w2c_i1 = (u32)(w2c_j1);
-    w2c_i1 = constant_i32_load8_u((u64)(w2c_i1) + 65832u);
-    w2c_i2 = 24u;
-    w2c_i1 <<= (w2c_i2 & 31);
-    w2c_i0 |= w2c_i1;
-    w2c_j1 = w2c_l8;
-    w2c_i1 = (u32)(w2c_j1);
-    w2c_i1 = i32_load(memory, (u64)(w2c_i1) + 4u);
-    w2c_l11 = w2c_i1;
-    w2c_i2 = 16711935u;
-    w2c_i1 &= w2c_i2;
-    w2c_i2 = 8u;
-    w2c_i1 = I32_ROTR(w2c_i1, w2c_i2);
-    w2c_i2 = w2c_l11;
-    w2c_i3 = 24u;
-    w2c_i2 = I32_ROTR(w2c_i2, w2c_i3);
-    w2c_i3 = 16711935u;
-    w2c_i2 &= w2c_i3;
-    w2c_i1 |= w2c_i2;
-    w2c_i0 ^= w2c_i1;
-    w2c_l11 = w2c_i0;
-    w2c_i0 = w2c_l12;
-    w2c_i1 = 16u;
-    w2c_i0 >>= (w2c_i1 & 31);
-    w2c_j0 = (u64)(w2c_i0);
-    w2c_j1 = 255ull;
-    w2c_j0 &= w2c_j1;
-    w2c_j1 = 65832ull;
-    w2c_j0 += w2c_j1;
-    w2c_i0 = (u32)(w2c_j0);
-    w2c_i0 = constant_i32_load8_u((u64)(w2c_i0));
-    w2c_i1 = 8u;
-    w2c_i0 <<= (w2c_i1 & 31);
-    w2c_j1 = w2c_l5;
-    w2c_j2 = 24ull;
-    w2c_j1 >>= (w2c_j2 & 63);
-    w2c_i1 = (u32)(w2c_j1);
-    w2c_i1 = constant_i32_load8_u((u64)(w2c_i1) + 65832u);
-    w2c_i0 |= w2c_i1;
-    w2c_i1 = w2c_l13;
-    w2c_i2 = 8u;
-    w2c_i1 >>= (w2c_i2 & 31);
-    w2c_j1 = (u64)(w2c_i1);
-    w2c_j2 = 255ull;
-    w2c_j1 &= w2c_j2;
-    w2c_j2 = 65832ull;
-    w2c_j1 += w2c_j2;
-    w2c_i1 = (u32)(w2c_j1);
-    w2c_i1 = constant_i32_load8_u((u64)(w2c_i1));
-    w2c_i2 = 16u;
-    w2c_i1 <<= (w2c_i2 & 31);
-    w2c_i0 |= w2c_i1;
-    w2c_j1 = w2c_l7;
-    w2c_j2 = 255ull;
-    w2c_j1 &= w2c_j2;
-    w2c_i1 = (u32)(w2c_j1);
-    w2c_i1 = constant_i32_load8_u((u64)(w2c_i1) + 65832u);
-    w2c_i2 = 24u;
-    w2c_i1 <<= (w2c_i2 & 31);
-    w2c_i0 |= w2c_i1;
-    w2c_j1 = w2c_l8;
-    w2c_i1 = (u32)(w2c_j1);
-    w2c_i1 = i32_load(memory, (u64)(w2c_i1));
-    w2c_l14 = w2c_i1;
-    w2c_i2 = 16711935u;
-    w2c_i1 &= w2c_i2;
-    w2c_i2 = 8u;
-    w2c_i1 = I32_ROTR(w2c_i1, w2c_i2);
-    w2c_i2 = w2c_l14;
-    w2c_i3 = 24u;
-    w2c_i2 = I32_ROTR(w2c_i2, w2c_i3);
-    w2c_i3 = 16711935u;
-    w2c_i2 &= w2c_i3;
-    w2c_i1 |= w2c_i2;
-    w2c_i0 ^= w2c_i1;
-    w2c_l14 = w2c_i0;
-    w2c_j0 = w2c_p3;
-    w2c_j1 = 9ull;
-    w2c_i0 = w2c_j0 < w2c_j1;
-    if (w2c_i0) {goto w2c_B6;}
-    w2c_j0 = w2c_p2;
-    w2c_j1 = w2c_l6;
-    w2c_j2 = w2c_l4;
-    w2c_j1 = REM_U(w2c_j1, w2c_j2);
-    w2c_l5 = w2c_j1;
-    w2c_j2 = 3ull;
-    w2c_j1 <<= (w2c_j2 & 63);
-    w2c_j0 += w2c_j1;
-    w2c_i0 = (u32)(w2c_j0);
-    w2c_j1 = w2c_p1;
-    i64_store(memory, (u64)(w2c_i0), w2c_j1);
-    w2c_i0 = w2c_l11;
-    w2c_j0 = (u64)(w2c_i0);
-    w2c_j1 = 32ull;
-    w2c_j0 <<= (w2c_j1 & 63);
-    w2c_i1 = w2c_l14;
-    w2c_j1 = (u64)(w2c_i1);
-    w2c_j0 |= w2c_j1;
-    w2c_j1 = w2c_l6;
-    w2c_j2 = 56ull;
-    w2c_j1 <<= (w2c_j2 & 63);
-    w2c_j2 = w2c_l6;
-    w2c_j3 = 65280ull;
-    w2c_j2 &= w2c_j3;
-    w2c_j3 = 40ull;
-    w2c_j2 <<= (w2c_j3 & 63);
-    w2c_j1 |= w2c_j2;
-    w2c_j2 = w2c_l6;
-    w2c_j3 = 16711680ull;
-    w2c_j2 &= w2c_j3;
-    w2c_j3 = 24ull;
-    w2c_j2 <<= (w2c_j3 & 63);
-    w2c_j3 = w2c_l6;
-    w2c_j4 = 4278190080ull;
-    w2c_j3 &= w2c_j4;
-    w2c_j4 = 8ull;
-    w2c_j3 <<= (w2c_j4 & 63);
-    w2c_j2 |= w2c_j3;
-    w2c_j1 |= w2c_j2;
-    w2c_j2 = w2c_l6;
-    w2c_j3 = 8ull;
-    w2c_j2 >>= (w2c_j3 & 63);
-    w2c_j3 = 4278190080ull;
-    w2c_j2 &= w2c_j3;
-    w2c_j3 = w2c_l6;
-    w2c_j4 = 24ull;
-    w2c_j3 >>= (w2c_j4 & 63);
-    w2c_j4 = 16711680ull;
-    w2c_j3 &= w2c_j4;
-    w2c_j2 |= w2c_j3;
-    w2c_j3 = w2c_l6;
-    w2c_j4 = 40ull;
-    w2c_j3 >>= (w2c_j4 & 63);
-    w2c_j4 = 65280ull;
-    w2c_j3 &= w2c_j4;
-    w2c_j4 = w2c_l6;
-    w2c_j5 = 56ull;
-    w2c_j4 >>= (w2c_j5 & 63);
-    w2c_j3 |= w2c_j4;
-    w2c_j2 |= w2c_j3;
-    w2c_j1 |= w2c_j2;
-    w2c_j0 ^= w2c_j1;
-    w2c_l7 = w2c_j0;
-    w2c_j0 = w2c_p2;
-    w2c_j1 = w2c_l4;
-    w2c_j2 = w2c_l5;
-    w2c_j3 = w2c_l5;
-    w2c_i3 = !(w2c_j3);
-    w2c_j1 = w2c_i3 ? w2c_j1 : w2c_j2;
-    w2c_j2 = 3ull;
-    w2c_j1 <<= (w2c_j2 & 63);
-    w2c_j0 += w2c_j1;
-    w2c_j1 = 18446744073709551608ull;
-    w2c_j0 += w2c_j1;
-    w2c_i0 = (u32)(w2c_j0);
-    w2c_j0 = i64_load(memory, (u64)(w2c_i0));
-    w2c_p1 = w2c_j0;
-    goto w2c_B5;
-    w2c_B6:;
-    w2c_j0 = w2c_p2;
-    w2c_i0 = (u32)(w2c_j0);
-    w2c_j1 = w2c_p1;
-    i64_store(memory, (u64)(w2c_i0), w2c_j1);
-    w2c_i0 = w2c_l11;
-    w2c_j0 = (u64)(w2c_i0);
-    w2c_j1 = 32ull;
-    w2c_j0 <<= (w2c_j1 & 63);
-    w2c_i1 = w2c_l14;
-    w2c_j1 = (u64)(w2c_i1);
-    w2c_j0 |= w2c_j1;
-    w2c_l7 = w2c_j0;
-    w2c_B5:;
-    w2c_j0 = w2c_l6;
-    w2c_j1 = 0ull;
-    w2c_i0 = w2c_j0 != w2c_j1;
-    if (w2c_i0) {goto w2c_L2;}
-  w2c_j0 = w2c_l7;
-  w2c_j1 = 56ull;
-  w2c_j0 <<= (w2c_j1 & 63);
-  w2c_j1 = w2c_l7;
-  w2c_j2 = 65280ull;
-  w2c_j1 &= w2c_j2;
-  w2c_j2 = 40ull;
-  w2c_j1 <<= (w2c_j2 & 63);
-  w2c_j0 |= w2c_j1;
-  w2c_j1 = w2c_l7;
-  w2c_j2 = 16711680ull;
-  w2c_j1 &= w2c_j2;
-  w2c_j2 = 24ull;
-  w2c_j1 <<= (w2c_j2 & 63);
-  w2c_j2 = w2c_l7;
-  w2c_j3 = 4278190080ull;
-  w2c_j2 &= w2c_j3;
-  w2c_j3 = 8ull;
-  w2c_j2 <<= (w2c_j3 & 63);
-  w2c_j1 |= w2c_j2;
-  w2c_j0 |= w2c_j1;
-  w2c_j1 = w2c_l7;
-  w2c_j2 = 8ull;
-  w2c_j1 >>= (w2c_j2 & 63);
-  w2c_j2 = 4278190080ull;
-  w2c_j1 &= w2c_j2;
-  w2c_j2 = w2c_l7;
-  w2c_j3 = 24ull;
-  w2c_j2 >>= (w2c_j3 & 63);
-  w2c_j3 = 16711680ull;
-  w2c_j2 &= w2c_j3;
-  w2c_j1 |= w2c_j2;
-  w2c_j2 = w2c_l7;
-  w2c_j3 = 40ull;
-  w2c_j2 >>= (w2c_j3 & 63);
-  w2c_j3 = 65280ull;
-  w2c_j2 &= w2c_j3;
-  w2c_j3 = w2c_l7;
-  w2c_j4 = 56ull;
-  w2c_j3 >>= (w2c_j4 & 63);
-  w2c_j2 |= w2c_j3;
-  w2c_j1 |= w2c_j2;
-  w2c_j0 |= w2c_j1;
-  w2c_p1 = w2c_j0;
-  w2c_B1:;
-  w2c_j0 = w2c_p1;
   goto w2c_Bfunc;
   w2c_B0:;
   UNREACHABLE;
   w2c_Bfunc:;
   return w2c_j0;
 }
-static void w2c_f7(struct instance *instance, u64 w2c_p0, u64 w2c_p1, u64 w2c_p2, u64 w2c_p3, u64 w2c_p4, u64 w2c_p5, u64 w2c_p6, u64 w2c_p7) {
+#endif
+static void w2c_f13(struct instance *instance, u64 w2c_p0, u64 w2c_p1, u64 w2c_p2, u64 w2c_p3) {
+  u32 w2c_l4 = 0, w2c_l5 = 0;
+  const struct memory memory = instance->w2c_memory;
+  (void)memory;
+  u32 w2c_i0, w2c_i1, w2c_i2;
+  u64 w2c_j0, w2c_j1, w2c_j2;
+  w2c_j0 = instance->w2c_g0;
+  w2c_j1 = 16ull;
+  w2c_i0 = (u64)((s64)w2c_j0 < (s64)w2c_j1);
+  if (w2c_i0) {goto w2c_B0;}
+  w2c_j0 = w2c_p1;
+  w2c_i0 = !(w2c_j0);
+  w2c_i0 = !(w2c_i0);
+  if (w2c_i0) {goto w2c_B2;}
+  w2c_i0 = 0u;
+  w2c_l4 = w2c_i0;
+  goto w2c_B1;
+  w2c_B2:;
+  w2c_i0 = 1u;
+  w2c_l4 = w2c_i0;
+  w2c_j0 = w2c_p3;
+  w2c_i0 = !(w2c_j0);
+  if (w2c_i0) {goto w2c_B1;}
+  w2c_j0 = w2c_p3;
+  w2c_j1 = 18446744073709551615ull;
+  w2c_j0 += w2c_j1;
+  w2c_p3 = w2c_j0;
+  w2c_i0 = !(w2c_j0);
+  w2c_l5 = w2c_i0;
+  if (w2c_i0) {goto w2c_B3;}
+  w2c_i0 = w2c_l5;
+  if (w2c_i0) {goto w2c_B3;}
+  w2c_j0 = w2c_p2;
+  w2c_i0 = (u32)(w2c_j0);
+  w2c_i1 = 0u;
+  w2c_j2 = w2c_p3;
+  w2c_i2 = (u32)(w2c_j2);
+  memory_fill(memory, w2c_i0, w2c_i1, w2c_i2);
+  w2c_B3:;
+  w2c_j0 = w2c_p2;
+  w2c_j1 = w2c_p3;
+  w2c_j0 += w2c_j1;
+  w2c_i0 = (u32)(w2c_j0);
+  w2c_i1 = 0u;
+  i32_store8(memory, (u64)(w2c_i0), w2c_i1);
+  w2c_B1:;
+  w2c_j0 = w2c_p0;
+  w2c_i0 = (u32)(w2c_j0);
+  w2c_i1 = w2c_l4;
+  i32_store8(memory, (u64)(w2c_i0) + 1, w2c_i1);
+  w2c_j0 = w2c_p0;
+  w2c_i0 = (u32)(w2c_j0);
+  w2c_i1 = w2c_l4;
+  i32_store8(memory, (u64)(w2c_i0), w2c_i1);
+  goto w2c_Bfunc;
+  w2c_B0:;
+  UNREACHABLE;
+  w2c_Bfunc:;
+}
+#ifdef WITH_AES
+static void w2c_f14(struct instance *instance, u64 w2c_p0, u64 w2c_p1, u64 w2c_p2, u64 w2c_p3, u64 w2c_p4, u64 w2c_p5, u64 w2c_p6, u64 w2c_p7) {
   u32 w2c_l14 = 0, w2c_l15 = 0;
   u64 w2c_l8 = 0, w2c_l9 = 0, w2c_l10 = 0, w2c_l11 = 0, w2c_l12 = 0, w2c_l13 = 0;
   const struct memory memory = instance->w2c_memory;
@@ -3094,27 +2822,27 @@ static void w2c_f7(struct instance *instance, u64 w2c_p0, u64 w2c_p1, u64 w2c_p2
     w2c_j0 = w2c_l8;
     w2c_i0 = (u32)(w2c_j0);
     w2c_j1 = 0ull;
-    i64_store(memory, (u64)(w2c_i0) + 8, w2c_j1);
+    step_i64_store(memory, (u64)(w2c_i0) + 8, w2c_j1);
     w2c_j0 = w2c_l8;
     w2c_i0 = (u32)(w2c_j0);
     w2c_j1 = w2c_p0;
-    i64_store(memory, (u64)(w2c_i0), w2c_j1);
+    step_i64_store(memory, (u64)(w2c_i0), w2c_j1);
     w2c_j0 = w2c_l8;
     w2c_i0 = (u32)(w2c_j0);
     w2c_j1 = 12008468691120727718ull;
-    i64_store(memory, (u64)(w2c_i0) + 16, w2c_j1);
+    step_i64_store(memory, (u64)(w2c_i0) + 16, w2c_j1);
     w2c_j0 = w2c_l8;
     w2c_i0 = (u32)(w2c_j0);
     w2c_j1 = 0ull;
-    i64_store(memory, (u64)(w2c_i0) + 40, w2c_j1);
+    step_i64_store(memory, (u64)(w2c_i0) + 40, w2c_j1);
     w2c_j0 = w2c_l8;
     w2c_i0 = (u32)(w2c_j0);
     w2c_j1 = 0ull;
-    i64_store(memory, (u64)(w2c_i0) + 32, w2c_j1);
+    step_i64_store(memory, (u64)(w2c_i0) + 32, w2c_j1);
     w2c_j0 = w2c_l8;
     w2c_i0 = (u32)(w2c_j0);
     w2c_j1 = 0ull;
-    i64_store(memory, (u64)(w2c_i0) + 24, w2c_j1);
+    step_i64_store(memory, (u64)(w2c_i0) + 24, w2c_j1);
     w2c_j0 = w2c_l8;
     w2c_j1 = 24ull;
     w2c_j0 += w2c_j1;
@@ -3126,7 +2854,7 @@ static void w2c_f7(struct instance *instance, u64 w2c_p0, u64 w2c_p1, u64 w2c_p2
     w2c_j4 = w2c_l10;
     w2c_j5 = w2c_p2;
     w2c_j6 = w2c_p3;
-    w2c_f5(instance, w2c_j0, w2c_j1, w2c_j2, w2c_j3, w2c_j4, w2c_j5, w2c_j6);
+    w2c_f11(instance, w2c_j0, w2c_j1, w2c_j2, w2c_j3, w2c_j4, w2c_j5, w2c_j6);
     w2c_j0 = w2c_l8;
     w2c_i0 = (u32)(w2c_j0);
     w2c_i0 = i32_load8_u(memory, (u64)(w2c_i0) + 24u);
@@ -3150,7 +2878,7 @@ static void w2c_f7(struct instance *instance, u64 w2c_p0, u64 w2c_p1, u64 w2c_p2
     w2c_B6:;
     w2c_j0 = w2c_l8;
     w2c_i0 = (u32)(w2c_j0);
-    w2c_j0 = i64_load(memory, (u64)(w2c_i0) + 40u);
+    w2c_j0 = step_i64_load(memory, (u64)(w2c_i0) + 40u);
     w2c_l13 = w2c_j0;
     w2c_j0 = w2c_l8;
     w2c_i0 = (u32)(w2c_j0);
@@ -3199,7 +2927,7 @@ static void w2c_f7(struct instance *instance, u64 w2c_p0, u64 w2c_p1, u64 w2c_p2
     w2c_j0 = w2c_p5;
     w2c_i0 = (u32)(w2c_j0);
     w2c_j1 = w2c_l9;
-    i64_store(memory, (u64)(w2c_i0), w2c_j1);
+    step_i64_store(memory, (u64)(w2c_i0), w2c_j1);
     w2c_j0 = w2c_p1;
     w2c_j1 = w2c_l10;
     w2c_j0 += w2c_j1;
@@ -3262,7 +2990,7 @@ static void w2c_f7(struct instance *instance, u64 w2c_p0, u64 w2c_p1, u64 w2c_p2
     w2c_j0 = w2c_p1;
     w2c_i0 = (u32)(w2c_j0);
     w2c_j1 = 0ull;
-    i64_store(memory, (u64)(w2c_i0), w2c_j1);
+    step_i64_store(memory, (u64)(w2c_i0), w2c_j1);
     w2c_j0 = w2c_p7;
     w2c_j1 = 1ull;
     w2c_j0 += w2c_j1;
@@ -3280,7 +3008,7 @@ static void w2c_f7(struct instance *instance, u64 w2c_p0, u64 w2c_p1, u64 w2c_p2
     w2c_j0 += w2c_j1;
     w2c_i0 = (u32)(w2c_j0);
     w2c_j1 = 0ull;
-    i64_store(memory, (u64)(w2c_i0), w2c_j1);
+    step_i64_store(memory, (u64)(w2c_i0), w2c_j1);
     w2c_j0 = w2c_p1;
     w2c_j1 = 16ull;
     w2c_j0 += w2c_j1;
@@ -3315,15 +3043,4303 @@ static void w2c_f7(struct instance *instance, u64 w2c_p0, u64 w2c_p1, u64 w2c_p2
   w2c_j0 += w2c_j1;
   w2c_i0 = (u32)(w2c_j0);
   w2c_j1 = 0ull;
-  i64_store(memory, (u64)(w2c_i0), w2c_j1);
+  step_i64_store(memory, (u64)(w2c_i0), w2c_j1);
   w2c_B0:;
   w2c_j0 = w2c_l8;
   w2c_j1 = 48ull;
   w2c_j0 += w2c_j1;
   instance->w2c_g0 = w2c_j0;
 }
+static void w2c_f15(struct instance *instance, u64 w2c_p0, u64 w2c_p1, u64 w2c_p2, u64 w2c_p3, u64 w2c_p4, u64 w2c_p5, u64 w2c_p6, u64 w2c_p7) {
+  u32 w2c_l28 = 0, w2c_l29 = 0, w2c_l30 = 0;
+  u64 w2c_l8 = 0, w2c_l9 = 0, w2c_l10 = 0, w2c_l11 = 0, w2c_l12 = 0, w2c_l13 = 0, w2c_l14 = 0, w2c_l15 = 0, 
+      w2c_l16 = 0, w2c_l17 = 0, w2c_l18 = 0, w2c_l19 = 0, w2c_l20 = 0, w2c_l21 = 0, w2c_l22 = 0, w2c_l23 = 0, 
+      w2c_l24 = 0, w2c_l25 = 0, w2c_l26 = 0, w2c_l27 = 0;
+  const struct memory memory = instance->w2c_memory;
+  (void)memory;
+  u32 w2c_i0, w2c_i1, w2c_i2, w2c_i3;
+  u64 w2c_j0, w2c_j1, w2c_j2, w2c_j3, w2c_j4, w2c_j5, w2c_j6, w2c_j7;
+  w2c_j0 = instance->w2c_g0;
+  w2c_j1 = 13456ull;
+  w2c_j0 -= w2c_j1;
+  w2c_l8 = w2c_j0;
+  instance->w2c_g0 = w2c_j0;
+  w2c_j0 = w2c_l8;
+  w2c_l9 = w2c_j0;
+  w2c_j1 = 16ull;
+  w2c_i0 = (u64)((s64)w2c_j0 < (s64)w2c_j1);
+  if (w2c_i0) {goto w2c_B0;}
+  w2c_j0 = w2c_l9;
+  w2c_j1 = 12687ull;
+  w2c_j0 += w2c_j1;
+  w2c_i0 = (u32)(w2c_j0);
+  w2c_i1 = 0u;
+  w2c_j2 = 768ull;
+  w2c_i2 = (u32)(w2c_j2);
+  memory_fill(memory, w2c_i0, w2c_i1, w2c_i2);
+  w2c_j0 = w2c_l9;
+  w2c_j1 = 15ull;
+  w2c_j0 += w2c_j1;
+  w2c_i0 = (u32)(w2c_j0);
+  w2c_i1 = 0u;
+  w2c_j2 = 12672ull;
+  w2c_i2 = (u32)(w2c_j2);
+  memory_fill(memory, w2c_i0, w2c_i1, w2c_i2);
+  w2c_j0 = w2c_p3;
+  w2c_j1 = 18446744073709551608ull;
+  w2c_j0 += w2c_j1;
+  w2c_j1 = 1048569ull;
+  w2c_i0 = w2c_j0 < w2c_j1;
+  w2c_j1 = w2c_p3;
+  w2c_j2 = 7ull;
+  w2c_j1 &= w2c_j2;
+  w2c_i1 = !(w2c_j1);
+  w2c_i0 &= w2c_i1;
+  w2c_l28 = w2c_i0;
+  w2c_j0 = w2c_p7;
+  w2c_j1 = 48ull;
+  w2c_j0 = DIV_U(w2c_j0, w2c_j1);
+  w2c_l10 = w2c_j0;
+  w2c_j0 = w2c_p3;
+  w2c_j1 = 8ull;
+  w2c_j0 += w2c_j1;
+  w2c_l11 = w2c_j0;
+  w2c_j1 = 48ull;
+  w2c_j0 *= w2c_j1;
+  w2c_l12 = w2c_j0;
+  w2c_j0 = 0ull;
+  w2c_l8 = w2c_j0;
+  w2c_j0 = 48ull;
+  w2c_l13 = w2c_j0;
+  w2c_j0 = 0ull;
+  w2c_l14 = w2c_j0;
+  w2c_j0 = w2c_p5;
+  w2c_l15 = w2c_j0;
+  w2c_j0 = w2c_p4;
+  w2c_l16 = w2c_j0;
+  w2c_j0 = w2c_p6;
+  w2c_l17 = w2c_j0;
+  w2c_L1: 
+    w2c_j0 = w2c_p7;
+    w2c_j1 = w2c_l8;
+    w2c_l18 = w2c_j1;
+    w2c_j2 = 48ull;
+    w2c_j1 *= w2c_j2;
+    w2c_l19 = w2c_j1;
+    w2c_j2 = 48ull;
+    w2c_j1 += w2c_j2;
+    w2c_l8 = w2c_j1;
+    w2c_j2 = w2c_p7;
+    w2c_j3 = w2c_l8;
+    w2c_i2 = w2c_j2 < w2c_j3;
+    w2c_j0 = w2c_i2 ? w2c_j0 : w2c_j1;
+    w2c_l20 = w2c_j0;
+    w2c_j1 = w2c_l19;
+    w2c_j0 -= w2c_j1;
+    w2c_l8 = w2c_j0;
+    w2c_j1 = 4ull;
+    w2c_j0 <<= (w2c_j1 & 63);
+    w2c_l21 = w2c_j0;
+    w2c_j0 = w2c_l18;
+    w2c_j1 = 18446744073709551568ull;
+    w2c_j0 *= w2c_j1;
+    w2c_l22 = w2c_j0;
+    w2c_j0 = w2c_l9;
+    w2c_j1 = 15ull;
+    w2c_j0 += w2c_j1;
+    w2c_j1 = w2c_p1;
+    w2c_j2 = w2c_l19;
+    w2c_j3 = w2c_l11;
+    w2c_j2 *= w2c_j3;
+    w2c_j1 += w2c_j2;
+    w2c_l23 = w2c_j1;
+    w2c_j0 -= w2c_j1;
+    w2c_j1 = w2c_l8;
+    w2c_j2 = w2c_l11;
+    w2c_j1 *= w2c_j2;
+    w2c_l24 = w2c_j1;
+    w2c_i0 = w2c_j0 >= w2c_j1;
+    if (w2c_i0) {goto w2c_B3;}
+    w2c_j0 = w2c_l20;
+    w2c_j1 = w2c_l22;
+    w2c_j0 += w2c_j1;
+    w2c_j1 = w2c_l11;
+    w2c_j0 *= w2c_j1;
+    w2c_l8 = w2c_j0;
+    w2c_i0 = !(w2c_j0);
+    if (w2c_i0) {goto w2c_B2;}
+    w2c_j0 = w2c_l9;
+    w2c_j1 = 15ull;
+    w2c_j0 += w2c_j1;
+    w2c_i0 = (u32)(w2c_j0);
+    w2c_j1 = w2c_p1;
+    w2c_j2 = w2c_l12;
+    w2c_j3 = w2c_l18;
+    w2c_j2 *= w2c_j3;
+    w2c_j1 += w2c_j2;
+    w2c_i1 = (u32)(w2c_j1);
+    w2c_j2 = w2c_l8;
+    w2c_i2 = (u32)(w2c_j2);
+    memory_copy(memory, memory, w2c_i0, w2c_i1, w2c_i2);
+    goto w2c_B2;
+    w2c_B3:;
+    w2c_j0 = w2c_l24;
+    w2c_i0 = !(w2c_j0);
+    if (w2c_i0) {goto w2c_B2;}
+    w2c_j0 = w2c_l9;
+    w2c_j1 = 15ull;
+    w2c_j0 += w2c_j1;
+    w2c_i0 = (u32)(w2c_j0);
+    w2c_j1 = w2c_l23;
+    w2c_i1 = (u32)(w2c_j1);
+    w2c_j2 = w2c_l24;
+    w2c_i2 = (u32)(w2c_j2);
+    memory_copy(memory, memory, w2c_i0, w2c_i1, w2c_i2);
+    w2c_B2:;
+    w2c_j0 = w2c_p0;
+    w2c_j1 = w2c_l9;
+    w2c_j2 = 15ull;
+    w2c_j1 += w2c_j2;
+    w2c_j2 = w2c_l24;
+    w2c_j3 = w2c_l11;
+    w2c_j4 = w2c_l9;
+    w2c_j5 = 12687ull;
+    w2c_j4 += w2c_j5;
+    w2c_j5 = w2c_l21;
+    w2c_f16(instance, w2c_j0, w2c_j1, w2c_j2, w2c_j3, w2c_j4, w2c_j5);
+    w2c_j0 = w2c_l20;
+    w2c_j1 = w2c_l19;
+    w2c_i0 = w2c_j0 == w2c_j1;
+    if (w2c_i0) {goto w2c_B4;}
+    w2c_j0 = w2c_p7;
+    w2c_j1 = w2c_l13;
+    w2c_j2 = w2c_p7;
+    w2c_j3 = w2c_l13;
+    w2c_i2 = w2c_j2 < w2c_j3;
+    w2c_j0 = w2c_i2 ? w2c_j0 : w2c_j1;
+    w2c_l23 = w2c_j0;
+    w2c_i0 = w2c_l28;
+    w2c_i0 = !(w2c_i0);
+    if (w2c_i0) {goto w2c_B6;}
+    w2c_j0 = w2c_l23;
+    w2c_j1 = w2c_l14;
+    w2c_j0 += w2c_j1;
+    w2c_l25 = w2c_j0;
+    w2c_j0 = w2c_l9;
+    w2c_j1 = 12687ull;
+    w2c_j0 += w2c_j1;
+    w2c_l23 = w2c_j0;
+    w2c_j0 = w2c_l9;
+    w2c_j1 = 15ull;
+    w2c_j0 += w2c_j1;
+    w2c_l20 = w2c_j0;
+    w2c_j0 = w2c_l15;
+    w2c_l19 = w2c_j0;
+    w2c_j0 = 0ull;
+    w2c_l22 = w2c_j0;
+    w2c_L7: 
+      w2c_j0 = w2c_l9;
+      w2c_j1 = 8ull;
+      w2c_j0 += w2c_j1;
+      w2c_j1 = w2c_p3;
+      w2c_j2 = 8ull;
+      w2c_i1 = w2c_j1 == w2c_j2;
+      w2c_j2 = w2c_l23;
+      w2c_i2 = (u32)(w2c_j2);
+      w2c_j2 = step_i64_load(memory, (u64)(w2c_i2));
+      w2c_l8 = w2c_j2;
+      w2c_j3 = 12008468691120727718ull;
+      w2c_i2 = w2c_j2 != w2c_j3;
+      w2c_i1 |= w2c_i2;
+      w2c_j2 = w2c_p3;
+      w2c_j3 = w2c_l8;
+      w2c_j4 = 8ull;
+      w2c_j3 >>= (w2c_j4 & 63);
+      w2c_j4 = 4278190080ull;
+      w2c_j3 &= w2c_j4;
+      w2c_j4 = w2c_l8;
+      w2c_j5 = 24ull;
+      w2c_j4 >>= (w2c_j5 & 63);
+      w2c_j5 = 16711680ull;
+      w2c_j4 &= w2c_j5;
+      w2c_j3 |= w2c_j4;
+      w2c_j4 = w2c_l8;
+      w2c_j5 = 40ull;
+      w2c_j4 >>= (w2c_j5 & 63);
+      w2c_j5 = 65280ull;
+      w2c_j4 &= w2c_j5;
+      w2c_j5 = w2c_l8;
+      w2c_j6 = 56ull;
+      w2c_j5 >>= (w2c_j6 & 63);
+      w2c_j4 |= w2c_j5;
+      w2c_j3 |= w2c_j4;
+      w2c_l26 = w2c_j3;
+      w2c_j2 -= w2c_j3;
+      w2c_l27 = w2c_j2;
+      w2c_j3 = 3ull;
+      w2c_j2 >>= (w2c_j3 & 63);
+      w2c_j3 = w2c_l8;
+      w2c_j4 = 56ull;
+      w2c_j3 <<= (w2c_j4 & 63);
+      w2c_j4 = w2c_l8;
+      w2c_j5 = 65280ull;
+      w2c_j4 &= w2c_j5;
+      w2c_j5 = 40ull;
+      w2c_j4 <<= (w2c_j5 & 63);
+      w2c_j3 |= w2c_j4;
+      w2c_j4 = w2c_l8;
+      w2c_j5 = 16711680ull;
+      w2c_j4 &= w2c_j5;
+      w2c_j5 = 24ull;
+      w2c_j4 <<= (w2c_j5 & 63);
+      w2c_j5 = w2c_l8;
+      w2c_j6 = 4278190080ull;
+      w2c_j5 &= w2c_j6;
+      w2c_j6 = 8ull;
+      w2c_j5 <<= (w2c_j6 & 63);
+      w2c_j4 |= w2c_j5;
+      w2c_j3 |= w2c_j4;
+      w2c_j4 = 32ull;
+      w2c_j3 >>= (w2c_j4 & 63);
+      w2c_j4 = 2790873510ull;
+      w2c_j3 ^= w2c_j4;
+      w2c_j2 |= w2c_j3;
+      w2c_j3 = w2c_l20;
+      w2c_j4 = w2c_p3;
+      w2c_j3 += w2c_j4;
+      w2c_i3 = (u32)(w2c_j3);
+      w2c_j3 = step_i64_load(memory, (u64)(w2c_i3));
+      w2c_l8 = w2c_j3;
+      w2c_j4 = 56ull;
+      w2c_j3 <<= (w2c_j4 & 63);
+      w2c_j4 = w2c_l8;
+      w2c_j5 = 65280ull;
+      w2c_j4 &= w2c_j5;
+      w2c_j5 = 40ull;
+      w2c_j4 <<= (w2c_j5 & 63);
+      w2c_j3 |= w2c_j4;
+      w2c_j4 = w2c_l8;
+      w2c_j5 = 16711680ull;
+      w2c_j4 &= w2c_j5;
+      w2c_j5 = 24ull;
+      w2c_j4 <<= (w2c_j5 & 63);
+      w2c_j5 = w2c_l8;
+      w2c_j6 = 4278190080ull;
+      w2c_j5 &= w2c_j6;
+      w2c_j6 = 8ull;
+      w2c_j5 <<= (w2c_j6 & 63);
+      w2c_j4 |= w2c_j5;
+      w2c_j3 |= w2c_j4;
+      w2c_j4 = w2c_l8;
+      w2c_j5 = 8ull;
+      w2c_j4 >>= (w2c_j5 & 63);
+      w2c_j5 = 4278190080ull;
+      w2c_j4 &= w2c_j5;
+      w2c_j5 = w2c_l8;
+      w2c_j6 = 24ull;
+      w2c_j5 >>= (w2c_j6 & 63);
+      w2c_j6 = 16711680ull;
+      w2c_j5 &= w2c_j6;
+      w2c_j4 |= w2c_j5;
+      w2c_j5 = w2c_l8;
+      w2c_j6 = 40ull;
+      w2c_j5 >>= (w2c_j6 & 63);
+      w2c_j6 = 65280ull;
+      w2c_j5 &= w2c_j6;
+      w2c_j6 = w2c_l8;
+      w2c_j7 = 56ull;
+      w2c_j6 >>= (w2c_j7 & 63);
+      w2c_j5 |= w2c_j6;
+      w2c_j4 |= w2c_j5;
+      w2c_j3 |= w2c_j4;
+      w2c_j4 = 18446744073709551615ull;
+      w2c_j5 = w2c_l27;
+      w2c_j6 = 3ull;
+      w2c_j5 <<= (w2c_j6 & 63);
+      w2c_j4 <<= (w2c_j5 & 63);
+      w2c_j5 = 18446744073709551615ull;
+      w2c_j4 ^= w2c_j5;
+      w2c_j3 &= w2c_j4;
+      w2c_j2 |= w2c_j3;
+      w2c_l8 = w2c_j2;
+      w2c_j3 = 0ull;
+      w2c_i2 = w2c_j2 != w2c_j3;
+      w2c_i1 &= w2c_i2;
+      w2c_j1 = (u64)(w2c_i1);
+      w2c_j2 = w2c_l20;
+      w2c_j3 = 8ull;
+      w2c_j2 += w2c_j3;
+      w2c_j3 = w2c_p3;
+      w2c_f13(instance, w2c_j0, w2c_j1, w2c_j2, w2c_j3);
+      w2c_j0 = w2c_l9;
+      w2c_i0 = (u32)(w2c_j0);
+      w2c_i0 = i32_load8_u(memory, (u64)(w2c_i0) + 8u);
+      w2c_i0 = !(w2c_i0);
+      if (w2c_i0) {goto w2c_B9;}
+      w2c_i0 = 5u;
+      w2c_l29 = w2c_i0;
+      w2c_i0 = 0u;
+      w2c_l30 = w2c_i0;
+      w2c_j0 = 0ull;
+      w2c_l8 = w2c_j0;
+      goto w2c_B8;
+      w2c_B9:;
+      w2c_j0 = w2c_l9;
+      w2c_j1 = w2c_l8;
+      w2c_j2 = w2c_l9;
+      w2c_j3 = 13455ull;
+      w2c_j2 += w2c_j3;
+      w2c_j3 = 0ull;
+      w2c_f13(instance, w2c_j0, w2c_j1, w2c_j2, w2c_j3);
+      w2c_j0 = w2c_p3;
+      w2c_j1 = w2c_l26;
+      w2c_j2 = w2c_l9;
+      w2c_i2 = (u32)(w2c_j2);
+      w2c_i2 = i32_load8_u(memory, (u64)(w2c_i2));
+      w2c_l29 = w2c_i2;
+      w2c_j0 = w2c_i2 ? w2c_j0 : w2c_j1;
+      w2c_l8 = w2c_j0;
+      w2c_i0 = w2c_l29;
+      w2c_i0 = !(w2c_i0);
+      w2c_l30 = w2c_i0;
+      w2c_i0 = 0u;
+      w2c_l29 = w2c_i0;
+      w2c_B8:;
+      w2c_j0 = w2c_l17;
+      w2c_j1 = w2c_l22;
+      w2c_j0 += w2c_j1;
+      w2c_i0 = (u32)(w2c_j0);
+      w2c_i1 = w2c_l29;
+      i32_store8(memory, (u64)(w2c_i0), w2c_i1);
+      w2c_j0 = w2c_l16;
+      w2c_j1 = w2c_l22;
+      w2c_j0 += w2c_j1;
+      w2c_i0 = (u32)(w2c_j0);
+      w2c_i1 = w2c_l30;
+      i32_store8(memory, (u64)(w2c_i0), w2c_i1);
+      w2c_j0 = w2c_l19;
+      w2c_i0 = (u32)(w2c_j0);
+      w2c_j1 = w2c_l8;
+      step_i64_store(memory, (u64)(w2c_i0), w2c_j1);
+      w2c_j0 = w2c_l20;
+      w2c_j1 = w2c_l11;
+      w2c_j0 += w2c_j1;
+      w2c_l20 = w2c_j0;
+      w2c_j0 = w2c_l23;
+      w2c_j1 = 16ull;
+      w2c_j0 += w2c_j1;
+      w2c_l23 = w2c_j0;
+      w2c_j0 = w2c_l19;
+      w2c_j1 = 8ull;
+      w2c_j0 += w2c_j1;
+      w2c_l19 = w2c_j0;
+      w2c_j0 = w2c_l25;
+      w2c_j1 = w2c_l22;
+      w2c_j2 = 1ull;
+      w2c_j1 += w2c_j2;
+      w2c_l22 = w2c_j1;
+      w2c_i0 = w2c_j0 != w2c_j1;
+      if (w2c_i0) {goto w2c_L7;}
+      goto w2c_B5;
+    UNREACHABLE;
+    w2c_B6:;
+    w2c_j0 = 0ull;
+    w2c_l8 = w2c_j0;
+    w2c_j0 = w2c_l20;
+    w2c_j1 = 1ull;
+    w2c_j2 = w2c_l22;
+    w2c_j1 -= w2c_j2;
+    w2c_i0 = w2c_j0 == w2c_j1;
+    if (w2c_i0) {goto w2c_B10;}
+    w2c_j0 = w2c_l14;
+    w2c_j1 = w2c_l23;
+    w2c_j2 = 18446744073709551614ull;
+    w2c_j1 &= w2c_j2;
+    w2c_j0 += w2c_j1;
+    w2c_l27 = w2c_j0;
+    w2c_j0 = w2c_l20;
+    w2c_j1 = 1ull;
+    w2c_j0 &= w2c_j1;
+    w2c_l26 = w2c_j0;
+    w2c_j0 = w2c_l15;
+    w2c_l20 = w2c_j0;
+    w2c_j0 = 0ull;
+    w2c_l8 = w2c_j0;
+    w2c_L11: 
+      w2c_j0 = w2c_l17;
+      w2c_j1 = w2c_l8;
+      w2c_j0 += w2c_j1;
+      w2c_l22 = w2c_j0;
+      w2c_i0 = (u32)(w2c_j0);
+      w2c_i1 = 5u;
+      i32_store8(memory, (u64)(w2c_i0), w2c_i1);
+      w2c_j0 = w2c_l16;
+      w2c_j1 = w2c_l8;
+      w2c_j0 += w2c_j1;
+      w2c_l23 = w2c_j0;
+      w2c_i0 = (u32)(w2c_j0);
+      w2c_i1 = 0u;
+      i32_store8(memory, (u64)(w2c_i0), w2c_i1);
+      w2c_j0 = w2c_l20;
+      w2c_i0 = (u32)(w2c_j0);
+      w2c_j1 = 0ull;
+      step_i64_store(memory, (u64)(w2c_i0), w2c_j1);
+      w2c_j0 = w2c_l22;
+      w2c_j1 = 1ull;
+      w2c_j0 += w2c_j1;
+      w2c_i0 = (u32)(w2c_j0);
+      w2c_i1 = 5u;
+      i32_store8(memory, (u64)(w2c_i0), w2c_i1);
+      w2c_j0 = w2c_l23;
+      w2c_j1 = 1ull;
+      w2c_j0 += w2c_j1;
+      w2c_i0 = (u32)(w2c_j0);
+      w2c_i1 = 0u;
+      i32_store8(memory, (u64)(w2c_i0), w2c_i1);
+      w2c_j0 = w2c_l20;
+      w2c_j1 = 8ull;
+      w2c_j0 += w2c_j1;
+      w2c_i0 = (u32)(w2c_j0);
+      w2c_j1 = 0ull;
+      step_i64_store(memory, (u64)(w2c_i0), w2c_j1);
+      w2c_j0 = w2c_l20;
+      w2c_j1 = 16ull;
+      w2c_j0 += w2c_j1;
+      w2c_l20 = w2c_j0;
+      w2c_j0 = w2c_l27;
+      w2c_j1 = w2c_l8;
+      w2c_j2 = 2ull;
+      w2c_j1 += w2c_j2;
+      w2c_l8 = w2c_j1;
+      w2c_i0 = w2c_j0 != w2c_j1;
+      if (w2c_i0) {goto w2c_L11;}
+    w2c_j0 = w2c_l26;
+    w2c_i0 = !(w2c_j0);
+    if (w2c_i0) {goto w2c_B5;}
+    w2c_B10:;
+    w2c_j0 = w2c_p6;
+    w2c_j1 = w2c_l19;
+    w2c_j0 += w2c_j1;
+    w2c_j1 = w2c_l8;
+    w2c_j0 += w2c_j1;
+    w2c_i0 = (u32)(w2c_j0);
+    w2c_i1 = 5u;
+    i32_store8(memory, (u64)(w2c_i0), w2c_i1);
+    w2c_j0 = w2c_p4;
+    w2c_j1 = w2c_l19;
+    w2c_j0 += w2c_j1;
+    w2c_j1 = w2c_l8;
+    w2c_j0 += w2c_j1;
+    w2c_i0 = (u32)(w2c_j0);
+    w2c_i1 = 0u;
+    i32_store8(memory, (u64)(w2c_i0), w2c_i1);
+    w2c_j0 = w2c_p5;
+    w2c_j1 = w2c_l18;
+    w2c_j2 = 384ull;
+    w2c_j1 *= w2c_j2;
+    w2c_j0 += w2c_j1;
+    w2c_j1 = w2c_l8;
+    w2c_j2 = 3ull;
+    w2c_j1 <<= (w2c_j2 & 63);
+    w2c_j0 += w2c_j1;
+    w2c_i0 = (u32)(w2c_j0);
+    w2c_j1 = 0ull;
+    step_i64_store(memory, (u64)(w2c_i0), w2c_j1);
+    w2c_B5:;
+    w2c_j0 = w2c_l24;
+    w2c_i0 = !(w2c_j0);
+    if (w2c_i0) {goto w2c_B12;}
+    w2c_j0 = w2c_l24;
+    w2c_j1 = 18446744073709551615ull;
+    w2c_j0 += w2c_j1;
+    w2c_l8 = w2c_j0;
+    w2c_i0 = !(w2c_j0);
+    w2c_l29 = w2c_i0;
+    if (w2c_i0) {goto w2c_B13;}
+    w2c_i0 = w2c_l29;
+    if (w2c_i0) {goto w2c_B13;}
+    w2c_j0 = w2c_l9;
+    w2c_j1 = 15ull;
+    w2c_j0 += w2c_j1;
+    w2c_i0 = (u32)(w2c_j0);
+    w2c_i1 = 0u;
+    w2c_j2 = w2c_l8;
+    w2c_i2 = (u32)(w2c_j2);
+    memory_fill(memory, w2c_i0, w2c_i1, w2c_i2);
+    w2c_B13:;
+    w2c_j0 = w2c_l9;
+    w2c_j1 = 15ull;
+    w2c_j0 += w2c_j1;
+    w2c_j1 = w2c_l8;
+    w2c_j0 += w2c_j1;
+    w2c_i0 = (u32)(w2c_j0);
+    w2c_i1 = 0u;
+    i32_store8(memory, (u64)(w2c_i0), w2c_i1);
+    w2c_B12:;
+    w2c_j0 = w2c_l21;
+    w2c_i0 = !(w2c_j0);
+    if (w2c_i0) {goto w2c_B4;}
+    w2c_j0 = w2c_l21;
+    w2c_j1 = 18446744073709551615ull;
+    w2c_j0 += w2c_j1;
+    w2c_l8 = w2c_j0;
+    w2c_i0 = !(w2c_j0);
+    if (w2c_i0) {goto w2c_B14;}
+    w2c_j0 = w2c_l9;
+    w2c_j1 = 12687ull;
+    w2c_j0 += w2c_j1;
+    w2c_i0 = (u32)(w2c_j0);
+    w2c_i1 = 0u;
+    w2c_j2 = w2c_l8;
+    w2c_i2 = (u32)(w2c_j2);
+    memory_fill(memory, w2c_i0, w2c_i1, w2c_i2);
+    w2c_B14:;
+    w2c_j0 = w2c_l9;
+    w2c_j1 = 12687ull;
+    w2c_j0 += w2c_j1;
+    w2c_j1 = w2c_l8;
+    w2c_j0 += w2c_j1;
+    w2c_i0 = (u32)(w2c_j0);
+    w2c_i1 = 0u;
+    i32_store8(memory, (u64)(w2c_i0), w2c_i1);
+    w2c_B4:;
+    w2c_j0 = w2c_l13;
+    w2c_j1 = 48ull;
+    w2c_j0 += w2c_j1;
+    w2c_l13 = w2c_j0;
+    w2c_j0 = w2c_l14;
+    w2c_j1 = 18446744073709551568ull;
+    w2c_j0 += w2c_j1;
+    w2c_l14 = w2c_j0;
+    w2c_j0 = w2c_l15;
+    w2c_j1 = 384ull;
+    w2c_j0 += w2c_j1;
+    w2c_l15 = w2c_j0;
+    w2c_j0 = w2c_l16;
+    w2c_j1 = 48ull;
+    w2c_j0 += w2c_j1;
+    w2c_l16 = w2c_j0;
+    w2c_j0 = w2c_l17;
+    w2c_j1 = 48ull;
+    w2c_j0 += w2c_j1;
+    w2c_l17 = w2c_j0;
+    w2c_j0 = w2c_l18;
+    w2c_j1 = 1ull;
+    w2c_j0 += w2c_j1;
+    w2c_l8 = w2c_j0;
+    w2c_j0 = w2c_l18;
+    w2c_j1 = w2c_l10;
+    w2c_i0 = w2c_j0 != w2c_j1;
+    if (w2c_i0) {goto w2c_L1;}
+  w2c_j0 = w2c_p3;
+  w2c_i0 = !(w2c_j0);
+  if (w2c_i0) {goto w2c_B15;}
+  w2c_j0 = w2c_p3;
+  w2c_j1 = 18446744073709551615ull;
+  w2c_j0 += w2c_j1;
+  w2c_l8 = w2c_j0;
+  w2c_i0 = !(w2c_j0);
+  w2c_l29 = w2c_i0;
+  if (w2c_i0) {goto w2c_B16;}
+  w2c_i0 = w2c_l29;
+  if (w2c_i0) {goto w2c_B16;}
+  w2c_j0 = w2c_p2;
+  w2c_i0 = (u32)(w2c_j0);
+  w2c_i1 = 0u;
+  w2c_j2 = w2c_l8;
+  w2c_i2 = (u32)(w2c_j2);
+  memory_fill(memory, w2c_i0, w2c_i1, w2c_i2);
+  w2c_B16:;
+  w2c_j0 = w2c_p2;
+  w2c_j1 = w2c_l8;
+  w2c_j0 += w2c_j1;
+  w2c_i0 = (u32)(w2c_j0);
+  w2c_i1 = 0u;
+  i32_store8(memory, (u64)(w2c_i0), w2c_i1);
+  w2c_B15:;
+  w2c_j0 = w2c_l9;
+  w2c_j1 = 13456ull;
+  w2c_j0 += w2c_j1;
+  instance->w2c_g0 = w2c_j0;
+  goto w2c_Bfunc;
+  w2c_B0:;
+  UNREACHABLE;
+  w2c_Bfunc:;
+}
+static void w2c_f16(struct instance *instance, u64 w2c_p0, u64 w2c_p1, u64 w2c_p2, u64 w2c_p3, u64 w2c_p4, u64 w2c_p5) {
+  u32 w2c_l24 = 0, w2c_l25 = 0;
+  u64 w2c_l6 = 0, w2c_l7 = 0, w2c_l8 = 0, w2c_l9 = 0, w2c_l10 = 0, w2c_l11 = 0, w2c_l12 = 0, w2c_l13 = 0, 
+      w2c_l14 = 0, w2c_l15 = 0, w2c_l16 = 0, w2c_l17 = 0, w2c_l18 = 0, w2c_l19 = 0, w2c_l20 = 0, w2c_l21 = 0, 
+      w2c_l22 = 0, w2c_l23 = 0;
+  const struct memory memory = instance->w2c_memory;
+  (void)memory;
+  u32 w2c_i0, w2c_i1, w2c_i2;
+  u64 w2c_j0, w2c_j1, w2c_j2, w2c_j3, w2c_j4;
+  w2c_j0 = instance->w2c_g0;
+  w2c_j1 = 32ull;
+  w2c_j0 -= w2c_j1;
+  w2c_l6 = w2c_j0;
+  instance->w2c_g0 = w2c_j0;
+  w2c_j0 = w2c_l6;
+  w2c_l7 = w2c_j0;
+  w2c_j1 = 16ull;
+  w2c_i0 = (u64)((s64)w2c_j0 < (s64)w2c_j1);
+  if (w2c_i0) {goto w2c_B2;}
+  w2c_j0 = w2c_p3;
+  w2c_j1 = 18446744073709551592ull;
+  w2c_j0 += w2c_j1;
+  w2c_j1 = 1048561ull;
+  w2c_i0 = w2c_j0 < w2c_j1;
+  w2c_j1 = w2c_p5;
+  w2c_j2 = 15ull;
+  w2c_j1 &= w2c_j2;
+  w2c_j2 = w2c_p3;
+  w2c_j3 = 7ull;
+  w2c_j2 &= w2c_j3;
+  w2c_l8 = w2c_j2;
+  w2c_j1 |= w2c_j2;
+  w2c_i1 = !(w2c_j1);
+  w2c_i0 &= w2c_i1;
+  w2c_l24 = w2c_i0;
+  w2c_i1 = 1u;
+  w2c_i0 = w2c_i0 != w2c_i1;
+  if (w2c_i0) {goto w2c_B3;}
+  w2c_j0 = w2c_l7;
+  w2c_j1 = 16ull;
+  w2c_j0 += w2c_j1;
+  w2c_j1 = w2c_p5;
+  w2c_j2 = 4ull;
+  w2c_j1 >>= (w2c_j2 & 63);
+  w2c_l6 = w2c_j1;
+  w2c_j2 = 0ull;
+  w2c_j3 = w2c_p3;
+  w2c_j4 = 0ull;
+  w2c_f9(instance, w2c_j0, w2c_j1, w2c_j2, w2c_j3, w2c_j4);
+  w2c_j0 = 0ull;
+  w2c_j1 = w2c_l6;
+  w2c_j2 = w2c_p3;
+  w2c_j1 *= w2c_j2;
+  w2c_j2 = w2c_l7;
+  w2c_i2 = (u32)(w2c_j2);
+  w2c_j2 = step_i64_load(memory, (u64)(w2c_i2) + 24u);
+  w2c_j3 = 0ull;
+  w2c_i2 = w2c_j2 != w2c_j3;
+  w2c_l25 = w2c_i2;
+  w2c_j0 = w2c_i2 ? w2c_j0 : w2c_j1;
+  w2c_j1 = w2c_p2;
+  w2c_i0 = w2c_j0 != w2c_j1;
+  if (w2c_i0) {goto w2c_B3;}
+  w2c_j0 = w2c_l6;
+  w2c_i0 = !(w2c_j0);
+  if (w2c_i0) {goto w2c_B3;}
+  w2c_i0 = w2c_l25;
+  if (w2c_i0) {goto w2c_B3;}
+  w2c_j0 = 0ull;
+  w2c_l9 = w2c_j0;
+  w2c_j0 = w2c_l8;
+  w2c_j1 = 0ull;
+  w2c_i0 = w2c_j0 != w2c_j1;
+  if (w2c_i0) {goto w2c_B4;}
+  w2c_j0 = w2c_p3;
+  w2c_j1 = 18446744073709551608ull;
+  w2c_j0 += w2c_j1;
+  w2c_j1 = 3ull;
+  w2c_j0 >>= (w2c_j1 & 63);
+  w2c_j1 = 6ull;
+  w2c_j0 *= w2c_j1;
+  w2c_l8 = w2c_j0;
+  w2c_j1 = 56ull;
+  w2c_j0 <<= (w2c_j1 & 63);
+  w2c_j1 = w2c_l8;
+  w2c_j2 = 65280ull;
+  w2c_j1 &= w2c_j2;
+  w2c_j2 = 40ull;
+  w2c_j1 <<= (w2c_j2 & 63);
+  w2c_j0 |= w2c_j1;
+  w2c_j1 = w2c_l8;
+  w2c_j2 = 16711680ull;
+  w2c_j1 &= w2c_j2;
+  w2c_j2 = 24ull;
+  w2c_j1 <<= (w2c_j2 & 63);
+  w2c_j2 = w2c_l8;
+  w2c_j3 = 4278190080ull;
+  w2c_j2 &= w2c_j3;
+  w2c_j3 = 8ull;
+  w2c_j2 <<= (w2c_j3 & 63);
+  w2c_j1 |= w2c_j2;
+  w2c_j0 |= w2c_j1;
+  w2c_j1 = w2c_l8;
+  w2c_j2 = 8ull;
+  w2c_j1 >>= (w2c_j2 & 63);
+  w2c_j2 = 4278190080ull;
+  w2c_j1 &= w2c_j2;
+  w2c_j2 = w2c_l8;
+  w2c_j3 = 24ull;
+  w2c_j2 >>= (w2c_j3 & 63);
+  w2c_j3 = 16711680ull;
+  w2c_j2 &= w2c_j3;
+  w2c_j1 |= w2c_j2;
+  w2c_j2 = w2c_l8;
+  w2c_j3 = 40ull;
+  w2c_j2 >>= (w2c_j3 & 63);
+  w2c_j3 = 65280ull;
+  w2c_j2 &= w2c_j3;
+  w2c_j3 = w2c_l8;
+  w2c_j4 = 56ull;
+  w2c_j3 >>= (w2c_j4 & 63);
+  w2c_j2 |= w2c_j3;
+  w2c_j1 |= w2c_j2;
+  w2c_j0 |= w2c_j1;
+  w2c_l10 = w2c_j0;
+  w2c_j0 = w2c_l6;
+  w2c_j1 = 1ull;
+  w2c_i0 = w2c_j0 == w2c_j1;
+  if (w2c_i0) {goto w2c_B5;}
+  w2c_j0 = w2c_l6;
+  w2c_j1 = 1ull;
+  w2c_j0 &= w2c_j1;
+  w2c_l11 = w2c_j0;
+  w2c_j0 = w2c_p3;
+  w2c_j1 = 18446744073709551608ull;
+  w2c_j0 += w2c_j1;
+  w2c_l12 = w2c_j0;
+  w2c_j0 = w2c_p3;
+  w2c_j1 = 1ull;
+  w2c_j0 <<= (w2c_j1 & 63);
+  w2c_l13 = w2c_j0;
+  w2c_j1 = 18446744073709551608ull;
+  w2c_j0 += w2c_j1;
+  w2c_l14 = w2c_j0;
+  w2c_j0 = 0ull;
+  w2c_l9 = w2c_j0;
+  w2c_j0 = 0ull;
+  w2c_j1 = w2c_p5;
+  w2c_j2 = 4ull;
+  w2c_j1 >>= (w2c_j2 & 63);
+  w2c_j2 = 1152921504606846974ull;
+  w2c_j1 &= w2c_j2;
+  w2c_j0 -= w2c_j1;
+  w2c_l15 = w2c_j0;
+  w2c_j0 = w2c_p1;
+  w2c_l8 = w2c_j0;
+  w2c_j0 = w2c_p4;
+  w2c_l6 = w2c_j0;
+  w2c_L6: 
+    w2c_j0 = w2c_l8;
+    w2c_i0 = (u32)(w2c_j0);
+    w2c_j0 = step_i64_load(memory, (u64)(w2c_i0));
+    w2c_l16 = w2c_j0;
+    w2c_j0 = w2c_l6;
+    w2c_j1 = 8ull;
+    w2c_j0 += w2c_j1;
+    w2c_i0 = (u32)(w2c_j0);
+    w2c_j1 = w2c_l8;
+    w2c_j2 = w2c_l12;
+    w2c_j1 += w2c_j2;
+    w2c_l17 = w2c_j1;
+    w2c_i1 = (u32)(w2c_j1);
+    w2c_j1 = step_i64_load(memory, (u64)(w2c_i1));
+    step_i64_store(memory, (u64)(w2c_i0), w2c_j1);
+    w2c_j0 = w2c_l6;
+    w2c_i0 = (u32)(w2c_j0);
+    w2c_j1 = w2c_l16;
+    w2c_j2 = w2c_l10;
+    w2c_j1 ^= w2c_j2;
+    step_i64_store(memory, (u64)(w2c_i0), w2c_j1);
+    w2c_j0 = w2c_l17;
+    w2c_j1 = 8ull;
+    w2c_j0 += w2c_j1;
+    w2c_i0 = (u32)(w2c_j0);
+    w2c_j0 = step_i64_load(memory, (u64)(w2c_i0));
+    w2c_l16 = w2c_j0;
+    w2c_j0 = w2c_l6;
+    w2c_j1 = 24ull;
+    w2c_j0 += w2c_j1;
+    w2c_i0 = (u32)(w2c_j0);
+    w2c_j1 = w2c_l8;
+    w2c_j2 = w2c_l14;
+    w2c_j1 += w2c_j2;
+    w2c_i1 = (u32)(w2c_j1);
+    w2c_j1 = step_i64_load(memory, (u64)(w2c_i1));
+    step_i64_store(memory, (u64)(w2c_i0), w2c_j1);
+    w2c_j0 = w2c_l6;
+    w2c_j1 = 16ull;
+    w2c_j0 += w2c_j1;
+    w2c_i0 = (u32)(w2c_j0);
+    w2c_j1 = w2c_l16;
+    w2c_j2 = w2c_l10;
+    w2c_j1 ^= w2c_j2;
+    step_i64_store(memory, (u64)(w2c_i0), w2c_j1);
+    w2c_j0 = w2c_l8;
+    w2c_j1 = w2c_l13;
+    w2c_j0 += w2c_j1;
+    w2c_l8 = w2c_j0;
+    w2c_j0 = w2c_l6;
+    w2c_j1 = 32ull;
+    w2c_j0 += w2c_j1;
+    w2c_l6 = w2c_j0;
+    w2c_j0 = w2c_l15;
+    w2c_j1 = w2c_l9;
+    w2c_j2 = 18446744073709551614ull;
+    w2c_j1 += w2c_j2;
+    w2c_l9 = w2c_j1;
+    w2c_i0 = w2c_j0 != w2c_j1;
+    if (w2c_i0) {goto w2c_L6;}
+  w2c_j0 = w2c_l11;
+  w2c_i0 = !(w2c_j0);
+  if (w2c_i0) {goto w2c_B3;}
+  w2c_j0 = 0ull;
+  w2c_j1 = w2c_l9;
+  w2c_j0 -= w2c_j1;
+  w2c_l9 = w2c_j0;
+  w2c_B5:;
+  w2c_j0 = w2c_p1;
+  w2c_j1 = w2c_l9;
+  w2c_j2 = w2c_p3;
+  w2c_j1 *= w2c_j2;
+  w2c_j0 += w2c_j1;
+  w2c_l6 = w2c_j0;
+  w2c_i0 = (u32)(w2c_j0);
+  w2c_j0 = step_i64_load(memory, (u64)(w2c_i0));
+  w2c_l8 = w2c_j0;
+  w2c_j0 = w2c_p4;
+  w2c_j1 = w2c_l9;
+  w2c_j2 = 4ull;
+  w2c_j1 <<= (w2c_j2 & 63);
+  w2c_j0 += w2c_j1;
+  w2c_l9 = w2c_j0;
+  w2c_i0 = (u32)(w2c_j0);
+  w2c_j1 = w2c_l6;
+  w2c_j2 = w2c_p3;
+  w2c_j1 += w2c_j2;
+  w2c_j2 = 18446744073709551608ull;
+  w2c_j1 += w2c_j2;
+  w2c_i1 = (u32)(w2c_j1);
+  w2c_j1 = step_i64_load(memory, (u64)(w2c_i1));
+  step_i64_store(memory, (u64)(w2c_i0) + 8, w2c_j1);
+  w2c_j0 = w2c_l9;
+  w2c_i0 = (u32)(w2c_j0);
+  w2c_j1 = w2c_l8;
+  w2c_j2 = w2c_l10;
+  w2c_j1 ^= w2c_j2;
+  step_i64_store(memory, (u64)(w2c_i0), w2c_j1);
+  goto w2c_B3;
+  w2c_B4:;
+  w2c_j0 = w2c_p5;
+  w2c_j1 = 18446744073709551600ull;
+  w2c_j0 &= w2c_j1;
+  w2c_l6 = w2c_j0;
+  w2c_i0 = !(w2c_j0);
+  if (w2c_i0) {goto w2c_B3;}
+  w2c_j0 = w2c_p4;
+  w2c_i0 = (u32)(w2c_j0);
+  w2c_i1 = 0u;
+  w2c_j2 = w2c_l6;
+  w2c_i2 = (u32)(w2c_j2);
+  memory_fill(memory, w2c_i0, w2c_i1, w2c_i2);
+  w2c_B3:;
+  w2c_j0 = 1ull;
+  w2c_j1 = w2c_p3;
+  w2c_j2 = 18446744073709551608ull;
+  w2c_j1 += w2c_j2;
+  w2c_l6 = w2c_j1;
+  w2c_j2 = 3ull;
+  w2c_j1 >>= (w2c_j2 & 63);
+  w2c_j2 = 6ull;
+  w2c_j1 *= w2c_j2;
+  w2c_l18 = w2c_j1;
+  w2c_j2 = w2c_l6;
+  w2c_j3 = 8ull;
+  w2c_i2 = w2c_j2 == w2c_j3;
+  w2c_j0 = w2c_i2 ? w2c_j0 : w2c_j1;
+  w2c_l9 = w2c_j0;
+  w2c_i0 = !(w2c_j0);
+  if (w2c_i0) {goto w2c_B0;}
+  w2c_i0 = w2c_l24;
+  w2c_i0 = !(w2c_i0);
+  if (w2c_i0) {goto w2c_B7;}
+  w2c_j0 = w2c_l7;
+  w2c_j1 = w2c_p5;
+  w2c_j2 = 4ull;
+  w2c_j1 >>= (w2c_j2 & 63);
+  w2c_l19 = w2c_j1;
+  w2c_j2 = 0ull;
+  w2c_j3 = w2c_p3;
+  w2c_j4 = 0ull;
+  w2c_f9(instance, w2c_j0, w2c_j1, w2c_j2, w2c_j3, w2c_j4);
+  w2c_j0 = w2c_l7;
+  w2c_i0 = (u32)(w2c_j0);
+  w2c_j0 = step_i64_load(memory, (u64)(w2c_i0) + 8u);
+  w2c_j1 = 0ull;
+  w2c_i0 = w2c_j0 != w2c_j1;
+  w2c_l24 = w2c_i0;
+  if (w2c_i0) {goto w2c_B9;}
+  w2c_j0 = 0ull;
+  w2c_j1 = w2c_l19;
+  w2c_j2 = w2c_p3;
+  w2c_j1 *= w2c_j2;
+  w2c_i2 = w2c_l24;
+  w2c_j0 = w2c_i2 ? w2c_j0 : w2c_j1;
+  w2c_j1 = w2c_p2;
+  w2c_i0 = w2c_j0 == w2c_j1;
+  if (w2c_i0) {goto w2c_B8;}
+  w2c_B9:;
+  w2c_L10: 
+    w2c_j0 = w2c_p0;
+    w2c_i0 = (u32)(w2c_j0);
+    w2c_j0 = step_i64_load(memory, (u64)(w2c_i0));
+    w2c_j1 = w2c_p0;
+    w2c_i1 = (u32)(w2c_j1);
+    w2c_j1 = step_i64_load(memory, (u64)(w2c_i1) + 8u);
+    w2c_j2 = w2c_p4;
+    w2c_j3 = w2c_p5;
+    leaf_decrypt_many(memory, w2c_j0, w2c_j1, w2c_j2, w2c_j3);
+    w2c_j0 = w2c_l9;
+    w2c_j1 = 18446744073709551615ull;
+    w2c_j0 += w2c_j1;
+    w2c_l9 = w2c_j0;
+    w2c_i0 = !(w2c_j0);
+    w2c_i0 = !(w2c_i0);
+    if (w2c_i0) {goto w2c_L10;}
+    goto w2c_B0;
+  UNREACHABLE;
+  w2c_B8:;
+  w2c_j0 = 0ull;
+  w2c_l20 = w2c_j0;
+  w2c_j0 = w2c_l19;
+  w2c_j1 = 0ull;
+  w2c_i0 = w2c_j0 == w2c_j1;
+  if (w2c_i0) {goto w2c_B1;}
+  w2c_j0 = w2c_p3;
+  w2c_j1 = 3ull;
+  w2c_j0 >>= (w2c_j1 & 63);
+  w2c_i0 = (u32)(w2c_j0);
+  w2c_i1 = 4294967295u;
+  w2c_i0 += w2c_i1;
+  w2c_l25 = w2c_i0;
+  w2c_j0 = (u64)(w2c_i0);
+  w2c_l21 = w2c_j0;
+  w2c_j0 = w2c_p3;
+  w2c_j1 = 1ull;
+  w2c_j0 <<= (w2c_j1 & 63);
+  w2c_l15 = w2c_j0;
+  w2c_j0 = w2c_l19;
+  w2c_j1 = 1152921504606846974ull;
+  w2c_j0 &= w2c_j1;
+  w2c_l11 = w2c_j0;
+  w2c_j0 = w2c_l19;
+  w2c_j1 = 1ull;
+  w2c_j0 &= w2c_j1;
+  w2c_l22 = w2c_j0;
+  w2c_j0 = w2c_l9;
+  w2c_l14 = w2c_j0;
+  w2c_L11: 
+    w2c_j0 = w2c_p0;
+    w2c_i0 = (u32)(w2c_j0);
+    w2c_j0 = step_i64_load(memory, (u64)(w2c_i0));
+    w2c_j1 = w2c_p0;
+    w2c_i1 = (u32)(w2c_j1);
+    w2c_j1 = step_i64_load(memory, (u64)(w2c_i1) + 8u);
+    w2c_j2 = w2c_p4;
+    w2c_j3 = w2c_p5;
+    leaf_decrypt_many(memory, w2c_j0, w2c_j1, w2c_j2, w2c_j3);
+    w2c_j0 = w2c_l14;
+    w2c_i0 = !(w2c_j0);
+    w2c_i0 = !(w2c_i0);
+    if (w2c_i0) {goto w2c_B13;}
+    w2c_j0 = 0ull;
+    w2c_l14 = w2c_j0;
+    goto w2c_B12;
+    w2c_B13:;
+    w2c_j0 = w2c_l18;
+    w2c_j1 = w2c_l14;
+    w2c_i0 = w2c_j0 < w2c_j1;
+    if (w2c_i0) {goto w2c_B12;}
+    w2c_j0 = w2c_l14;
+    w2c_j1 = 18446744073709551615ull;
+    w2c_j0 += w2c_j1;
+    w2c_l14 = w2c_j0;
+    w2c_j1 = 56ull;
+    w2c_j0 <<= (w2c_j1 & 63);
+    w2c_j1 = w2c_l14;
+    w2c_j2 = 65280ull;
+    w2c_j1 &= w2c_j2;
+    w2c_j2 = 40ull;
+    w2c_j1 <<= (w2c_j2 & 63);
+    w2c_j0 |= w2c_j1;
+    w2c_j1 = w2c_l14;
+    w2c_j2 = 16711680ull;
+    w2c_j1 &= w2c_j2;
+    w2c_j2 = 24ull;
+    w2c_j1 <<= (w2c_j2 & 63);
+    w2c_j2 = w2c_l14;
+    w2c_j3 = 4278190080ull;
+    w2c_j2 &= w2c_j3;
+    w2c_j3 = 8ull;
+    w2c_j2 <<= (w2c_j3 & 63);
+    w2c_j1 |= w2c_j2;
+    w2c_j0 |= w2c_j1;
+    w2c_j1 = w2c_l14;
+    w2c_j2 = 8ull;
+    w2c_j1 >>= (w2c_j2 & 63);
+    w2c_j2 = 4278190080ull;
+    w2c_j1 &= w2c_j2;
+    w2c_j2 = w2c_l14;
+    w2c_j3 = 24ull;
+    w2c_j2 >>= (w2c_j3 & 63);
+    w2c_j3 = 16711680ull;
+    w2c_j2 &= w2c_j3;
+    w2c_j1 |= w2c_j2;
+    w2c_j2 = w2c_l14;
+    w2c_j3 = 40ull;
+    w2c_j2 >>= (w2c_j3 & 63);
+    w2c_j3 = 65280ull;
+    w2c_j2 &= w2c_j3;
+    w2c_j3 = w2c_l14;
+    w2c_j4 = 56ull;
+    w2c_j3 >>= (w2c_j4 & 63);
+    w2c_j2 |= w2c_j3;
+    w2c_j1 |= w2c_j2;
+    w2c_j0 |= w2c_j1;
+    w2c_l16 = w2c_j0;
+    w2c_j0 = w2c_l14;
+    w2c_i0 = (u32)(w2c_j0);
+    w2c_i1 = w2c_l25;
+    w2c_i0 = REM_U(w2c_i0, w2c_i1);
+    w2c_l24 = w2c_i0;
+    w2c_j0 = (u64)(w2c_i0);
+    w2c_l6 = w2c_j0;
+    w2c_j1 = w2c_l21;
+    w2c_i2 = w2c_l24;
+    w2c_j0 = w2c_i2 ? w2c_j0 : w2c_j1;
+    w2c_j1 = 3ull;
+    w2c_j0 <<= (w2c_j1 & 63);
+    w2c_l23 = w2c_j0;
+    w2c_j0 = w2c_l6;
+    w2c_j1 = 3ull;
+    w2c_j0 <<= (w2c_j1 & 63);
+    w2c_l17 = w2c_j0;
+    w2c_j0 = 0ull;
+    w2c_l8 = w2c_j0;
+    w2c_j0 = w2c_l19;
+    w2c_j1 = 1ull;
+    w2c_i0 = w2c_j0 == w2c_j1;
+    if (w2c_i0) {goto w2c_B14;}
+    w2c_j0 = w2c_p1;
+    w2c_j1 = w2c_l23;
+    w2c_j0 += w2c_j1;
+    w2c_l10 = w2c_j0;
+    w2c_j0 = 0ull;
+    w2c_l8 = w2c_j0;
+    w2c_j0 = w2c_p4;
+    w2c_l6 = w2c_j0;
+    w2c_L15: 
+      w2c_j0 = w2c_l6;
+      w2c_i0 = (u32)(w2c_j0);
+      w2c_j0 = step_i64_load(memory, (u64)(w2c_i0));
+      w2c_p2 = w2c_j0;
+      w2c_j0 = w2c_p1;
+      w2c_j1 = w2c_l8;
+      w2c_j2 = w2c_p3;
+      w2c_j1 *= w2c_j2;
+      w2c_j0 += w2c_j1;
+      w2c_j1 = w2c_l17;
+      w2c_j0 += w2c_j1;
+      w2c_j1 = 8ull;
+      w2c_j0 += w2c_j1;
+      w2c_i0 = (u32)(w2c_j0);
+      w2c_j1 = w2c_l6;
+      w2c_j2 = 8ull;
+      w2c_j1 += w2c_j2;
+      w2c_l12 = w2c_j1;
+      w2c_i1 = (u32)(w2c_j1);
+      w2c_j1 = step_i64_load(memory, (u64)(w2c_i1));
+      step_i64_store(memory, (u64)(w2c_i0), w2c_j1);
+      w2c_j0 = w2c_l12;
+      w2c_i0 = (u32)(w2c_j0);
+      w2c_j1 = w2c_l10;
+      w2c_i1 = (u32)(w2c_j1);
+      w2c_j1 = step_i64_load(memory, (u64)(w2c_i1));
+      step_i64_store(memory, (u64)(w2c_i0), w2c_j1);
+      w2c_j0 = w2c_l6;
+      w2c_i0 = (u32)(w2c_j0);
+      w2c_j1 = w2c_p2;
+      w2c_j2 = w2c_l16;
+      w2c_j1 ^= w2c_j2;
+      step_i64_store(memory, (u64)(w2c_i0), w2c_j1);
+      w2c_j0 = w2c_l6;
+      w2c_j1 = 16ull;
+      w2c_j0 += w2c_j1;
+      w2c_p2 = w2c_j0;
+      w2c_i0 = (u32)(w2c_j0);
+      w2c_j0 = step_i64_load(memory, (u64)(w2c_i0));
+      w2c_l12 = w2c_j0;
+      w2c_j0 = w2c_p1;
+      w2c_j1 = w2c_l8;
+      w2c_j2 = 1ull;
+      w2c_j1 |= w2c_j2;
+      w2c_j2 = w2c_p3;
+      w2c_j1 *= w2c_j2;
+      w2c_j0 += w2c_j1;
+      w2c_j1 = w2c_l17;
+      w2c_j0 += w2c_j1;
+      w2c_j1 = 8ull;
+      w2c_j0 += w2c_j1;
+      w2c_i0 = (u32)(w2c_j0);
+      w2c_j1 = w2c_l6;
+      w2c_j2 = 24ull;
+      w2c_j1 += w2c_j2;
+      w2c_l13 = w2c_j1;
+      w2c_i1 = (u32)(w2c_j1);
+      w2c_j1 = step_i64_load(memory, (u64)(w2c_i1));
+      step_i64_store(memory, (u64)(w2c_i0), w2c_j1);
+      w2c_j0 = w2c_l13;
+      w2c_i0 = (u32)(w2c_j0);
+      w2c_j1 = w2c_l10;
+      w2c_j2 = w2c_p3;
+      w2c_j1 += w2c_j2;
+      w2c_i1 = (u32)(w2c_j1);
+      w2c_j1 = step_i64_load(memory, (u64)(w2c_i1));
+      step_i64_store(memory, (u64)(w2c_i0), w2c_j1);
+      w2c_j0 = w2c_p2;
+      w2c_i0 = (u32)(w2c_j0);
+      w2c_j1 = w2c_l12;
+      w2c_j2 = w2c_l16;
+      w2c_j1 ^= w2c_j2;
+      step_i64_store(memory, (u64)(w2c_i0), w2c_j1);
+      w2c_j0 = w2c_l6;
+      w2c_j1 = 32ull;
+      w2c_j0 += w2c_j1;
+      w2c_l6 = w2c_j0;
+      w2c_j0 = w2c_l10;
+      w2c_j1 = w2c_l15;
+      w2c_j0 += w2c_j1;
+      w2c_l10 = w2c_j0;
+      w2c_j0 = w2c_l11;
+      w2c_j1 = w2c_l8;
+      w2c_j2 = 2ull;
+      w2c_j1 += w2c_j2;
+      w2c_l8 = w2c_j1;
+      w2c_i0 = w2c_j0 != w2c_j1;
+      if (w2c_i0) {goto w2c_L15;}
+    w2c_j0 = w2c_l22;
+    w2c_i0 = !(w2c_j0);
+    if (w2c_i0) {goto w2c_B12;}
+    w2c_B14:;
+    w2c_j0 = w2c_p4;
+    w2c_j1 = w2c_l8;
+    w2c_j2 = 4ull;
+    w2c_j1 <<= (w2c_j2 & 63);
+    w2c_j0 += w2c_j1;
+    w2c_l6 = w2c_j0;
+    w2c_i0 = (u32)(w2c_j0);
+    w2c_j0 = step_i64_load(memory, (u64)(w2c_i0));
+    w2c_l10 = w2c_j0;
+    w2c_j0 = w2c_p1;
+    w2c_j1 = w2c_l8;
+    w2c_j2 = w2c_p3;
+    w2c_j1 *= w2c_j2;
+    w2c_j0 += w2c_j1;
+    w2c_l8 = w2c_j0;
+    w2c_j1 = w2c_l17;
+    w2c_j0 += w2c_j1;
+    w2c_j1 = 8ull;
+    w2c_j0 += w2c_j1;
+    w2c_i0 = (u32)(w2c_j0);
+    w2c_j1 = w2c_l6;
+    w2c_j2 = 8ull;
+    w2c_j1 += w2c_j2;
+    w2c_l17 = w2c_j1;
+    w2c_i1 = (u32)(w2c_j1);
+    w2c_j1 = step_i64_load(memory, (u64)(w2c_i1));
+    step_i64_store(memory, (u64)(w2c_i0), w2c_j1);
+    w2c_j0 = w2c_l17;
+    w2c_i0 = (u32)(w2c_j0);
+    w2c_j1 = w2c_l8;
+    w2c_j2 = w2c_l23;
+    w2c_j1 += w2c_j2;
+    w2c_i1 = (u32)(w2c_j1);
+    w2c_j1 = step_i64_load(memory, (u64)(w2c_i1));
+    step_i64_store(memory, (u64)(w2c_i0), w2c_j1);
+    w2c_j0 = w2c_l6;
+    w2c_i0 = (u32)(w2c_j0);
+    w2c_j1 = w2c_l10;
+    w2c_j2 = w2c_l16;
+    w2c_j1 ^= w2c_j2;
+    step_i64_store(memory, (u64)(w2c_i0), w2c_j1);
+    w2c_B12:;
+    w2c_j0 = w2c_l20;
+    w2c_j1 = 1ull;
+    w2c_j0 += w2c_j1;
+    w2c_l20 = w2c_j0;
+    w2c_j1 = w2c_l9;
+    w2c_i0 = w2c_j0 != w2c_j1;
+    if (w2c_i0) {goto w2c_L11;}
+    goto w2c_B0;
+  UNREACHABLE;
+  w2c_B7:;
+  w2c_L16: 
+    w2c_j0 = w2c_p0;
+    w2c_i0 = (u32)(w2c_j0);
+    w2c_j0 = step_i64_load(memory, (u64)(w2c_i0));
+    w2c_j1 = w2c_p0;
+    w2c_i1 = (u32)(w2c_j1);
+    w2c_j1 = step_i64_load(memory, (u64)(w2c_i1) + 8u);
+    w2c_j2 = w2c_p4;
+    w2c_j3 = w2c_p5;
+    leaf_decrypt_many(memory, w2c_j0, w2c_j1, w2c_j2, w2c_j3);
+    w2c_j0 = w2c_l9;
+    w2c_j1 = 18446744073709551615ull;
+    w2c_j0 += w2c_j1;
+    w2c_l9 = w2c_j0;
+    w2c_j1 = 0ull;
+    w2c_i0 = w2c_j0 != w2c_j1;
+    if (w2c_i0) {goto w2c_L16;}
+    goto w2c_B0;
+  UNREACHABLE;
+  w2c_B2:;
+  UNREACHABLE;
+  w2c_B1:;
+  w2c_L17: 
+    w2c_j0 = w2c_p0;
+    w2c_i0 = (u32)(w2c_j0);
+    w2c_j0 = step_i64_load(memory, (u64)(w2c_i0));
+    w2c_j1 = w2c_p0;
+    w2c_i1 = (u32)(w2c_j1);
+    w2c_j1 = step_i64_load(memory, (u64)(w2c_i1) + 8u);
+    w2c_j2 = w2c_p4;
+    w2c_j3 = w2c_p5;
+    leaf_decrypt_many(memory, w2c_j0, w2c_j1, w2c_j2, w2c_j3);
+    w2c_j0 = w2c_l9;
+    w2c_j1 = 18446744073709551615ull;
+    w2c_j0 += w2c_j1;
+    w2c_l9 = w2c_j0;
+    w2c_i0 = !(w2c_j0);
+    w2c_i0 = !(w2c_i0);
+    if (w2c_i0) {goto w2c_L17;}
+  w2c_B0:;
+  w2c_j0 = w2c_l7;
+  w2c_j1 = 32ull;
+  w2c_j0 += w2c_j1;
+  instance->w2c_g0 = w2c_j0;
+}
+static void w2c_f17(struct instance *instance, u64 w2c_p0, u64 w2c_p1, u64 w2c_p2, u64 w2c_p3, u64 w2c_p4, u64 w2c_p5) {
+  u32 w2c_l10 = 0, w2c_l11 = 0, w2c_l12 = 0;
+  u64 w2c_l6 = 0, w2c_l7 = 0, w2c_l8 = 0, w2c_l9 = 0;
+  const struct memory memory = instance->w2c_memory;
+  (void)memory;
+  u32 w2c_i0, w2c_i1;
+  u64 w2c_j0, w2c_j1, w2c_j2, w2c_j3, w2c_j4;
+  w2c_j0 = instance->w2c_g0;
+  w2c_j1 = 64ull;
+  w2c_j0 -= w2c_j1;
+  w2c_l6 = w2c_j0;
+  instance->w2c_g0 = w2c_j0;
+  w2c_j0 = w2c_l6;
+  w2c_l6 = w2c_j0;
+  w2c_j1 = 16ull;
+  w2c_i0 = (u64)((s64)w2c_j0 < (s64)w2c_j1);
+  if (w2c_i0) {goto w2c_B0;}
+  w2c_j0 = w2c_p3;
+  w2c_j1 = 40ull;
+  w2c_j0 += w2c_j1;
+  w2c_i0 = (u32)(w2c_j0);
+  w2c_i0 = i32_load8_u(memory, (u64)(w2c_i0));
+  w2c_l10 = w2c_i0;
+  w2c_j0 = 0ull;
+  w2c_l7 = w2c_j0;
+  w2c_j0 = w2c_l6;
+  w2c_i0 = (u32)(w2c_j0);
+  w2c_j1 = 0ull;
+  step_i64_store(memory, (u64)(w2c_i0) + 48, w2c_j1);
+  w2c_j0 = w2c_l6;
+  w2c_i0 = (u32)(w2c_j0);
+  w2c_j1 = 0ull;
+  step_i64_store(memory, (u64)(w2c_i0) + 56, w2c_j1);
+  w2c_j0 = w2c_l6;
+  w2c_i0 = (u32)(w2c_j0);
+  w2c_j1 = 0ull;
+  step_i64_store(memory, (u64)(w2c_i0) + 16, w2c_j1);
+  w2c_j0 = w2c_l6;
+  w2c_i0 = (u32)(w2c_j0);
+  w2c_j1 = 0ull;
+  step_i64_store(memory, (u64)(w2c_i0) + 8, w2c_j1);
+  w2c_j0 = w2c_l6;
+  w2c_j1 = 8ull;
+  w2c_j0 += w2c_j1;
+  w2c_j1 = w2c_p1;
+  w2c_j2 = w2c_p3;
+  w2c_j3 = w2c_p4;
+  w2c_j4 = w2c_p5;
+  w2c_f18(instance, w2c_j0, w2c_j1, w2c_j2, w2c_j3, w2c_j4);
+  w2c_j0 = w2c_l6;
+  w2c_i0 = (u32)(w2c_j0);
+  w2c_i0 = i32_load8_u(memory, (u64)(w2c_i0) + 8u);
+  if (w2c_i0) {goto w2c_B4;}
+  w2c_j0 = w2c_l6;
+  w2c_i0 = (u32)(w2c_j0);
+  w2c_j0 = step_i64_load(memory, (u64)(w2c_i0) + 16u);
+  w2c_l8 = w2c_j0;
+  w2c_j0 = w2c_p3;
+  w2c_i0 = (u32)(w2c_j0);
+  w2c_i0 = i32_load8_u(memory, (u64)(w2c_i0));
+  if (w2c_i0) {goto w2c_B6;}
+  w2c_j0 = w2c_l8;
+  w2c_l9 = w2c_j0;
+  goto w2c_B5;
+  w2c_B6:;
+  w2c_j0 = w2c_p3;
+  w2c_j1 = 24ull;
+  w2c_j0 += w2c_j1;
+  w2c_i0 = (u32)(w2c_j0);
+  w2c_i0 = i32_load8_u(memory, (u64)(w2c_i0));
+  w2c_l10 = w2c_i0;
+  w2c_j0 = w2c_p3;
+  w2c_j1 = 8ull;
+  w2c_j0 += w2c_j1;
+  w2c_i0 = (u32)(w2c_j0);
+  w2c_i0 = i32_load8_u(memory, (u64)(w2c_i0));
+  if (w2c_i0) {goto w2c_B7;}
+  w2c_i0 = w2c_l10;
+  w2c_i1 = 255u;
+  w2c_i0 &= w2c_i1;
+  w2c_i1 = 1u;
+  w2c_i0 = w2c_i0 != w2c_i1;
+  if (w2c_i0) {goto w2c_B8;}
+  w2c_j0 = w2c_p5;
+  w2c_j1 = 11986710452722728952ull;
+  w2c_j0 += w2c_j1;
+  w2c_l9 = w2c_j0;
+  goto w2c_B5;
+  w2c_B8:;
+  w2c_j0 = w2c_p3;
+  w2c_j1 = 32ull;
+  w2c_j0 += w2c_j1;
+  w2c_i0 = (u32)(w2c_j0);
+  w2c_j0 = step_i64_load(memory, (u64)(w2c_i0));
+  w2c_l9 = w2c_j0;
+  goto w2c_B5;
+  w2c_B7:;
+  w2c_j0 = w2c_l8;
+  w2c_l9 = w2c_j0;
+  w2c_i0 = w2c_l10;
+  w2c_i1 = 255u;
+  w2c_i0 &= w2c_i1;
+  if (w2c_i0) {goto w2c_B5;}
+  w2c_j0 = w2c_l8;
+  w2c_j1 = 4294967295ull;
+  w2c_j0 &= w2c_j1;
+  w2c_j1 = w2c_p5;
+  w2c_j2 = 18446744073709551608ull;
+  w2c_j1 += w2c_j2;
+  w2c_l7 = w2c_j1;
+  w2c_j0 ^= w2c_j1;
+  w2c_j1 = w2c_l7;
+  w2c_j2 = 8ull;
+  w2c_i1 = w2c_j1 == w2c_j2;
+  w2c_j1 = (u64)(w2c_i1);
+  w2c_j0 |= w2c_j1;
+  w2c_l7 = w2c_j0;
+  w2c_j0 = w2c_p3;
+  w2c_j1 = 32ull;
+  w2c_j0 += w2c_j1;
+  w2c_i0 = (u32)(w2c_j0);
+  w2c_j0 = step_i64_load(memory, (u64)(w2c_i0));
+  w2c_l9 = w2c_j0;
+  w2c_B5:;
+  w2c_j0 = w2c_p1;
+  w2c_j1 = w2c_l8;
+  w2c_j2 = w2c_l7;
+  w2c_j3 = w2c_p4;
+  w2c_j4 = w2c_p5;
+  w2c_i0 = w2c_f19(instance, w2c_j0, w2c_j1, w2c_j2, w2c_j3, w2c_j4);
+  w2c_i1 = 255u;
+  w2c_i0 &= w2c_i1;
+  if (w2c_i0) {goto w2c_B3;}
+  w2c_j0 = w2c_p2;
+  w2c_j1 = w2c_l9;
+  w2c_j2 = w2c_p4;
+  w2c_j3 = w2c_p5;
+  w2c_f20(instance, w2c_j0, w2c_j1, w2c_j2, w2c_j3);
+  w2c_i0 = 0u;
+  w2c_l10 = w2c_i0;
+  w2c_i0 = 0u;
+  w2c_l11 = w2c_i0;
+  goto w2c_B1;
+  w2c_B4:;
+  w2c_i0 = 1u;
+  w2c_l11 = w2c_i0;
+  w2c_j0 = w2c_l6;
+  w2c_i0 = (u32)(w2c_j0);
+  w2c_i0 = i32_load8_u(memory, (u64)(w2c_i0) + 9u);
+  w2c_l12 = w2c_i0;
+  w2c_i0 = w2c_l10;
+  w2c_i1 = 1u;
+  w2c_i0 &= w2c_i1;
+  if (w2c_i0) {goto w2c_B2;}
+  w2c_i0 = w2c_l12;
+  w2c_l10 = w2c_i0;
+  goto w2c_B1;
+  w2c_B3:;
+  w2c_i0 = 1u;
+  w2c_l11 = w2c_i0;
+  w2c_i0 = 2u;
+  w2c_l10 = w2c_i0;
+  goto w2c_B1;
+  w2c_B2:;
+  w2c_i0 = 2u;
+  w2c_l10 = w2c_i0;
+  w2c_i0 = w2c_l12;
+  w2c_i1 = 255u;
+  w2c_i0 &= w2c_i1;
+  w2c_i1 = 2u;
+  w2c_i0 = w2c_i0 == w2c_i1;
+  if (w2c_i0) {goto w2c_B1;}
+  w2c_j0 = w2c_p3;
+  w2c_i0 = (u32)(w2c_j0);
+  w2c_j0 = i64_load8_u(memory, (u64)(w2c_i0));
+  w2c_l7 = w2c_j0;
+  w2c_i0 = !(w2c_j0);
+  w2c_i0 = !(w2c_i0);
+  if (w2c_i0) {goto w2c_B10;}
+  w2c_j0 = 0ull;
+  w2c_p1 = w2c_j0;
+  w2c_j0 = 0ull;
+  w2c_p3 = w2c_j0;
+  goto w2c_B9;
+  w2c_B10:;
+  w2c_j0 = w2c_p3;
+  w2c_j1 = 24ull;
+  w2c_j0 += w2c_j1;
+  w2c_i0 = (u32)(w2c_j0);
+  w2c_j0 = i64_load8_u(memory, (u64)(w2c_i0));
+  w2c_p1 = w2c_j0;
+  w2c_j0 = w2c_p3;
+  w2c_j1 = 32ull;
+  w2c_j0 += w2c_j1;
+  w2c_i0 = (u32)(w2c_j0);
+  w2c_j0 = step_i64_load(memory, (u64)(w2c_i0));
+  w2c_p3 = w2c_j0;
+  w2c_B9:;
+  w2c_j0 = w2c_l6;
+  w2c_i0 = (u32)(w2c_j0);
+  w2c_j1 = w2c_p3;
+  step_i64_store(memory, (u64)(w2c_i0) + 40, w2c_j1);
+  w2c_j0 = w2c_l6;
+  w2c_i0 = (u32)(w2c_j0);
+  w2c_j1 = w2c_p1;
+  step_i64_store(memory, (u64)(w2c_i0) + 32, w2c_j1);
+  w2c_j0 = w2c_l6;
+  w2c_i0 = (u32)(w2c_j0);
+  w2c_j1 = w2c_p3;
+  step_i64_store(memory, (u64)(w2c_i0) + 24, w2c_j1);
+  w2c_j0 = w2c_l6;
+  w2c_i0 = (u32)(w2c_j0);
+  w2c_j1 = w2c_p1;
+  step_i64_store(memory, (u64)(w2c_i0) + 16, w2c_j1);
+  w2c_j0 = w2c_l6;
+  w2c_i0 = (u32)(w2c_j0);
+  w2c_j1 = w2c_l7;
+  step_i64_store(memory, (u64)(w2c_i0) + 8, w2c_j1);
+  w2c_j0 = w2c_l6;
+  w2c_j1 = 48ull;
+  w2c_j0 += w2c_j1;
+  w2c_j1 = w2c_p2;
+  w2c_j2 = w2c_l6;
+  w2c_j3 = 8ull;
+  w2c_j2 += w2c_j3;
+  w2c_j3 = w2c_p4;
+  w2c_j4 = w2c_p5;
+  w2c_f18(instance, w2c_j0, w2c_j1, w2c_j2, w2c_j3, w2c_j4);
+  w2c_i0 = w2c_l12;
+  w2c_l10 = w2c_i0;
+  w2c_j0 = w2c_l6;
+  w2c_i0 = (u32)(w2c_j0);
+  w2c_i0 = i32_load8_u(memory, (u64)(w2c_i0) + 48u);
+  w2c_l11 = w2c_i0;
+  if (w2c_i0) {goto w2c_B1;}
+  w2c_j0 = w2c_p2;
+  w2c_j1 = w2c_l6;
+  w2c_i1 = (u32)(w2c_j1);
+  w2c_j1 = step_i64_load(memory, (u64)(w2c_i1) + 56u);
+  w2c_j2 = w2c_p4;
+  w2c_j3 = w2c_p5;
+  w2c_f20(instance, w2c_j0, w2c_j1, w2c_j2, w2c_j3);
+  w2c_i0 = 0u;
+  w2c_l11 = w2c_i0;
+  w2c_i0 = 1u;
+  w2c_l10 = w2c_i0;
+  w2c_B1:;
+  w2c_j0 = w2c_p0;
+  w2c_i0 = (u32)(w2c_j0);
+  w2c_i1 = w2c_l10;
+  i32_store8(memory, (u64)(w2c_i0) + 1, w2c_i1);
+  w2c_j0 = w2c_p0;
+  w2c_i0 = (u32)(w2c_j0);
+  w2c_i1 = w2c_l11;
+  i32_store8(memory, (u64)(w2c_i0), w2c_i1);
+  w2c_j0 = w2c_l6;
+  w2c_j1 = 64ull;
+  w2c_j0 += w2c_j1;
+  instance->w2c_g0 = w2c_j0;
+  goto w2c_Bfunc;
+  w2c_B0:;
+  UNREACHABLE;
+  w2c_Bfunc:;
+}
+static void w2c_f18(struct instance *instance, u64 w2c_p0, u64 w2c_p1, u64 w2c_p2, u64 w2c_p3, u64 w2c_p4) {
+  u64 w2c_l5 = 0, w2c_l6 = 0, w2c_l7 = 0;
+  const struct memory memory = instance->w2c_memory;
+  (void)memory;
+  u32 w2c_i0, w2c_i1, w2c_i2;
+  u64 w2c_j0, w2c_j1, w2c_j2, w2c_j3, w2c_j4, w2c_j5, w2c_j6;
+  w2c_j0 = instance->w2c_g0;
+  w2c_l5 = w2c_j0;
+  w2c_j1 = 16ull;
+  w2c_i0 = (u64)((s64)w2c_j0 < (s64)w2c_j1);
+  if (w2c_i0) {goto w2c_B1;}
+  w2c_j0 = w2c_p2;
+  w2c_i0 = (u32)(w2c_j0);
+  w2c_i0 = i32_load8_u(memory, (u64)(w2c_i0));
+  if (w2c_i0) {goto w2c_B3;}
+  w2c_j0 = w2c_p4;
+  w2c_j1 = 7ull;
+  w2c_j0 &= w2c_j1;
+  w2c_j1 = 0ull;
+  w2c_i0 = w2c_j0 != w2c_j1;
+  if (w2c_i0) {goto w2c_B2;}
+  w2c_j0 = w2c_p4;
+  w2c_j1 = 18446744073709551600ull;
+  w2c_j0 += w2c_j1;
+  w2c_j1 = 1048569ull;
+  w2c_i0 = w2c_j0 >= w2c_j1;
+  if (w2c_i0) {goto w2c_B2;}
+  goto w2c_B0;
+  w2c_B3:;
+  w2c_j0 = w2c_p4;
+  w2c_j1 = 7ull;
+  w2c_j0 &= w2c_j1;
+  w2c_j1 = 0ull;
+  w2c_i0 = w2c_j0 != w2c_j1;
+  if (w2c_i0) {goto w2c_B2;}
+  w2c_j0 = w2c_p4;
+  w2c_j1 = 18446744073709551600ull;
+  w2c_j0 += w2c_j1;
+  w2c_j1 = 1048569ull;
+  w2c_i0 = w2c_j0 < w2c_j1;
+  w2c_j1 = w2c_p4;
+  w2c_j2 = 18446744073709551592ull;
+  w2c_j1 += w2c_j2;
+  w2c_j2 = 1048561ull;
+  w2c_i1 = w2c_j1 < w2c_j2;
+  w2c_j2 = w2c_p2;
+  w2c_j3 = 8ull;
+  w2c_j2 += w2c_j3;
+  w2c_i2 = (u32)(w2c_j2);
+  w2c_i2 = i32_load8_u(memory, (u64)(w2c_i2));
+  w2c_i0 = w2c_i2 ? w2c_i0 : w2c_i1;
+  if (w2c_i0) {goto w2c_B0;}
+  w2c_B2:;
+  w2c_j0 = w2c_p0;
+  w2c_i0 = (u32)(w2c_j0);
+  w2c_i1 = 1u;
+  i32_store16(memory, (u64)(w2c_i0), w2c_i1);
+  w2c_j0 = w2c_p0;
+  w2c_j1 = 8ull;
+  w2c_j0 += w2c_j1;
+  w2c_i0 = (u32)(w2c_j0);
+  w2c_j1 = 0ull;
+  step_i64_store(memory, (u64)(w2c_i0), w2c_j1);
+  w2c_j0 = w2c_l5;
+  instance->w2c_g0 = w2c_j0;
+  goto w2c_Bfunc;
+  w2c_B1:;
+  UNREACHABLE;
+  w2c_B0:;
+  w2c_j0 = w2c_p1;
+  w2c_j1 = w2c_p3;
+  w2c_i1 = (u32)(w2c_j1);
+  w2c_j1 = step_i64_load(memory, (u64)(w2c_i1));
+  w2c_l6 = w2c_j1;
+  w2c_j2 = 56ull;
+  w2c_j1 <<= (w2c_j2 & 63);
+  w2c_j2 = w2c_l6;
+  w2c_j3 = 65280ull;
+  w2c_j2 &= w2c_j3;
+  w2c_j3 = 40ull;
+  w2c_j2 <<= (w2c_j3 & 63);
+  w2c_j1 |= w2c_j2;
+  w2c_j2 = w2c_l6;
+  w2c_j3 = 16711680ull;
+  w2c_j2 &= w2c_j3;
+  w2c_j3 = 24ull;
+  w2c_j2 <<= (w2c_j3 & 63);
+  w2c_j3 = w2c_l6;
+  w2c_j4 = 4278190080ull;
+  w2c_j3 &= w2c_j4;
+  w2c_j4 = 8ull;
+  w2c_j3 <<= (w2c_j4 & 63);
+  w2c_j2 |= w2c_j3;
+  w2c_j1 |= w2c_j2;
+  w2c_j2 = w2c_l6;
+  w2c_j3 = 8ull;
+  w2c_j2 >>= (w2c_j3 & 63);
+  w2c_j3 = 4278190080ull;
+  w2c_j2 &= w2c_j3;
+  w2c_j3 = w2c_l6;
+  w2c_j4 = 24ull;
+  w2c_j3 >>= (w2c_j4 & 63);
+  w2c_j4 = 16711680ull;
+  w2c_j3 &= w2c_j4;
+  w2c_j2 |= w2c_j3;
+  w2c_j3 = w2c_l6;
+  w2c_j4 = 40ull;
+  w2c_j3 >>= (w2c_j4 & 63);
+  w2c_j4 = 65280ull;
+  w2c_j3 &= w2c_j4;
+  w2c_j4 = w2c_l6;
+  w2c_j5 = 56ull;
+  w2c_j4 >>= (w2c_j5 & 63);
+  w2c_j3 |= w2c_j4;
+  w2c_j2 |= w2c_j3;
+  w2c_j1 |= w2c_j2;
+  w2c_j2 = w2c_p3;
+  w2c_j3 = 8ull;
+  w2c_j2 += w2c_j3;
+  w2c_j3 = w2c_p4;
+  w2c_j4 = 18446744073709551608ull;
+  w2c_j3 += w2c_j4;
+  w2c_l7 = w2c_j3;
+  w2c_j0 = w2c_f12(instance, w2c_j0, w2c_j1, w2c_j2, w2c_j3);
+  w2c_l6 = w2c_j0;
+  w2c_j0 = w2c_p2;
+  w2c_i0 = (u32)(w2c_j0);
+  w2c_i0 = i32_load8_u(memory, (u64)(w2c_i0));
+  if (w2c_i0) {goto w2c_B5;}
+  w2c_j0 = w2c_l7;
+  w2c_j1 = 8ull;
+  w2c_i0 = w2c_j0 == w2c_j1;
+  w2c_j1 = w2c_l6;
+  w2c_j2 = 12008468691120727718ull;
+  w2c_i1 = w2c_j1 != w2c_j2;
+  w2c_i0 |= w2c_i1;
+  w2c_j1 = w2c_l7;
+  w2c_j2 = w2c_l6;
+  w2c_j3 = 4294967295ull;
+  w2c_j2 &= w2c_j3;
+  w2c_j1 -= w2c_j2;
+  w2c_l7 = w2c_j1;
+  w2c_j2 = 3ull;
+  w2c_j1 >>= (w2c_j2 & 63);
+  w2c_j2 = w2c_l6;
+  w2c_j3 = 32ull;
+  w2c_j2 >>= (w2c_j3 & 63);
+  w2c_j3 = 2790873510ull;
+  w2c_j2 ^= w2c_j3;
+  w2c_j1 |= w2c_j2;
+  w2c_j2 = w2c_p3;
+  w2c_j3 = w2c_p4;
+  w2c_j2 += w2c_j3;
+  w2c_j3 = 18446744073709551608ull;
+  w2c_j2 += w2c_j3;
+  w2c_i2 = (u32)(w2c_j2);
+  w2c_j2 = step_i64_load(memory, (u64)(w2c_i2));
+  w2c_p2 = w2c_j2;
+  w2c_j3 = 56ull;
+  w2c_j2 <<= (w2c_j3 & 63);
+  w2c_j3 = w2c_p2;
+  w2c_j4 = 65280ull;
+  w2c_j3 &= w2c_j4;
+  w2c_j4 = 40ull;
+  w2c_j3 <<= (w2c_j4 & 63);
+  w2c_j2 |= w2c_j3;
+  w2c_j3 = w2c_p2;
+  w2c_j4 = 16711680ull;
+  w2c_j3 &= w2c_j4;
+  w2c_j4 = 24ull;
+  w2c_j3 <<= (w2c_j4 & 63);
+  w2c_j4 = w2c_p2;
+  w2c_j5 = 4278190080ull;
+  w2c_j4 &= w2c_j5;
+  w2c_j5 = 8ull;
+  w2c_j4 <<= (w2c_j5 & 63);
+  w2c_j3 |= w2c_j4;
+  w2c_j2 |= w2c_j3;
+  w2c_j3 = w2c_p2;
+  w2c_j4 = 8ull;
+  w2c_j3 >>= (w2c_j4 & 63);
+  w2c_j4 = 4278190080ull;
+  w2c_j3 &= w2c_j4;
+  w2c_j4 = w2c_p2;
+  w2c_j5 = 24ull;
+  w2c_j4 >>= (w2c_j5 & 63);
+  w2c_j5 = 16711680ull;
+  w2c_j4 &= w2c_j5;
+  w2c_j3 |= w2c_j4;
+  w2c_j4 = w2c_p2;
+  w2c_j5 = 40ull;
+  w2c_j4 >>= (w2c_j5 & 63);
+  w2c_j5 = 65280ull;
+  w2c_j4 &= w2c_j5;
+  w2c_j5 = w2c_p2;
+  w2c_j6 = 56ull;
+  w2c_j5 >>= (w2c_j6 & 63);
+  w2c_j4 |= w2c_j5;
+  w2c_j3 |= w2c_j4;
+  w2c_j2 |= w2c_j3;
+  w2c_j3 = 18446744073709551615ull;
+  w2c_j4 = w2c_l7;
+  w2c_j5 = 3ull;
+  w2c_j4 <<= (w2c_j5 & 63);
+  w2c_j3 <<= (w2c_j4 & 63);
+  w2c_j4 = 18446744073709551615ull;
+  w2c_j3 ^= w2c_j4;
+  w2c_j2 &= w2c_j3;
+  w2c_j1 |= w2c_j2;
+  w2c_j2 = 0ull;
+  w2c_i1 = w2c_j1 != w2c_j2;
+  w2c_i0 &= w2c_i1;
+  w2c_j0 = (u64)(w2c_i0);
+  w2c_p2 = w2c_j0;
+  goto w2c_B4;
+  w2c_B5:;
+  w2c_j0 = w2c_p2;
+  w2c_j1 = 8ull;
+  w2c_j0 += w2c_j1;
+  w2c_i0 = (u32)(w2c_j0);
+  w2c_i0 = i32_load8_u(memory, (u64)(w2c_i0));
+  if (w2c_i0) {goto w2c_B6;}
+  w2c_j0 = 1ull;
+  w2c_j1 = w2c_p2;
+  w2c_j2 = 16ull;
+  w2c_j1 += w2c_j2;
+  w2c_i1 = (u32)(w2c_j1);
+  w2c_j1 = step_i64_load(memory, (u64)(w2c_i1));
+  w2c_j2 = w2c_l6;
+  w2c_j1 ^= w2c_j2;
+  w2c_j2 = w2c_l7;
+  w2c_j3 = 8ull;
+  w2c_i2 = w2c_j2 == w2c_j3;
+  w2c_j0 = w2c_i2 ? w2c_j0 : w2c_j1;
+  w2c_p2 = w2c_j0;
+  goto w2c_B4;
+  w2c_B6:;
+  w2c_j0 = w2c_l7;
+  w2c_j1 = w2c_l6;
+  w2c_j2 = 4294967295ull;
+  w2c_j1 &= w2c_j2;
+  w2c_j0 -= w2c_j1;
+  w2c_l7 = w2c_j0;
+  w2c_j1 = 3ull;
+  w2c_j0 >>= (w2c_j1 & 63);
+  w2c_j1 = w2c_l6;
+  w2c_j2 = 32ull;
+  w2c_j1 >>= (w2c_j2 & 63);
+  w2c_j2 = 2790873510ull;
+  w2c_j1 ^= w2c_j2;
+  w2c_j0 |= w2c_j1;
+  w2c_j1 = w2c_p3;
+  w2c_j2 = w2c_p4;
+  w2c_j1 += w2c_j2;
+  w2c_j2 = 18446744073709551608ull;
+  w2c_j1 += w2c_j2;
+  w2c_i1 = (u32)(w2c_j1);
+  w2c_j1 = step_i64_load(memory, (u64)(w2c_i1));
+  w2c_p2 = w2c_j1;
+  w2c_j2 = 56ull;
+  w2c_j1 <<= (w2c_j2 & 63);
+  w2c_j2 = w2c_p2;
+  w2c_j3 = 65280ull;
+  w2c_j2 &= w2c_j3;
+  w2c_j3 = 40ull;
+  w2c_j2 <<= (w2c_j3 & 63);
+  w2c_j1 |= w2c_j2;
+  w2c_j2 = w2c_p2;
+  w2c_j3 = 16711680ull;
+  w2c_j2 &= w2c_j3;
+  w2c_j3 = 24ull;
+  w2c_j2 <<= (w2c_j3 & 63);
+  w2c_j3 = w2c_p2;
+  w2c_j4 = 4278190080ull;
+  w2c_j3 &= w2c_j4;
+  w2c_j4 = 8ull;
+  w2c_j3 <<= (w2c_j4 & 63);
+  w2c_j2 |= w2c_j3;
+  w2c_j1 |= w2c_j2;
+  w2c_j2 = w2c_p2;
+  w2c_j3 = 8ull;
+  w2c_j2 >>= (w2c_j3 & 63);
+  w2c_j3 = 4278190080ull;
+  w2c_j2 &= w2c_j3;
+  w2c_j3 = w2c_p2;
+  w2c_j4 = 24ull;
+  w2c_j3 >>= (w2c_j4 & 63);
+  w2c_j4 = 16711680ull;
+  w2c_j3 &= w2c_j4;
+  w2c_j2 |= w2c_j3;
+  w2c_j3 = w2c_p2;
+  w2c_j4 = 40ull;
+  w2c_j3 >>= (w2c_j4 & 63);
+  w2c_j4 = 65280ull;
+  w2c_j3 &= w2c_j4;
+  w2c_j4 = w2c_p2;
+  w2c_j5 = 56ull;
+  w2c_j4 >>= (w2c_j5 & 63);
+  w2c_j3 |= w2c_j4;
+  w2c_j2 |= w2c_j3;
+  w2c_j1 |= w2c_j2;
+  w2c_j2 = 18446744073709551615ull;
+  w2c_j3 = w2c_l7;
+  w2c_j4 = 3ull;
+  w2c_j3 <<= (w2c_j4 & 63);
+  w2c_j2 <<= (w2c_j3 & 63);
+  w2c_j3 = 18446744073709551615ull;
+  w2c_j2 ^= w2c_j3;
+  w2c_j1 &= w2c_j2;
+  w2c_j0 |= w2c_j1;
+  w2c_p2 = w2c_j0;
+  w2c_B4:;
+  w2c_j0 = w2c_p1;
+  w2c_j1 = w2c_l6;
+  w2c_j2 = w2c_p2;
+  w2c_j3 = w2c_p3;
+  w2c_j4 = w2c_p4;
+  w2c_i0 = w2c_f19(instance, w2c_j0, w2c_j1, w2c_j2, w2c_j3, w2c_j4);
+  w2c_i1 = 255u;
+  w2c_i0 &= w2c_i1;
+  w2c_i0 = !(w2c_i0);
+  if (w2c_i0) {goto w2c_B7;}
+  w2c_j0 = w2c_p0;
+  w2c_i0 = (u32)(w2c_j0);
+  w2c_i1 = 257u;
+  i32_store16(memory, (u64)(w2c_i0), w2c_i1);
+  w2c_j0 = w2c_p0;
+  w2c_j1 = 8ull;
+  w2c_j0 += w2c_j1;
+  w2c_i0 = (u32)(w2c_j0);
+  w2c_j1 = 0ull;
+  step_i64_store(memory, (u64)(w2c_i0), w2c_j1);
+  w2c_j0 = w2c_l5;
+  instance->w2c_g0 = w2c_j0;
+  goto w2c_Bfunc;
+  w2c_B7:;
+  w2c_j0 = w2c_p0;
+  w2c_i0 = (u32)(w2c_j0);
+  w2c_i1 = 0u;
+  i32_store16(memory, (u64)(w2c_i0), w2c_i1);
+  w2c_j0 = w2c_p0;
+  w2c_j1 = 8ull;
+  w2c_j0 += w2c_j1;
+  w2c_i0 = (u32)(w2c_j0);
+  w2c_j1 = w2c_l6;
+  step_i64_store(memory, (u64)(w2c_i0), w2c_j1);
+  w2c_j0 = w2c_l5;
+  instance->w2c_g0 = w2c_j0;
+  w2c_Bfunc:;
+}
+static u32 w2c_f19(struct instance *instance, u64 w2c_p0, u64 w2c_p1, u64 w2c_p2, u64 w2c_p3, u64 w2c_p4) {
+  u64 w2c_l5 = 0;
+  const struct memory memory = instance->w2c_memory;
+  (void)memory;
+  u32 w2c_i0;
+  u64 w2c_j0, w2c_j1, w2c_j2, w2c_j3;
+  w2c_j0 = instance->w2c_g0;
+  w2c_l5 = w2c_j0;
+  w2c_j1 = 16ull;
+  w2c_i0 = (u64)((s64)w2c_j0 < (s64)w2c_j1);
+  if (w2c_i0) {goto w2c_B0;}
+  w2c_j0 = w2c_p2;
+  w2c_i0 = !(w2c_j0);
+  w2c_i0 = !(w2c_i0);
+  if (w2c_i0) {goto w2c_B1;}
+  w2c_j0 = w2c_l5;
+  instance->w2c_g0 = w2c_j0;
+  w2c_i0 = 0u;
+  goto w2c_Bfunc;
+  w2c_B1:;
+  w2c_j0 = w2c_p0;
+  w2c_j1 = w2c_p1;
+  w2c_j2 = w2c_p3;
+  w2c_j3 = w2c_p4;
+  w2c_f20(instance, w2c_j0, w2c_j1, w2c_j2, w2c_j3);
+  w2c_j0 = w2c_l5;
+  instance->w2c_g0 = w2c_j0;
+  w2c_i0 = 1u;
+  goto w2c_Bfunc;
+  w2c_B0:;
+  UNREACHABLE;
+  w2c_Bfunc:;
+  return w2c_i0;
+}
+static void w2c_f20(struct instance *instance, u64 w2c_p0, u64 w2c_p1, u64 w2c_p2, u64 w2c_p3) {
+  u64 w2c_l4 = 0, w2c_l5 = 0, w2c_l6 = 0, w2c_l7 = 0, w2c_l8 = 0, w2c_l9 = 0;
+  const struct memory memory = instance->w2c_memory;
+  (void)memory;
+  u32 w2c_i0, w2c_i1, w2c_i2, w2c_i3;
+  u64 w2c_j0, w2c_j1, w2c_j2, w2c_j3, w2c_j4, w2c_j5;
+  w2c_j0 = instance->w2c_g0;
+  w2c_j1 = 16ull;
+  w2c_j0 -= w2c_j1;
+  w2c_l4 = w2c_j0;
+  instance->w2c_g0 = w2c_j0;
+  w2c_j0 = w2c_l4;
+  w2c_l4 = w2c_j0;
+  w2c_j1 = 16ull;
+  w2c_i0 = (u64)((s64)w2c_j0 < (s64)w2c_j1);
+  if (w2c_i0) {goto w2c_B0;}
+  w2c_j0 = w2c_p2;
+  w2c_j1 = 8ull;
+  w2c_j0 += w2c_j1;
+  w2c_l5 = w2c_j0;
+  w2c_j0 = w2c_p3;
+  w2c_j1 = 18446744073709551608ull;
+  w2c_j0 += w2c_j1;
+  w2c_p3 = w2c_j0;
+  w2c_j1 = 9ull;
+  w2c_i0 = w2c_j0 < w2c_j1;
+  if (w2c_i0) {goto w2c_B2;}
+  w2c_j0 = w2c_p1;
+  w2c_j1 = 56ull;
+  w2c_j0 <<= (w2c_j1 & 63);
+  w2c_j1 = w2c_p1;
+  w2c_j2 = 65280ull;
+  w2c_j1 &= w2c_j2;
+  w2c_j2 = 40ull;
+  w2c_j1 <<= (w2c_j2 & 63);
+  w2c_j0 |= w2c_j1;
+  w2c_j1 = w2c_p1;
+  w2c_j2 = 16711680ull;
+  w2c_j1 &= w2c_j2;
+  w2c_j2 = 24ull;
+  w2c_j1 <<= (w2c_j2 & 63);
+  w2c_j2 = w2c_p1;
+  w2c_j3 = 4278190080ull;
+  w2c_j2 &= w2c_j3;
+  w2c_j3 = 8ull;
+  w2c_j2 <<= (w2c_j3 & 63);
+  w2c_j1 |= w2c_j2;
+  w2c_j0 |= w2c_j1;
+  w2c_j1 = w2c_p1;
+  w2c_j2 = 8ull;
+  w2c_j1 >>= (w2c_j2 & 63);
+  w2c_j2 = 4278190080ull;
+  w2c_j1 &= w2c_j2;
+  w2c_j2 = w2c_p1;
+  w2c_j3 = 24ull;
+  w2c_j2 >>= (w2c_j3 & 63);
+  w2c_j3 = 16711680ull;
+  w2c_j2 &= w2c_j3;
+  w2c_j1 |= w2c_j2;
+  w2c_j2 = w2c_p1;
+  w2c_j3 = 40ull;
+  w2c_j2 >>= (w2c_j3 & 63);
+  w2c_j3 = 65280ull;
+  w2c_j2 &= w2c_j3;
+  w2c_j3 = w2c_p1;
+  w2c_j4 = 56ull;
+  w2c_j3 >>= (w2c_j4 & 63);
+  w2c_j2 |= w2c_j3;
+  w2c_j1 |= w2c_j2;
+  w2c_j0 |= w2c_j1;
+  w2c_l6 = w2c_j0;
+  w2c_j0 = w2c_p3;
+  w2c_j1 = 3ull;
+  w2c_j0 >>= (w2c_j1 & 63);
+  w2c_l7 = w2c_j0;
+  w2c_j1 = 6ull;
+  w2c_j0 *= w2c_j1;
+  w2c_l8 = w2c_j0;
+  w2c_j0 = 0ull;
+  w2c_p1 = w2c_j0;
+  w2c_j0 = w2c_l5;
+  w2c_p3 = w2c_j0;
+  w2c_L3: 
+    w2c_j0 = w2c_p3;
+    w2c_i0 = (u32)(w2c_j0);
+    w2c_j0 = step_i64_load(memory, (u64)(w2c_i0));
+    w2c_l9 = w2c_j0;
+    w2c_j0 = w2c_p0;
+    w2c_j1 = 8ull;
+    w2c_j0 += w2c_j1;
+    w2c_p3 = w2c_j0;
+    w2c_i0 = (u32)(w2c_j0);
+    w2c_j1 = 18446744073709551615ull;
+    w2c_j2 = w2c_p3;
+    w2c_i2 = (u32)(w2c_j2);
+    w2c_j2 = step_i64_load(memory, (u64)(w2c_i2));
+    w2c_j3 = 1ull;
+    w2c_j2 += w2c_j3;
+    w2c_p3 = w2c_j2;
+    w2c_j3 = w2c_p3;
+    w2c_i3 = !(w2c_j3);
+    w2c_j1 = w2c_i3 ? w2c_j1 : w2c_j2;
+    step_i64_store(memory, (u64)(w2c_i0), w2c_j1);
+    w2c_j0 = w2c_p0;
+    w2c_i0 = (u32)(w2c_j0);
+    w2c_j0 = step_i64_load(memory, (u64)(w2c_i0));
+    w2c_p3 = w2c_j0;
+    w2c_j0 = w2c_l4;
+    w2c_i0 = (u32)(w2c_j0);
+    w2c_j1 = w2c_l9;
+    step_i64_store(memory, (u64)(w2c_i0) + 8, w2c_j1);
+    w2c_j0 = w2c_l4;
+    w2c_i0 = (u32)(w2c_j0);
+    w2c_j1 = w2c_l6;
+    step_i64_store(memory, (u64)(w2c_i0), w2c_j1);
+    w2c_j0 = w2c_p3;
+    w2c_i0 = (u32)(w2c_j0);
+    w2c_j0 = step_i64_load(memory, (u64)(w2c_i0));
+    w2c_j1 = w2c_p3;
+    w2c_i1 = (u32)(w2c_j1);
+    w2c_j1 = step_i64_load(memory, (u64)(w2c_i1) + 8u);
+    w2c_j2 = w2c_l4;
+    leaf_encrypt(memory, w2c_j0, w2c_j1, w2c_j2);
+    w2c_j0 = w2c_l4;
+    w2c_i0 = (u32)(w2c_j0);
+    w2c_j0 = step_i64_load(memory, (u64)(w2c_i0));
+    w2c_p3 = w2c_j0;
+    w2c_j0 = w2c_l5;
+    w2c_j1 = w2c_p1;
+    w2c_j2 = w2c_l7;
+    w2c_j1 = REM_U(w2c_j1, w2c_j2);
+    w2c_l9 = w2c_j1;
+    w2c_j2 = 3ull;
+    w2c_j1 <<= (w2c_j2 & 63);
+    w2c_j0 += w2c_j1;
+    w2c_i0 = (u32)(w2c_j0);
+    w2c_j1 = w2c_l4;
+    w2c_i1 = (u32)(w2c_j1);
+    w2c_j1 = step_i64_load(memory, (u64)(w2c_i1) + 8u);
+    step_i64_store(memory, (u64)(w2c_i0), w2c_j1);
+    w2c_j0 = w2c_p3;
+    w2c_j1 = w2c_p1;
+    w2c_j2 = 1ull;
+    w2c_j1 += w2c_j2;
+    w2c_p1 = w2c_j1;
+    w2c_j2 = 56ull;
+    w2c_j1 <<= (w2c_j2 & 63);
+    w2c_j2 = w2c_p1;
+    w2c_j3 = 65280ull;
+    w2c_j2 &= w2c_j3;
+    w2c_j3 = 40ull;
+    w2c_j2 <<= (w2c_j3 & 63);
+    w2c_j1 |= w2c_j2;
+    w2c_j2 = w2c_p1;
+    w2c_j3 = 16711680ull;
+    w2c_j2 &= w2c_j3;
+    w2c_j3 = 24ull;
+    w2c_j2 <<= (w2c_j3 & 63);
+    w2c_j3 = w2c_p1;
+    w2c_j4 = 4278190080ull;
+    w2c_j3 &= w2c_j4;
+    w2c_j4 = 8ull;
+    w2c_j3 <<= (w2c_j4 & 63);
+    w2c_j2 |= w2c_j3;
+    w2c_j1 |= w2c_j2;
+    w2c_j2 = w2c_p1;
+    w2c_j3 = 8ull;
+    w2c_j2 >>= (w2c_j3 & 63);
+    w2c_j3 = 4278190080ull;
+    w2c_j2 &= w2c_j3;
+    w2c_j3 = w2c_p1;
+    w2c_j4 = 24ull;
+    w2c_j3 >>= (w2c_j4 & 63);
+    w2c_j4 = 16711680ull;
+    w2c_j3 &= w2c_j4;
+    w2c_j2 |= w2c_j3;
+    w2c_j3 = w2c_p1;
+    w2c_j4 = 40ull;
+    w2c_j3 >>= (w2c_j4 & 63);
+    w2c_j4 = 65280ull;
+    w2c_j3 &= w2c_j4;
+    w2c_j4 = w2c_p1;
+    w2c_j5 = 56ull;
+    w2c_j4 >>= (w2c_j5 & 63);
+    w2c_j3 |= w2c_j4;
+    w2c_j2 |= w2c_j3;
+    w2c_j1 |= w2c_j2;
+    w2c_j0 ^= w2c_j1;
+    w2c_l6 = w2c_j0;
+    w2c_j0 = w2c_l5;
+    w2c_j1 = 0ull;
+    w2c_j2 = w2c_l9;
+    w2c_j3 = 1ull;
+    w2c_j2 += w2c_j3;
+    w2c_p3 = w2c_j2;
+    w2c_j3 = 3ull;
+    w2c_j2 <<= (w2c_j3 & 63);
+    w2c_j3 = w2c_p3;
+    w2c_j4 = w2c_l7;
+    w2c_i3 = w2c_j3 == w2c_j4;
+    w2c_j1 = w2c_i3 ? w2c_j1 : w2c_j2;
+    w2c_j0 += w2c_j1;
+    w2c_p3 = w2c_j0;
+    w2c_j0 = w2c_l8;
+    w2c_j1 = w2c_p1;
+    w2c_i0 = w2c_j0 != w2c_j1;
+    if (w2c_i0) {goto w2c_L3;}
+    goto w2c_B1;
+  UNREACHABLE;
+  w2c_B2:;
+  w2c_j0 = w2c_l5;
+  w2c_i0 = (u32)(w2c_j0);
+  w2c_j0 = step_i64_load(memory, (u64)(w2c_i0));
+  w2c_l6 = w2c_j0;
+  w2c_j0 = w2c_p0;
+  w2c_j1 = 8ull;
+  w2c_j0 += w2c_j1;
+  w2c_p3 = w2c_j0;
+  w2c_i0 = (u32)(w2c_j0);
+  w2c_j1 = 18446744073709551615ull;
+  w2c_j2 = w2c_p3;
+  w2c_i2 = (u32)(w2c_j2);
+  w2c_j2 = step_i64_load(memory, (u64)(w2c_i2));
+  w2c_j3 = 1ull;
+  w2c_j2 += w2c_j3;
+  w2c_p3 = w2c_j2;
+  w2c_j3 = w2c_p3;
+  w2c_i3 = !(w2c_j3);
+  w2c_j1 = w2c_i3 ? w2c_j1 : w2c_j2;
+  step_i64_store(memory, (u64)(w2c_i0), w2c_j1);
+  w2c_j0 = w2c_p0;
+  w2c_i0 = (u32)(w2c_j0);
+  w2c_j0 = step_i64_load(memory, (u64)(w2c_i0));
+  w2c_p3 = w2c_j0;
+  w2c_j0 = w2c_l4;
+  w2c_i0 = (u32)(w2c_j0);
+  w2c_j1 = w2c_l6;
+  step_i64_store(memory, (u64)(w2c_i0) + 8, w2c_j1);
+  w2c_j0 = w2c_l4;
+  w2c_i0 = (u32)(w2c_j0);
+  w2c_j1 = w2c_p1;
+  w2c_j2 = 56ull;
+  w2c_j1 <<= (w2c_j2 & 63);
+  w2c_j2 = w2c_p1;
+  w2c_j3 = 65280ull;
+  w2c_j2 &= w2c_j3;
+  w2c_j3 = 40ull;
+  w2c_j2 <<= (w2c_j3 & 63);
+  w2c_j1 |= w2c_j2;
+  w2c_j2 = w2c_p1;
+  w2c_j3 = 16711680ull;
+  w2c_j2 &= w2c_j3;
+  w2c_j3 = 24ull;
+  w2c_j2 <<= (w2c_j3 & 63);
+  w2c_j3 = w2c_p1;
+  w2c_j4 = 4278190080ull;
+  w2c_j3 &= w2c_j4;
+  w2c_j4 = 8ull;
+  w2c_j3 <<= (w2c_j4 & 63);
+  w2c_j2 |= w2c_j3;
+  w2c_j1 |= w2c_j2;
+  w2c_j2 = w2c_p1;
+  w2c_j3 = 8ull;
+  w2c_j2 >>= (w2c_j3 & 63);
+  w2c_j3 = 4278190080ull;
+  w2c_j2 &= w2c_j3;
+  w2c_j3 = w2c_p1;
+  w2c_j4 = 24ull;
+  w2c_j3 >>= (w2c_j4 & 63);
+  w2c_j4 = 16711680ull;
+  w2c_j3 &= w2c_j4;
+  w2c_j2 |= w2c_j3;
+  w2c_j3 = w2c_p1;
+  w2c_j4 = 40ull;
+  w2c_j3 >>= (w2c_j4 & 63);
+  w2c_j4 = 65280ull;
+  w2c_j3 &= w2c_j4;
+  w2c_j4 = w2c_p1;
+  w2c_j5 = 56ull;
+  w2c_j4 >>= (w2c_j5 & 63);
+  w2c_j3 |= w2c_j4;
+  w2c_j2 |= w2c_j3;
+  w2c_j1 |= w2c_j2;
+  step_i64_store(memory, (u64)(w2c_i0), w2c_j1);
+  w2c_j0 = w2c_p3;
+  w2c_i0 = (u32)(w2c_j0);
+  w2c_j0 = step_i64_load(memory, (u64)(w2c_i0));
+  w2c_j1 = w2c_p3;
+  w2c_i1 = (u32)(w2c_j1);
+  w2c_j1 = step_i64_load(memory, (u64)(w2c_i1) + 8u);
+  w2c_j2 = w2c_l4;
+  leaf_encrypt(memory, w2c_j0, w2c_j1, w2c_j2);
+  w2c_j0 = w2c_l4;
+  w2c_i0 = (u32)(w2c_j0);
+  w2c_j0 = step_i64_load(memory, (u64)(w2c_i0));
+  w2c_l6 = w2c_j0;
+  w2c_j0 = w2c_l5;
+  w2c_i0 = (u32)(w2c_j0);
+  w2c_j1 = w2c_l4;
+  w2c_i1 = (u32)(w2c_j1);
+  w2c_j1 = step_i64_load(memory, (u64)(w2c_i1) + 8u);
+  step_i64_store(memory, (u64)(w2c_i0), w2c_j1);
+  w2c_B1:;
+  w2c_j0 = w2c_p2;
+  w2c_i0 = (u32)(w2c_j0);
+  w2c_j1 = w2c_l6;
+  step_i64_store(memory, (u64)(w2c_i0), w2c_j1);
+  w2c_j0 = w2c_l4;
+  w2c_j1 = 16ull;
+  w2c_j0 += w2c_j1;
+  instance->w2c_g0 = w2c_j0;
+  goto w2c_Bfunc;
+  w2c_B0:;
+  UNREACHABLE;
+  w2c_Bfunc:;
+}
+static void w2c_f21(struct instance *instance, u64 w2c_p0, u64 w2c_p1, u64 w2c_p2, u64 w2c_p3, u64 w2c_p4, u64 w2c_p5, u64 w2c_p6) {
+  u32 w2c_l8 = 0;
+  u64 w2c_l7 = 0;
+  const struct memory memory = instance->w2c_memory;
+  (void)memory;
+  u32 w2c_i0, w2c_i1, w2c_i2;
+  u64 w2c_j0, w2c_j1, w2c_j2, w2c_j3, w2c_j4, w2c_j5;
+  w2c_j0 = instance->w2c_g0;
+  w2c_j1 = 48ull;
+  w2c_j0 -= w2c_j1;
+  w2c_l7 = w2c_j0;
+  instance->w2c_g0 = w2c_j0;
+  w2c_j0 = w2c_l7;
+  w2c_l7 = w2c_j0;
+  w2c_j1 = 16ull;
+  w2c_i0 = (u64)((s64)w2c_j0 < (s64)w2c_j1);
+  if (w2c_i0) {goto w2c_B0;}
+  w2c_j0 = w2c_p6;
+  w2c_i0 = !(w2c_j0);
+  if (w2c_i0) {goto w2c_B1;}
+  w2c_L2: 
+    w2c_j0 = w2c_l7;
+    w2c_i0 = (u32)(w2c_j0);
+    w2c_j1 = 0ull;
+    step_i64_store(memory, (u64)(w2c_i0) + 40, w2c_j1);
+    w2c_j0 = w2c_l7;
+    w2c_i0 = (u32)(w2c_j0);
+    w2c_j1 = w2c_p0;
+    step_i64_store(memory, (u64)(w2c_i0) + 32, w2c_j1);
+    w2c_j0 = w2c_l7;
+    w2c_i0 = (u32)(w2c_j0);
+    w2c_j1 = 0ull;
+    step_i64_store(memory, (u64)(w2c_i0) + 24, w2c_j1);
+    w2c_j0 = w2c_l7;
+    w2c_i0 = (u32)(w2c_j0);
+    w2c_j1 = w2c_p1;
+    step_i64_store(memory, (u64)(w2c_i0) + 16, w2c_j1);
+    w2c_j0 = w2c_l7;
+    w2c_j1 = 8ull;
+    w2c_j0 += w2c_j1;
+    w2c_j1 = w2c_l7;
+    w2c_j2 = 32ull;
+    w2c_j1 += w2c_j2;
+    w2c_j2 = w2c_l7;
+    w2c_j3 = 16ull;
+    w2c_j2 += w2c_j3;
+    w2c_j3 = w2c_p2;
+    w2c_j4 = w2c_p4;
+    w2c_j5 = w2c_p3;
+    w2c_f17(instance, w2c_j0, w2c_j1, w2c_j2, w2c_j3, w2c_j4, w2c_j5);
+    w2c_j0 = w2c_l7;
+    w2c_i0 = (u32)(w2c_j0);
+    w2c_i0 = i32_load8_u(memory, (u64)(w2c_i0) + 9u);
+    w2c_l8 = w2c_i0;
+    w2c_j0 = w2c_l7;
+    w2c_i0 = (u32)(w2c_j0);
+    w2c_i0 = i32_load8_u(memory, (u64)(w2c_i0) + 8u);
+    if (w2c_i0) {goto w2c_B4;}
+    w2c_i0 = w2c_l8;
+    w2c_i1 = 255u;
+    w2c_i0 &= w2c_i1;
+    w2c_i1 = 0u;
+    w2c_i0 = w2c_i0 != w2c_i1;
+    w2c_l8 = w2c_i0;
+    goto w2c_B3;
+    w2c_B4:;
+    w2c_i0 = 525572u;
+    w2c_i1 = w2c_l8;
+    w2c_i2 = 255u;
+    w2c_i1 &= w2c_i2;
+    w2c_i2 = 3u;
+    w2c_i1 <<= (w2c_i2 & 31);
+    w2c_i0 >>= (w2c_i1 & 31);
+    w2c_l8 = w2c_i0;
+    w2c_B3:;
+    w2c_j0 = w2c_p5;
+    w2c_i0 = (u32)(w2c_j0);
+    w2c_i1 = w2c_l8;
+    i32_store8(memory, (u64)(w2c_i0), w2c_i1);
+    w2c_j0 = w2c_p4;
+    w2c_j1 = w2c_p3;
+    w2c_j0 += w2c_j1;
+    w2c_p4 = w2c_j0;
+    w2c_j0 = w2c_p5;
+    w2c_j1 = 1ull;
+    w2c_j0 += w2c_j1;
+    w2c_p5 = w2c_j0;
+    w2c_j0 = w2c_p6;
+    w2c_j1 = 18446744073709551615ull;
+    w2c_j0 += w2c_j1;
+    w2c_p6 = w2c_j0;
+    w2c_j1 = 0ull;
+    w2c_i0 = w2c_j0 != w2c_j1;
+    if (w2c_i0) {goto w2c_L2;}
+  w2c_B1:;
+  w2c_j0 = w2c_l7;
+  w2c_j1 = 48ull;
+  w2c_j0 += w2c_j1;
+  instance->w2c_g0 = w2c_j0;
+  goto w2c_Bfunc;
+  w2c_B0:;
+  UNREACHABLE;
+  w2c_Bfunc:;
+}
+static void w2c_f22(struct instance *instance, u64 w2c_p0, u64 w2c_p1, u64 w2c_p2, u64 w2c_p3, u64 w2c_p4, u64 w2c_p5, u64 w2c_p6) {
+  u32 w2c_l39 = 0;
+  u64 w2c_l7 = 0, w2c_l8 = 0, w2c_l9 = 0, w2c_l10 = 0, w2c_l11 = 0, w2c_l12 = 0, w2c_l13 = 0, w2c_l14 = 0, 
+      w2c_l15 = 0, w2c_l16 = 0, w2c_l17 = 0, w2c_l18 = 0, w2c_l19 = 0, w2c_l20 = 0, w2c_l21 = 0, w2c_l22 = 0, 
+      w2c_l23 = 0, w2c_l24 = 0, w2c_l25 = 0, w2c_l26 = 0, w2c_l27 = 0, w2c_l28 = 0, w2c_l29 = 0, w2c_l30 = 0, 
+      w2c_l31 = 0, w2c_l32 = 0, w2c_l33 = 0, w2c_l34 = 0, w2c_l35 = 0, w2c_l36 = 0, w2c_l37 = 0, w2c_l38 = 0;
+  const struct memory memory = instance->w2c_memory;
+  (void)memory;
+  u32 w2c_i0, w2c_i1, w2c_i2, w2c_i3;
+  u64 w2c_j0, w2c_j1, w2c_j2, w2c_j3, w2c_j4, w2c_j5, w2c_j6;
+  w2c_j0 = instance->w2c_g0;
+  w2c_j1 = 13856ull;
+  w2c_j0 -= w2c_j1;
+  w2c_l7 = w2c_j0;
+  instance->w2c_g0 = w2c_j0;
+  w2c_j0 = w2c_l7;
+  w2c_l7 = w2c_j0;
+  w2c_j1 = 16ull;
+  w2c_i0 = (u64)((s64)w2c_j0 < (s64)w2c_j1);
+  if (w2c_i0) {goto w2c_B0;}
+  w2c_j0 = w2c_l7;
+  w2c_j1 = 1183ull;
+  w2c_j0 += w2c_j1;
+  w2c_i0 = (u32)(w2c_j0);
+  w2c_i1 = 0u;
+  w2c_j2 = 12672ull;
+  w2c_i2 = (u32)(w2c_j2);
+  memory_fill(memory, w2c_i0, w2c_i1, w2c_i2);
+  w2c_j0 = w2c_l7;
+  w2c_j1 = 415ull;
+  w2c_j0 += w2c_j1;
+  w2c_i0 = (u32)(w2c_j0);
+  w2c_i1 = 0u;
+  w2c_j2 = 768ull;
+  w2c_i2 = (u32)(w2c_j2);
+  memory_fill(memory, w2c_i0, w2c_i1, w2c_i2);
+  w2c_j0 = w2c_l7;
+  w2c_j1 = 24ull;
+  w2c_j0 += w2c_j1;
+  w2c_i0 = (u32)(w2c_j0);
+  w2c_i1 = 0u;
+  w2c_j2 = 384ull;
+  w2c_i2 = (u32)(w2c_j2);
+  memory_fill(memory, w2c_i0, w2c_i1, w2c_i2);
+  w2c_j0 = w2c_p3;
+  w2c_j1 = 3ull;
+  w2c_j0 &= w2c_j1;
+  w2c_l8 = w2c_j0;
+  w2c_j0 = w2c_p3;
+  w2c_j1 = 18446744073709551612ull;
+  w2c_j0 &= w2c_j1;
+  w2c_l9 = w2c_j0;
+  w2c_j0 = w2c_p3;
+  w2c_j1 = 48ull;
+  w2c_j0 *= w2c_j1;
+  w2c_l10 = w2c_j0;
+  w2c_j0 = w2c_p3;
+  w2c_j1 = 11986710452722728952ull;
+  w2c_j0 += w2c_j1;
+  w2c_l11 = w2c_j0;
+  w2c_j0 = w2c_p6;
+  w2c_j1 = 48ull;
+  w2c_j0 = DIV_U(w2c_j0, w2c_j1);
+  w2c_l12 = w2c_j0;
+  w2c_j0 = w2c_p3;
+  w2c_j1 = 18446744073709551608ull;
+  w2c_j0 += w2c_j1;
+  w2c_l13 = w2c_j0;
+  w2c_j1 = 8ull;
+  w2c_i0 = w2c_j0 == w2c_j1;
+  w2c_j0 = (u64)(w2c_i0);
+  w2c_l14 = w2c_j0;
+  w2c_j0 = w2c_l7;
+  w2c_j1 = 1183ull;
+  w2c_j0 += w2c_j1;
+  w2c_j1 = 18446744073709551612ull;
+  w2c_j0 += w2c_j1;
+  w2c_l15 = w2c_j0;
+  w2c_j0 = w2c_l7;
+  w2c_j1 = 1182ull;
+  w2c_j0 += w2c_j1;
+  w2c_l16 = w2c_j0;
+  w2c_j0 = 0ull;
+  w2c_l17 = w2c_j0;
+  w2c_j0 = w2c_p5;
+  w2c_l18 = w2c_j0;
+  w2c_j0 = w2c_p4;
+  w2c_l19 = w2c_j0;
+  w2c_j0 = 0ull;
+  w2c_l20 = w2c_j0;
+  w2c_j0 = 48ull;
+  w2c_l21 = w2c_j0;
+  w2c_L1: 
+    w2c_j0 = w2c_p6;
+    w2c_j1 = w2c_l17;
+    w2c_l22 = w2c_j1;
+    w2c_j2 = 48ull;
+    w2c_j1 *= w2c_j2;
+    w2c_l17 = w2c_j1;
+    w2c_j2 = 48ull;
+    w2c_j1 += w2c_j2;
+    w2c_l23 = w2c_j1;
+    w2c_j2 = w2c_p6;
+    w2c_j3 = w2c_l23;
+    w2c_i2 = w2c_j2 < w2c_j3;
+    w2c_j0 = w2c_i2 ? w2c_j0 : w2c_j1;
+    w2c_l23 = w2c_j0;
+    w2c_j1 = w2c_l17;
+    w2c_j0 -= w2c_j1;
+    w2c_l24 = w2c_j0;
+    w2c_j1 = 4ull;
+    w2c_j0 <<= (w2c_j1 & 63);
+    w2c_l25 = w2c_j0;
+    w2c_j0 = w2c_l7;
+    w2c_j1 = 1183ull;
+    w2c_j0 += w2c_j1;
+    w2c_j1 = w2c_p4;
+    w2c_j2 = w2c_l17;
+    w2c_j3 = w2c_p3;
+    w2c_j2 *= w2c_j3;
+    w2c_j1 += w2c_j2;
+    w2c_l26 = w2c_j1;
+    w2c_j0 -= w2c_j1;
+    w2c_j1 = w2c_l24;
+    w2c_j2 = w2c_p3;
+    w2c_j1 *= w2c_j2;
+    w2c_l27 = w2c_j1;
+    w2c_i0 = w2c_j0 >= w2c_j1;
+    if (w2c_i0) {goto w2c_B3;}
+    w2c_j0 = w2c_l23;
+    w2c_j1 = w2c_l22;
+    w2c_j2 = 18446744073709551568ull;
+    w2c_j1 *= w2c_j2;
+    w2c_j0 += w2c_j1;
+    w2c_j1 = w2c_p3;
+    w2c_j0 *= w2c_j1;
+    w2c_l26 = w2c_j0;
+    w2c_i0 = !(w2c_j0);
+    if (w2c_i0) {goto w2c_B2;}
+    w2c_j0 = w2c_l7;
+    w2c_j1 = 1183ull;
+    w2c_j0 += w2c_j1;
+    w2c_i0 = (u32)(w2c_j0);
+    w2c_j1 = w2c_p4;
+    w2c_j2 = w2c_l10;
+    w2c_j3 = w2c_l22;
+    w2c_j2 *= w2c_j3;
+    w2c_j1 += w2c_j2;
+    w2c_i1 = (u32)(w2c_j1);
+    w2c_j2 = w2c_l26;
+    w2c_i2 = (u32)(w2c_j2);
+    memory_copy(memory, memory, w2c_i0, w2c_i1, w2c_i2);
+    goto w2c_B2;
+    w2c_B3:;
+    w2c_j0 = w2c_l27;
+    w2c_i0 = !(w2c_j0);
+    if (w2c_i0) {goto w2c_B2;}
+    w2c_j0 = w2c_l7;
+    w2c_j1 = 1183ull;
+    w2c_j0 += w2c_j1;
+    w2c_i0 = (u32)(w2c_j0);
+    w2c_j1 = w2c_l26;
+    w2c_i1 = (u32)(w2c_j1);
+    w2c_j2 = w2c_l27;
+    w2c_i2 = (u32)(w2c_j2);
+    memory_copy(memory, memory, w2c_i0, w2c_i1, w2c_i2);
+    w2c_B2:;
+    w2c_j0 = w2c_p0;
+    w2c_j1 = w2c_l7;
+    w2c_j2 = 1183ull;
+    w2c_j1 += w2c_j2;
+    w2c_j2 = w2c_l27;
+    w2c_j3 = w2c_p3;
+    w2c_j4 = w2c_l7;
+    w2c_j5 = 415ull;
+    w2c_j4 += w2c_j5;
+    w2c_j5 = w2c_l25;
+    w2c_f16(instance, w2c_j0, w2c_j1, w2c_j2, w2c_j3, w2c_j4, w2c_j5);
+    w2c_j0 = w2c_l23;
+    w2c_j1 = w2c_l17;
+    w2c_i0 = w2c_j0 == w2c_j1;
+    if (w2c_i0) {goto w2c_B5;}
+    w2c_j0 = w2c_p6;
+    w2c_j1 = w2c_l21;
+    w2c_j2 = w2c_p6;
+    w2c_j3 = w2c_l21;
+    w2c_i2 = w2c_j2 < w2c_j3;
+    w2c_j0 = w2c_i2 ? w2c_j0 : w2c_j1;
+    w2c_j1 = w2c_l20;
+    w2c_j0 += w2c_j1;
+    w2c_l28 = w2c_j0;
+    w2c_j0 = w2c_p5;
+    w2c_j1 = w2c_l17;
+    w2c_j0 += w2c_j1;
+    w2c_l29 = w2c_j0;
+    w2c_j0 = 0ull;
+    w2c_l30 = w2c_j0;
+    w2c_j0 = w2c_l7;
+    w2c_j1 = 1183ull;
+    w2c_j0 += w2c_j1;
+    w2c_l31 = w2c_j0;
+    w2c_j0 = 0ull;
+    w2c_l23 = w2c_j0;
+    w2c_L6: 
+      w2c_j0 = w2c_l7;
+      w2c_j1 = 415ull;
+      w2c_j0 += w2c_j1;
+      w2c_j1 = w2c_l23;
+      w2c_j2 = 4ull;
+      w2c_j1 <<= (w2c_j2 & 63);
+      w2c_l32 = w2c_j1;
+      w2c_j0 += w2c_j1;
+      w2c_l33 = w2c_j0;
+      w2c_i0 = (u32)(w2c_j0);
+      w2c_j0 = step_i64_load(memory, (u64)(w2c_i0));
+      w2c_l17 = w2c_j0;
+      w2c_j1 = 56ull;
+      w2c_j0 <<= (w2c_j1 & 63);
+      w2c_j1 = w2c_l17;
+      w2c_j2 = 65280ull;
+      w2c_j1 &= w2c_j2;
+      w2c_j2 = 40ull;
+      w2c_j1 <<= (w2c_j2 & 63);
+      w2c_j0 |= w2c_j1;
+      w2c_j1 = w2c_l17;
+      w2c_j2 = 16711680ull;
+      w2c_j1 &= w2c_j2;
+      w2c_j2 = 24ull;
+      w2c_j1 <<= (w2c_j2 & 63);
+      w2c_j2 = w2c_l17;
+      w2c_j3 = 4278190080ull;
+      w2c_j2 &= w2c_j3;
+      w2c_j3 = 8ull;
+      w2c_j2 <<= (w2c_j3 & 63);
+      w2c_j1 |= w2c_j2;
+      w2c_j0 |= w2c_j1;
+      w2c_j1 = w2c_l17;
+      w2c_j2 = 8ull;
+      w2c_j1 >>= (w2c_j2 & 63);
+      w2c_j2 = 4278190080ull;
+      w2c_j1 &= w2c_j2;
+      w2c_j2 = w2c_l17;
+      w2c_j3 = 24ull;
+      w2c_j2 >>= (w2c_j3 & 63);
+      w2c_j3 = 16711680ull;
+      w2c_j2 &= w2c_j3;
+      w2c_j1 |= w2c_j2;
+      w2c_j2 = w2c_l17;
+      w2c_j3 = 40ull;
+      w2c_j2 >>= (w2c_j3 & 63);
+      w2c_j3 = 65280ull;
+      w2c_j2 &= w2c_j3;
+      w2c_j3 = w2c_l17;
+      w2c_j4 = 56ull;
+      w2c_j3 >>= (w2c_j4 & 63);
+      w2c_j2 |= w2c_j3;
+      w2c_j1 |= w2c_j2;
+      w2c_j0 |= w2c_j1;
+      w2c_l26 = w2c_j0;
+      w2c_j0 = w2c_l7;
+      w2c_j1 = 1183ull;
+      w2c_j0 += w2c_j1;
+      w2c_j1 = w2c_l23;
+      w2c_j2 = w2c_p3;
+      w2c_j1 *= w2c_j2;
+      w2c_l34 = w2c_j1;
+      w2c_j0 += w2c_j1;
+      w2c_l35 = w2c_j0;
+      w2c_j0 = w2c_p2;
+      w2c_i0 = (u32)(w2c_j0);
+      w2c_i0 = i32_load8_u(memory, (u64)(w2c_i0));
+      w2c_i0 = !(w2c_i0);
+      if (w2c_i0) {goto w2c_B8;}
+      w2c_j0 = w2c_p2;
+      w2c_j1 = 8ull;
+      w2c_j0 += w2c_j1;
+      w2c_i0 = (u32)(w2c_j0);
+      w2c_i0 = i32_load8_u(memory, (u64)(w2c_i0));
+      if (w2c_i0) {goto w2c_B9;}
+      w2c_j0 = 1ull;
+      w2c_j1 = w2c_p2;
+      w2c_j2 = 16ull;
+      w2c_j1 += w2c_j2;
+      w2c_i1 = (u32)(w2c_j1);
+      w2c_j1 = step_i64_load(memory, (u64)(w2c_i1));
+      w2c_j2 = w2c_l26;
+      w2c_j1 ^= w2c_j2;
+      w2c_j2 = w2c_l13;
+      w2c_j3 = 8ull;
+      w2c_i2 = w2c_j2 == w2c_j3;
+      w2c_j0 = w2c_i2 ? w2c_j0 : w2c_j1;
+      w2c_l17 = w2c_j0;
+      w2c_j0 = 0ull;
+      w2c_l36 = w2c_j0;
+      w2c_j0 = w2c_p2;
+      w2c_j1 = 24ull;
+      w2c_j0 += w2c_j1;
+      w2c_i0 = (u32)(w2c_j0);
+      w2c_i0 = i32_load8_u(memory, (u64)(w2c_i0));
+      w2c_i1 = 1u;
+      w2c_i0 = w2c_i0 != w2c_i1;
+      if (w2c_i0) {goto w2c_B10;}
+      w2c_j0 = w2c_l11;
+      w2c_l26 = w2c_j0;
+      goto w2c_B7;
+      w2c_B10:;
+      w2c_j0 = w2c_p2;
+      w2c_j1 = 32ull;
+      w2c_j0 += w2c_j1;
+      w2c_i0 = (u32)(w2c_j0);
+      w2c_j0 = step_i64_load(memory, (u64)(w2c_i0));
+      w2c_l26 = w2c_j0;
+      goto w2c_B7;
+      w2c_B9:;
+      w2c_j0 = w2c_l13;
+      w2c_j1 = w2c_l26;
+      w2c_j2 = 4294967295ull;
+      w2c_j1 &= w2c_j2;
+      w2c_l37 = w2c_j1;
+      w2c_j0 -= w2c_j1;
+      w2c_l36 = w2c_j0;
+      w2c_j1 = 3ull;
+      w2c_j0 >>= (w2c_j1 & 63);
+      w2c_j1 = w2c_l26;
+      w2c_j2 = 32ull;
+      w2c_j1 >>= (w2c_j2 & 63);
+      w2c_j2 = 2790873510ull;
+      w2c_j1 ^= w2c_j2;
+      w2c_j0 |= w2c_j1;
+      w2c_j1 = w2c_l35;
+      w2c_j2 = w2c_p3;
+      w2c_j1 += w2c_j2;
+      w2c_j2 = 18446744073709551608ull;
+      w2c_j1 += w2c_j2;
+      w2c_i1 = (u32)(w2c_j1);
+      w2c_j1 = step_i64_load(memory, (u64)(w2c_i1));
+      w2c_l17 = w2c_j1;
+      w2c_j2 = 56ull;
+      w2c_j1 <<= (w2c_j2 & 63);
+      w2c_j2 = w2c_l17;
+      w2c_j3 = 65280ull;
+      w2c_j2 &= w2c_j3;
+      w2c_j3 = 40ull;
+      w2c_j2 <<= (w2c_j3 & 63);
+      w2c_j1 |= w2c_j2;
+      w2c_j2 = w2c_l17;
+      w2c_j3 = 16711680ull;
+      w2c_j2 &= w2c_j3;
+      w2c_j3 = 24ull;
+      w2c_j2 <<= (w2c_j3 & 63);
+      w2c_j3 = w2c_l17;
+      w2c_j4 = 4278190080ull;
+      w2c_j3 &= w2c_j4;
+      w2c_j4 = 8ull;
+      w2c_j3 <<= (w2c_j4 & 63);
+      w2c_j2 |= w2c_j3;
+      w2c_j1 |= w2c_j2;
+      w2c_j2 = w2c_l17;
+      w2c_j3 = 8ull;
+      w2c_j2 >>= (w2c_j3 & 63);
+      w2c_j3 = 4278190080ull;
+      w2c_j2 &= w2c_j3;
+      w2c_j3 = w2c_l17;
+      w2c_j4 = 24ull;
+      w2c_j3 >>= (w2c_j4 & 63);
+      w2c_j4 = 16711680ull;
+      w2c_j3 &= w2c_j4;
+      w2c_j2 |= w2c_j3;
+      w2c_j3 = w2c_l17;
+      w2c_j4 = 40ull;
+      w2c_j3 >>= (w2c_j4 & 63);
+      w2c_j4 = 65280ull;
+      w2c_j3 &= w2c_j4;
+      w2c_j4 = w2c_l17;
+      w2c_j5 = 56ull;
+      w2c_j4 >>= (w2c_j5 & 63);
+      w2c_j3 |= w2c_j4;
+      w2c_j2 |= w2c_j3;
+      w2c_j1 |= w2c_j2;
+      w2c_j2 = 18446744073709551615ull;
+      w2c_j3 = w2c_l36;
+      w2c_j4 = 3ull;
+      w2c_j3 <<= (w2c_j4 & 63);
+      w2c_j2 <<= (w2c_j3 & 63);
+      w2c_j3 = 18446744073709551615ull;
+      w2c_j2 ^= w2c_j3;
+      w2c_j1 &= w2c_j2;
+      w2c_j0 |= w2c_j1;
+      w2c_l17 = w2c_j0;
+      w2c_j0 = 0ull;
+      w2c_l36 = w2c_j0;
+      w2c_j0 = w2c_p2;
+      w2c_j1 = 24ull;
+      w2c_j0 += w2c_j1;
+      w2c_i0 = (u32)(w2c_j0);
+      w2c_i0 = i32_load8_u(memory, (u64)(w2c_i0));
+      if (w2c_i0) {goto w2c_B7;}
+      w2c_j0 = w2c_l37;
+      w2c_j1 = w2c_l13;
+      w2c_j0 ^= w2c_j1;
+      w2c_j1 = w2c_l14;
+      w2c_j0 |= w2c_j1;
+      w2c_l36 = w2c_j0;
+      w2c_j0 = w2c_p2;
+      w2c_j1 = 32ull;
+      w2c_j0 += w2c_j1;
+      w2c_i0 = (u32)(w2c_j0);
+      w2c_j0 = step_i64_load(memory, (u64)(w2c_i0));
+      w2c_l26 = w2c_j0;
+      goto w2c_B7;
+      w2c_B8:;
+      w2c_j0 = 0ull;
+      w2c_l36 = w2c_j0;
+      w2c_j0 = w2c_l13;
+      w2c_j1 = 8ull;
+      w2c_i0 = w2c_j0 == w2c_j1;
+      w2c_j1 = w2c_l17;
+      w2c_j2 = 12008468691120727718ull;
+      w2c_i1 = w2c_j1 != w2c_j2;
+      w2c_i0 |= w2c_i1;
+      w2c_j1 = w2c_l13;
+      w2c_j2 = w2c_l26;
+      w2c_j3 = 4294967295ull;
+      w2c_j2 &= w2c_j3;
+      w2c_j1 -= w2c_j2;
+      w2c_l37 = w2c_j1;
+      w2c_j2 = 3ull;
+      w2c_j1 >>= (w2c_j2 & 63);
+      w2c_j2 = w2c_l26;
+      w2c_j3 = 32ull;
+      w2c_j2 >>= (w2c_j3 & 63);
+      w2c_j3 = 2790873510ull;
+      w2c_j2 ^= w2c_j3;
+      w2c_j1 |= w2c_j2;
+      w2c_j2 = w2c_l35;
+      w2c_j3 = w2c_p3;
+      w2c_j2 += w2c_j3;
+      w2c_j3 = 18446744073709551608ull;
+      w2c_j2 += w2c_j3;
+      w2c_i2 = (u32)(w2c_j2);
+      w2c_j2 = step_i64_load(memory, (u64)(w2c_i2));
+      w2c_l17 = w2c_j2;
+      w2c_j3 = 56ull;
+      w2c_j2 <<= (w2c_j3 & 63);
+      w2c_j3 = w2c_l17;
+      w2c_j4 = 65280ull;
+      w2c_j3 &= w2c_j4;
+      w2c_j4 = 40ull;
+      w2c_j3 <<= (w2c_j4 & 63);
+      w2c_j2 |= w2c_j3;
+      w2c_j3 = w2c_l17;
+      w2c_j4 = 16711680ull;
+      w2c_j3 &= w2c_j4;
+      w2c_j4 = 24ull;
+      w2c_j3 <<= (w2c_j4 & 63);
+      w2c_j4 = w2c_l17;
+      w2c_j5 = 4278190080ull;
+      w2c_j4 &= w2c_j5;
+      w2c_j5 = 8ull;
+      w2c_j4 <<= (w2c_j5 & 63);
+      w2c_j3 |= w2c_j4;
+      w2c_j2 |= w2c_j3;
+      w2c_j3 = w2c_l17;
+      w2c_j4 = 8ull;
+      w2c_j3 >>= (w2c_j4 & 63);
+      w2c_j4 = 4278190080ull;
+      w2c_j3 &= w2c_j4;
+      w2c_j4 = w2c_l17;
+      w2c_j5 = 24ull;
+      w2c_j4 >>= (w2c_j5 & 63);
+      w2c_j5 = 16711680ull;
+      w2c_j4 &= w2c_j5;
+      w2c_j3 |= w2c_j4;
+      w2c_j4 = w2c_l17;
+      w2c_j5 = 40ull;
+      w2c_j4 >>= (w2c_j5 & 63);
+      w2c_j5 = 65280ull;
+      w2c_j4 &= w2c_j5;
+      w2c_j5 = w2c_l17;
+      w2c_j6 = 56ull;
+      w2c_j5 >>= (w2c_j6 & 63);
+      w2c_j4 |= w2c_j5;
+      w2c_j3 |= w2c_j4;
+      w2c_j2 |= w2c_j3;
+      w2c_j3 = 18446744073709551615ull;
+      w2c_j4 = w2c_l37;
+      w2c_j5 = 3ull;
+      w2c_j4 <<= (w2c_j5 & 63);
+      w2c_j3 <<= (w2c_j4 & 63);
+      w2c_j4 = 18446744073709551615ull;
+      w2c_j3 ^= w2c_j4;
+      w2c_j2 &= w2c_j3;
+      w2c_j1 |= w2c_j2;
+      w2c_j2 = 0ull;
+      w2c_i1 = w2c_j1 != w2c_j2;
+      w2c_i0 &= w2c_i1;
+      w2c_j0 = (u64)(w2c_i0);
+      w2c_l17 = w2c_j0;
+      w2c_B7:;
+      w2c_j0 = w2c_l7;
+      w2c_j1 = 16ull;
+      w2c_j0 += w2c_j1;
+      w2c_j1 = w2c_l17;
+      w2c_j2 = w2c_l7;
+      w2c_j3 = 13855ull;
+      w2c_j2 += w2c_j3;
+      w2c_j3 = 0ull;
+      w2c_f13(instance, w2c_j0, w2c_j1, w2c_j2, w2c_j3);
+      w2c_j0 = w2c_l7;
+      w2c_i0 = (u32)(w2c_j0);
+      w2c_i0 = i32_load8_u(memory, (u64)(w2c_i0) + 16u);
+      w2c_i0 = !(w2c_i0);
+      if (w2c_i0) {goto w2c_B14;}
+      w2c_i0 = 5u;
+      w2c_l39 = w2c_i0;
+      goto w2c_B13;
+      w2c_B14:;
+      w2c_j0 = w2c_l7;
+      w2c_j1 = 8ull;
+      w2c_j0 += w2c_j1;
+      w2c_j1 = w2c_l36;
+      w2c_j2 = w2c_l7;
+      w2c_j3 = 13855ull;
+      w2c_j2 += w2c_j3;
+      w2c_j3 = 0ull;
+      w2c_f13(instance, w2c_j0, w2c_j1, w2c_j2, w2c_j3);
+      w2c_j0 = w2c_l7;
+      w2c_i0 = (u32)(w2c_j0);
+      w2c_i0 = i32_load8_u(memory, (u64)(w2c_i0) + 8u);
+      w2c_i0 = !(w2c_i0);
+      if (w2c_i0) {goto w2c_B12;}
+      w2c_i0 = 8u;
+      w2c_l39 = w2c_i0;
+      w2c_B13:;
+      w2c_j0 = w2c_l29;
+      w2c_j1 = w2c_l23;
+      w2c_j0 += w2c_j1;
+      w2c_i0 = (u32)(w2c_j0);
+      w2c_i1 = w2c_l39;
+      i32_store8(memory, (u64)(w2c_i0), w2c_i1);
+      w2c_j0 = w2c_l7;
+      w2c_j1 = 24ull;
+      w2c_j0 += w2c_j1;
+      w2c_j1 = w2c_l23;
+      w2c_j2 = 3ull;
+      w2c_j1 <<= (w2c_j2 & 63);
+      w2c_j0 += w2c_j1;
+      w2c_i0 = (u32)(w2c_j0);
+      w2c_j1 = 48ull;
+      step_i64_store(memory, (u64)(w2c_i0), w2c_j1);
+      goto w2c_B11;
+      w2c_B12:;
+      w2c_j0 = w2c_l29;
+      w2c_j1 = w2c_l23;
+      w2c_j0 += w2c_j1;
+      w2c_i0 = (u32)(w2c_j0);
+      w2c_i1 = 0u;
+      i32_store8(memory, (u64)(w2c_i0), w2c_i1);
+      w2c_j0 = w2c_l33;
+      w2c_j1 = 8ull;
+      w2c_j0 += w2c_j1;
+      w2c_i0 = (u32)(w2c_j0);
+      w2c_j1 = w2c_l35;
+      w2c_j2 = 8ull;
+      w2c_j1 += w2c_j2;
+      w2c_i1 = (u32)(w2c_j1);
+      w2c_j1 = step_i64_load(memory, (u64)(w2c_i1));
+      w2c_l37 = w2c_j1;
+      step_i64_store(memory, (u64)(w2c_i0), w2c_j1);
+      w2c_j0 = w2c_l33;
+      w2c_i0 = (u32)(w2c_j0);
+      w2c_j1 = w2c_l26;
+      w2c_j2 = 56ull;
+      w2c_j1 <<= (w2c_j2 & 63);
+      w2c_j2 = w2c_l26;
+      w2c_j3 = 65280ull;
+      w2c_j2 &= w2c_j3;
+      w2c_j3 = 40ull;
+      w2c_j2 <<= (w2c_j3 & 63);
+      w2c_j1 |= w2c_j2;
+      w2c_j2 = w2c_l26;
+      w2c_j3 = 16711680ull;
+      w2c_j2 &= w2c_j3;
+      w2c_j3 = 24ull;
+      w2c_j2 <<= (w2c_j3 & 63);
+      w2c_j3 = w2c_l26;
+      w2c_j4 = 4278190080ull;
+      w2c_j3 &= w2c_j4;
+      w2c_j4 = 8ull;
+      w2c_j3 <<= (w2c_j4 & 63);
+      w2c_j2 |= w2c_j3;
+      w2c_j1 |= w2c_j2;
+      w2c_j2 = w2c_l26;
+      w2c_j3 = 8ull;
+      w2c_j2 >>= (w2c_j3 & 63);
+      w2c_j3 = 4278190080ull;
+      w2c_j2 &= w2c_j3;
+      w2c_j3 = w2c_l26;
+      w2c_j4 = 24ull;
+      w2c_j3 >>= (w2c_j4 & 63);
+      w2c_j4 = 16711680ull;
+      w2c_j3 &= w2c_j4;
+      w2c_j2 |= w2c_j3;
+      w2c_j3 = w2c_l26;
+      w2c_j4 = 40ull;
+      w2c_j3 >>= (w2c_j4 & 63);
+      w2c_j4 = 65280ull;
+      w2c_j3 &= w2c_j4;
+      w2c_j4 = w2c_l26;
+      w2c_j5 = 56ull;
+      w2c_j4 >>= (w2c_j5 & 63);
+      w2c_j3 |= w2c_j4;
+      w2c_j2 |= w2c_j3;
+      w2c_j1 |= w2c_j2;
+      w2c_l38 = w2c_j1;
+      step_i64_store(memory, (u64)(w2c_i0), w2c_j1);
+      w2c_j0 = w2c_l23;
+      w2c_j1 = w2c_l30;
+      w2c_i0 = w2c_j0 == w2c_j1;
+      if (w2c_i0) {goto w2c_B15;}
+      w2c_j0 = w2c_l30;
+      w2c_j1 = w2c_p3;
+      w2c_j0 *= w2c_j1;
+      w2c_l36 = w2c_j0;
+      w2c_j1 = w2c_l34;
+      w2c_i0 = w2c_j0 > w2c_j1;
+      if (w2c_i0) {goto w2c_B17;}
+      w2c_j0 = w2c_p3;
+      w2c_i0 = !(w2c_j0);
+      if (w2c_i0) {goto w2c_B16;}
+      w2c_j0 = w2c_l7;
+      w2c_j1 = 1183ull;
+      w2c_j0 += w2c_j1;
+      w2c_j1 = w2c_l36;
+      w2c_j0 += w2c_j1;
+      w2c_l36 = w2c_j0;
+      w2c_j0 = 0ull;
+      w2c_l17 = w2c_j0;
+      w2c_j0 = w2c_p3;
+      w2c_j1 = 4ull;
+      w2c_i0 = w2c_j0 < w2c_j1;
+      if (w2c_i0) {goto w2c_B18;}
+      w2c_j0 = 0ull;
+      w2c_l17 = w2c_j0;
+      w2c_L19: 
+        w2c_j0 = w2c_l36;
+        w2c_j1 = w2c_l17;
+        w2c_j0 += w2c_j1;
+        w2c_l26 = w2c_j0;
+        w2c_i0 = (u32)(w2c_j0);
+        w2c_j1 = w2c_l31;
+        w2c_j2 = w2c_l17;
+        w2c_j1 += w2c_j2;
+        w2c_l35 = w2c_j1;
+        w2c_i1 = (u32)(w2c_j1);
+        w2c_i1 = i32_load8_u(memory, (u64)(w2c_i1));
+        i32_store8(memory, (u64)(w2c_i0), w2c_i1);
+        w2c_j0 = w2c_l26;
+        w2c_j1 = 1ull;
+        w2c_j0 += w2c_j1;
+        w2c_i0 = (u32)(w2c_j0);
+        w2c_j1 = w2c_l35;
+        w2c_j2 = 1ull;
+        w2c_j1 += w2c_j2;
+        w2c_i1 = (u32)(w2c_j1);
+        w2c_i1 = i32_load8_u(memory, (u64)(w2c_i1));
+        i32_store8(memory, (u64)(w2c_i0), w2c_i1);
+        w2c_j0 = w2c_l26;
+        w2c_j1 = 2ull;
+        w2c_j0 += w2c_j1;
+        w2c_i0 = (u32)(w2c_j0);
+        w2c_j1 = w2c_l35;
+        w2c_j2 = 2ull;
+        w2c_j1 += w2c_j2;
+        w2c_i1 = (u32)(w2c_j1);
+        w2c_i1 = i32_load8_u(memory, (u64)(w2c_i1));
+        i32_store8(memory, (u64)(w2c_i0), w2c_i1);
+        w2c_j0 = w2c_l26;
+        w2c_j1 = 3ull;
+        w2c_j0 += w2c_j1;
+        w2c_i0 = (u32)(w2c_j0);
+        w2c_j1 = w2c_l35;
+        w2c_j2 = 3ull;
+        w2c_j1 += w2c_j2;
+        w2c_i1 = (u32)(w2c_j1);
+        w2c_i1 = i32_load8_u(memory, (u64)(w2c_i1));
+        i32_store8(memory, (u64)(w2c_i0), w2c_i1);
+        w2c_j0 = w2c_l9;
+        w2c_j1 = w2c_l17;
+        w2c_j2 = 4ull;
+        w2c_j1 += w2c_j2;
+        w2c_l17 = w2c_j1;
+        w2c_i0 = w2c_j0 != w2c_j1;
+        if (w2c_i0) {goto w2c_L19;}
+      w2c_j0 = w2c_l8;
+      w2c_i0 = !(w2c_j0);
+      if (w2c_i0) {goto w2c_B16;}
+      w2c_B18:;
+      w2c_j0 = w2c_l8;
+      w2c_l26 = w2c_j0;
+      w2c_L20: 
+        w2c_j0 = w2c_l36;
+        w2c_j1 = w2c_l17;
+        w2c_j0 += w2c_j1;
+        w2c_i0 = (u32)(w2c_j0);
+        w2c_j1 = w2c_l31;
+        w2c_j2 = w2c_l17;
+        w2c_j1 += w2c_j2;
+        w2c_i1 = (u32)(w2c_j1);
+        w2c_i1 = i32_load8_u(memory, (u64)(w2c_i1));
+        i32_store8(memory, (u64)(w2c_i0), w2c_i1);
+        w2c_j0 = w2c_l17;
+        w2c_j1 = 1ull;
+        w2c_j0 += w2c_j1;
+        w2c_l17 = w2c_j0;
+        w2c_j0 = w2c_l26;
+        w2c_j1 = 18446744073709551615ull;
+        w2c_j0 += w2c_j1;
+        w2c_l26 = w2c_j0;
+        w2c_j1 = 0ull;
+        w2c_i0 = w2c_j0 != w2c_j1;
+        if (w2c_i0) {goto w2c_L20;}
+        goto w2c_B16;
+      UNREACHABLE;
+      w2c_B17:;
+      w2c_j0 = w2c_p3;
+      w2c_i0 = !(w2c_j0);
+      if (w2c_i0) {goto w2c_B16;}
+      w2c_j0 = w2c_p3;
+      w2c_l17 = w2c_j0;
+      w2c_j0 = w2c_l8;
+      w2c_i0 = !(w2c_j0);
+      if (w2c_i0) {goto w2c_B21;}
+      w2c_j0 = w2c_l16;
+      w2c_j1 = w2c_p3;
+      w2c_j2 = w2c_l30;
+      w2c_j3 = 1ull;
+      w2c_j2 += w2c_j3;
+      w2c_j1 *= w2c_j2;
+      w2c_j0 += w2c_j1;
+      w2c_l26 = w2c_j0;
+      w2c_j0 = w2c_l8;
+      w2c_l35 = w2c_j0;
+      w2c_j0 = w2c_p3;
+      w2c_l17 = w2c_j0;
+      w2c_L22: 
+        w2c_j0 = w2c_l26;
+        w2c_i0 = (u32)(w2c_j0);
+        w2c_j1 = w2c_l17;
+        w2c_j2 = 18446744073709551615ull;
+        w2c_j1 += w2c_j2;
+        w2c_l17 = w2c_j1;
+        w2c_j2 = w2c_l31;
+        w2c_j1 += w2c_j2;
+        w2c_i1 = (u32)(w2c_j1);
+        w2c_i1 = i32_load8_u(memory, (u64)(w2c_i1));
+        i32_store8(memory, (u64)(w2c_i0), w2c_i1);
+        w2c_j0 = w2c_l26;
+        w2c_j1 = 18446744073709551615ull;
+        w2c_j0 += w2c_j1;
+        w2c_l26 = w2c_j0;
+        w2c_j0 = w2c_l35;
+        w2c_j1 = 18446744073709551615ull;
+        w2c_j0 += w2c_j1;
+        w2c_l35 = w2c_j0;
+        w2c_j1 = 0ull;
+        w2c_i0 = w2c_j0 != w2c_j1;
+        if (w2c_i0) {goto w2c_L22;}
+      w2c_B21:;
+      w2c_j0 = w2c_p3;
+      w2c_j1 = 4ull;
+      w2c_i0 = w2c_j0 < w2c_j1;
+      if (w2c_i0) {goto w2c_B16;}
+      w2c_j0 = w2c_l15;
+      w2c_j1 = w2c_l36;
+      w2c_j0 += w2c_j1;
+      w2c_l36 = w2c_j0;
+      w2c_L23: 
+        w2c_j0 = w2c_l36;
+        w2c_j1 = w2c_l17;
+        w2c_j0 += w2c_j1;
+        w2c_l26 = w2c_j0;
+        w2c_j1 = 3ull;
+        w2c_j0 += w2c_j1;
+        w2c_i0 = (u32)(w2c_j0);
+        w2c_j1 = w2c_l31;
+        w2c_j2 = w2c_l17;
+        w2c_j1 += w2c_j2;
+        w2c_l35 = w2c_j1;
+        w2c_j2 = 18446744073709551615ull;
+        w2c_j1 += w2c_j2;
+        w2c_i1 = (u32)(w2c_j1);
+        w2c_i1 = i32_load8_u(memory, (u64)(w2c_i1));
+        i32_store8(memory, (u64)(w2c_i0), w2c_i1);
+        w2c_j0 = w2c_l26;
+        w2c_j1 = 2ull;
+        w2c_j0 += w2c_j1;
+        w2c_i0 = (u32)(w2c_j0);
+        w2c_j1 = w2c_l35;
+        w2c_j2 = 18446744073709551614ull;
+        w2c_j1 += w2c_j2;
+        w2c_i1 = (u32)(w2c_j1);
+        w2c_i1 = i32_load8_u(memory, (u64)(w2c_i1));
+        i32_store8(memory, (u64)(w2c_i0), w2c_i1);
+        w2c_j0 = w2c_l26;
+        w2c_j1 = 1ull;
+        w2c_j0 += w2c_j1;
+        w2c_i0 = (u32)(w2c_j0);
+        w2c_j1 = w2c_l35;
+        w2c_j2 = 18446744073709551613ull;
+        w2c_j1 += w2c_j2;
+        w2c_i1 = (u32)(w2c_j1);
+        w2c_i1 = i32_load8_u(memory, (u64)(w2c_i1));
+        i32_store8(memory, (u64)(w2c_i0), w2c_i1);
+        w2c_j0 = w2c_l26;
+        w2c_i0 = (u32)(w2c_j0);
+        w2c_j1 = w2c_l35;
+        w2c_j2 = 18446744073709551612ull;
+        w2c_j1 += w2c_j2;
+        w2c_i1 = (u32)(w2c_j1);
+        w2c_i1 = i32_load8_u(memory, (u64)(w2c_i1));
+        i32_store8(memory, (u64)(w2c_i0), w2c_i1);
+        w2c_j0 = w2c_l17;
+        w2c_j1 = 18446744073709551612ull;
+        w2c_j0 += w2c_j1;
+        w2c_l17 = w2c_j0;
+        w2c_i0 = !(w2c_j0);
+        w2c_i0 = !(w2c_i0);
+        if (w2c_i0) {goto w2c_L23;}
+      w2c_B16:;
+      w2c_j0 = w2c_l7;
+      w2c_j1 = 415ull;
+      w2c_j0 += w2c_j1;
+      w2c_j1 = w2c_l30;
+      w2c_j2 = 4ull;
+      w2c_j1 <<= (w2c_j2 & 63);
+      w2c_l26 = w2c_j1;
+      w2c_j0 += w2c_j1;
+      w2c_l17 = w2c_j0;
+      w2c_j0 = w2c_l26;
+      w2c_j1 = w2c_l32;
+      w2c_i0 = w2c_j0 > w2c_j1;
+      if (w2c_i0) {goto w2c_B24;}
+      w2c_j0 = w2c_l17;
+      w2c_i0 = (u32)(w2c_j0);
+      w2c_j1 = w2c_l38;
+      step_i64_store(memory, (u64)(w2c_i0), w2c_j1);
+      w2c_j0 = w2c_l17;
+      w2c_j1 = 8ull;
+      w2c_j0 += w2c_j1;
+      w2c_i0 = (u32)(w2c_j0);
+      w2c_j1 = w2c_l37;
+      step_i64_store(memory, (u64)(w2c_i0), w2c_j1);
+      goto w2c_B15;
+      w2c_B24:;
+      w2c_j0 = w2c_l17;
+      w2c_i0 = (u32)(w2c_j0);
+      w2c_j1 = w2c_l38;
+      step_i64_store(memory, (u64)(w2c_i0), w2c_j1);
+      w2c_j0 = w2c_l17;
+      w2c_j1 = 8ull;
+      w2c_j0 += w2c_j1;
+      w2c_i0 = (u32)(w2c_j0);
+      w2c_j1 = w2c_l37;
+      step_i64_store(memory, (u64)(w2c_i0), w2c_j1);
+      w2c_B15:;
+      w2c_j0 = w2c_l7;
+      w2c_j1 = 24ull;
+      w2c_j0 += w2c_j1;
+      w2c_j1 = w2c_l23;
+      w2c_j2 = 3ull;
+      w2c_j1 <<= (w2c_j2 & 63);
+      w2c_j0 += w2c_j1;
+      w2c_i0 = (u32)(w2c_j0);
+      w2c_j1 = w2c_l30;
+      step_i64_store(memory, (u64)(w2c_i0), w2c_j1);
+      w2c_j0 = w2c_l30;
+      w2c_j1 = 1ull;
+      w2c_j0 += w2c_j1;
+      w2c_l30 = w2c_j0;
+      w2c_B11:;
+      w2c_j0 = w2c_l31;
+      w2c_j1 = w2c_p3;
+      w2c_j0 += w2c_j1;
+      w2c_l31 = w2c_j0;
+      w2c_j0 = w2c_l23;
+      w2c_j1 = 1ull;
+      w2c_j0 += w2c_j1;
+      w2c_l23 = w2c_j0;
+      w2c_j1 = w2c_l24;
+      w2c_i0 = w2c_j0 != w2c_j1;
+      if (w2c_i0) {goto w2c_L6;}
+    w2c_j0 = w2c_p1;
+    w2c_j1 = w2c_l7;
+    w2c_j2 = 1183ull;
+    w2c_j1 += w2c_j2;
+    w2c_j2 = w2c_l30;
+    w2c_j3 = w2c_p3;
+    w2c_j2 *= w2c_j3;
+    w2c_j3 = w2c_p3;
+    w2c_j4 = w2c_l7;
+    w2c_j5 = 415ull;
+    w2c_j4 += w2c_j5;
+    w2c_j5 = w2c_l30;
+    w2c_j6 = 4ull;
+    w2c_j5 <<= (w2c_j6 & 63);
+    w2c_f23(instance, w2c_j0, w2c_j1, w2c_j2, w2c_j3, w2c_j4, w2c_j5);
+    w2c_j0 = w2c_l7;
+    w2c_j1 = 24ull;
+    w2c_j0 += w2c_j1;
+    w2c_l23 = w2c_j0;
+    w2c_j0 = w2c_l19;
+    w2c_l17 = w2c_j0;
+    w2c_j0 = w2c_l28;
+    w2c_l26 = w2c_j0;
+    w2c_L25: 
+      w2c_j0 = w2c_l23;
+      w2c_i0 = (u32)(w2c_j0);
+      w2c_j0 = step_i64_load(memory, (u64)(w2c_i0));
+      w2c_l31 = w2c_j0;
+      w2c_j1 = w2c_l30;
+      w2c_i0 = w2c_j0 >= w2c_j1;
+      if (w2c_i0) {goto w2c_B26;}
+      w2c_j0 = w2c_l7;
+      w2c_j1 = 1183ull;
+      w2c_j0 += w2c_j1;
+      w2c_j1 = w2c_l31;
+      w2c_j2 = w2c_p3;
+      w2c_j1 *= w2c_j2;
+      w2c_j0 += w2c_j1;
+      w2c_l35 = w2c_j0;
+      w2c_j0 = w2c_l17;
+      w2c_j1 = w2c_l7;
+      w2c_j2 = 415ull;
+      w2c_j1 += w2c_j2;
+      w2c_j2 = w2c_l31;
+      w2c_j3 = 4ull;
+      w2c_j2 <<= (w2c_j3 & 63);
+      w2c_j1 += w2c_j2;
+      w2c_l31 = w2c_j1;
+      w2c_j0 -= w2c_j1;
+      w2c_j1 = 7ull;
+      w2c_i0 = w2c_j0 > w2c_j1;
+      if (w2c_i0) {goto w2c_B28;}
+      w2c_j0 = w2c_l17;
+      w2c_i0 = (u32)(w2c_j0);
+      w2c_j1 = w2c_l31;
+      w2c_i1 = (u32)(w2c_j1);
+      w2c_j1 = step_i64_load(memory, (u64)(w2c_i1));
+      step_i64_store(memory, (u64)(w2c_i0), w2c_j1);
+      goto w2c_B27;
+      w2c_B28:;
+      w2c_j0 = w2c_l17;
+      w2c_i0 = (u32)(w2c_j0);
+      w2c_j1 = w2c_l31;
+      w2c_i1 = (u32)(w2c_j1);
+      w2c_j1 = step_i64_load(memory, (u64)(w2c_i1));
+      step_i64_store(memory, (u64)(w2c_i0), w2c_j1);
+      w2c_B27:;
+      w2c_j0 = w2c_l17;
+      w2c_j1 = 8ull;
+      w2c_j0 += w2c_j1;
+      w2c_l36 = w2c_j0;
+      w2c_j1 = w2c_l35;
+      w2c_j2 = 8ull;
+      w2c_j1 += w2c_j2;
+      w2c_l31 = w2c_j1;
+      w2c_j0 -= w2c_j1;
+      w2c_j1 = w2c_l13;
+      w2c_i0 = w2c_j0 >= w2c_j1;
+      if (w2c_i0) {goto w2c_B29;}
+      w2c_j0 = w2c_l13;
+      w2c_i0 = !(w2c_j0);
+      if (w2c_i0) {goto w2c_B26;}
+      w2c_j0 = w2c_l17;
+      w2c_j1 = 8ull;
+      w2c_j0 += w2c_j1;
+      w2c_i0 = (u32)(w2c_j0);
+      w2c_j1 = w2c_l31;
+      w2c_i1 = (u32)(w2c_j1);
+      w2c_j2 = w2c_l13;
+      w2c_i2 = (u32)(w2c_j2);
+      memory_copy(memory, memory, w2c_i0, w2c_i1, w2c_i2);
+      goto w2c_B26;
+      w2c_B29:;
+      w2c_j0 = w2c_l13;
+      w2c_i0 = !(w2c_j0);
+      if (w2c_i0) {goto w2c_B26;}
+      w2c_j0 = w2c_l36;
+      w2c_i0 = (u32)(w2c_j0);
+      w2c_j1 = w2c_l31;
+      w2c_i1 = (u32)(w2c_j1);
+      w2c_j2 = w2c_l13;
+      w2c_i2 = (u32)(w2c_j2);
+      memory_copy(memory, memory, w2c_i0, w2c_i1, w2c_i2);
+      w2c_B26:;
+      w2c_j0 = w2c_l17;
+      w2c_j1 = w2c_p3;
+      w2c_j0 += w2c_j1;
+      w2c_l17 = w2c_j0;
+      w2c_j0 = w2c_l23;
+      w2c_j1 = 8ull;
+      w2c_j0 += w2c_j1;
+      w2c_l23 = w2c_j0;
+      w2c_j0 = w2c_l26;
+      w2c_j1 = 18446744073709551615ull;
+      w2c_j0 += w2c_j1;
+      w2c_l26 = w2c_j0;
+      w2c_j1 = 0ull;
+      w2c_i0 = w2c_j0 != w2c_j1;
+      if (w2c_i0) {goto w2c_L25;}
+    w2c_j0 = w2c_l30;
+    w2c_j1 = w2c_l24;
+    w2c_i0 = w2c_j0 == w2c_j1;
+    if (w2c_i0) {goto w2c_B30;}
+    w2c_j0 = w2c_p2;
+    w2c_j1 = 40ull;
+    w2c_j0 += w2c_j1;
+    w2c_i0 = (u32)(w2c_j0);
+    w2c_i0 = i32_load8_u(memory, (u64)(w2c_i0));
+    w2c_i1 = 1u;
+    w2c_i0 &= w2c_i1;
+    w2c_i0 = !(w2c_i0);
+    if (w2c_i0) {goto w2c_B30;}
+    w2c_j0 = 0ull;
+    w2c_l26 = w2c_j0;
+    w2c_j0 = w2c_l7;
+    w2c_j1 = 24ull;
+    w2c_j0 += w2c_j1;
+    w2c_l17 = w2c_j0;
+    w2c_j0 = w2c_l19;
+    w2c_l31 = w2c_j0;
+    w2c_j0 = w2c_l18;
+    w2c_l35 = w2c_j0;
+    w2c_j0 = w2c_l28;
+    w2c_l30 = w2c_j0;
+    w2c_L31: 
+      w2c_j0 = w2c_l17;
+      w2c_i0 = (u32)(w2c_j0);
+      w2c_j0 = step_i64_load(memory, (u64)(w2c_i0));
+      w2c_j1 = 48ull;
+      w2c_i0 = w2c_j0 != w2c_j1;
+      if (w2c_i0) {goto w2c_B33;}
+      w2c_j0 = w2c_l35;
+      w2c_i0 = (u32)(w2c_j0);
+      w2c_i0 = i32_load8_u(memory, (u64)(w2c_i0));
+      w2c_i1 = 255u;
+      w2c_i0 &= w2c_i1;
+      w2c_i1 = 8u;
+      w2c_i0 = w2c_i0 == w2c_i1;
+      if (w2c_i0) {goto w2c_B33;}
+      w2c_j0 = w2c_l7;
+      w2c_j1 = 1183ull;
+      w2c_j0 += w2c_j1;
+      w2c_j1 = w2c_l26;
+      w2c_j2 = w2c_p3;
+      w2c_j1 *= w2c_j2;
+      w2c_j0 += w2c_j1;
+      w2c_l23 = w2c_j0;
+      w2c_j1 = w2c_l31;
+      w2c_j0 -= w2c_j1;
+      w2c_j1 = w2c_p3;
+      w2c_i0 = w2c_j0 >= w2c_j1;
+      if (w2c_i0) {goto w2c_B36;}
+      w2c_j0 = w2c_p3;
+      w2c_i0 = !(w2c_j0);
+      w2c_i0 = !(w2c_i0);
+      if (w2c_i0) {goto w2c_B35;}
+      goto w2c_B34;
+      w2c_B36:;
+      w2c_j0 = w2c_p3;
+      w2c_i0 = !(w2c_j0);
+      if (w2c_i0) {goto w2c_B34;}
+      w2c_B35:;
+      w2c_j0 = w2c_l23;
+      w2c_i0 = (u32)(w2c_j0);
+      w2c_j1 = w2c_l31;
+      w2c_i1 = (u32)(w2c_j1);
+      w2c_j2 = w2c_p3;
+      w2c_i2 = (u32)(w2c_j2);
+      memory_copy(memory, memory, w2c_i0, w2c_i1, w2c_i2);
+      w2c_B34:;
+      w2c_j0 = w2c_l17;
+      w2c_i0 = (u32)(w2c_j0);
+      w2c_j1 = w2c_l26;
+      step_i64_store(memory, (u64)(w2c_i0), w2c_j1);
+      w2c_j0 = w2c_l26;
+      w2c_j1 = 1ull;
+      w2c_j0 += w2c_j1;
+      w2c_l26 = w2c_j0;
+      goto w2c_B32;
+      w2c_B33:;
+      w2c_j0 = w2c_l17;
+      w2c_i0 = (u32)(w2c_j0);
+      w2c_j1 = 48ull;
+      step_i64_store(memory, (u64)(w2c_i0), w2c_j1);
+      w2c_B32:;
+      w2c_j0 = w2c_l31;
+      w2c_j1 = w2c_p3;
+      w2c_j0 += w2c_j1;
+      w2c_l31 = w2c_j0;
+      w2c_j0 = w2c_l17;
+      w2c_j1 = 8ull;
+      w2c_j0 += w2c_j1;
+      w2c_l17 = w2c_j0;
+      w2c_j0 = w2c_l35;
+      w2c_j1 = 1ull;
+      w2c_j0 += w2c_j1;
+      w2c_l35 = w2c_j0;
+      w2c_j0 = 0ull;
+      w2c_l23 = w2c_j0;
+      w2c_j0 = w2c_l30;
+      w2c_j1 = 18446744073709551615ull;
+      w2c_j0 += w2c_j1;
+      w2c_l30 = w2c_j0;
+      w2c_j1 = 0ull;
+      w2c_i0 = w2c_j0 != w2c_j1;
+      if (w2c_i0) {goto w2c_L31;}
+    w2c_j0 = w2c_p1;
+    w2c_j1 = w2c_l7;
+    w2c_j2 = 1183ull;
+    w2c_j1 += w2c_j2;
+    w2c_j2 = w2c_l26;
+    w2c_j3 = w2c_p3;
+    w2c_j2 *= w2c_j3;
+    w2c_j3 = w2c_p3;
+    w2c_j4 = w2c_l7;
+    w2c_j5 = 415ull;
+    w2c_j4 += w2c_j5;
+    w2c_j5 = w2c_l26;
+    w2c_j6 = 4ull;
+    w2c_j5 <<= (w2c_j6 & 63);
+    w2c_f16(instance, w2c_j0, w2c_j1, w2c_j2, w2c_j3, w2c_j4, w2c_j5);
+    w2c_j0 = w2c_l7;
+    w2c_j1 = 24ull;
+    w2c_j0 += w2c_j1;
+    w2c_l31 = w2c_j0;
+    w2c_L37: 
+      w2c_j0 = w2c_l31;
+      w2c_i0 = (u32)(w2c_j0);
+      w2c_j0 = step_i64_load(memory, (u64)(w2c_i0));
+      w2c_l35 = w2c_j0;
+      w2c_j1 = w2c_l26;
+      w2c_i0 = w2c_j0 >= w2c_j1;
+      if (w2c_i0) {goto w2c_B38;}
+      w2c_j0 = w2c_l7;
+      w2c_j1 = 415ull;
+      w2c_j0 += w2c_j1;
+      w2c_j1 = w2c_l35;
+      w2c_j2 = 4ull;
+      w2c_j1 <<= (w2c_j2 & 63);
+      w2c_j0 += w2c_j1;
+      w2c_i0 = (u32)(w2c_j0);
+      w2c_j0 = step_i64_load(memory, (u64)(w2c_i0));
+      w2c_l17 = w2c_j0;
+      w2c_j1 = 56ull;
+      w2c_j0 <<= (w2c_j1 & 63);
+      w2c_j1 = w2c_l17;
+      w2c_j2 = 65280ull;
+      w2c_j1 &= w2c_j2;
+      w2c_j2 = 40ull;
+      w2c_j1 <<= (w2c_j2 & 63);
+      w2c_j0 |= w2c_j1;
+      w2c_j1 = w2c_l17;
+      w2c_j2 = 16711680ull;
+      w2c_j1 &= w2c_j2;
+      w2c_j2 = 24ull;
+      w2c_j1 <<= (w2c_j2 & 63);
+      w2c_j2 = w2c_l17;
+      w2c_j3 = 4278190080ull;
+      w2c_j2 &= w2c_j3;
+      w2c_j3 = 8ull;
+      w2c_j2 <<= (w2c_j3 & 63);
+      w2c_j1 |= w2c_j2;
+      w2c_j0 |= w2c_j1;
+      w2c_j1 = w2c_l17;
+      w2c_j2 = 8ull;
+      w2c_j1 >>= (w2c_j2 & 63);
+      w2c_j2 = 4278190080ull;
+      w2c_j1 &= w2c_j2;
+      w2c_j2 = w2c_l17;
+      w2c_j3 = 24ull;
+      w2c_j2 >>= (w2c_j3 & 63);
+      w2c_j3 = 16711680ull;
+      w2c_j2 &= w2c_j3;
+      w2c_j1 |= w2c_j2;
+      w2c_j2 = w2c_l17;
+      w2c_j3 = 40ull;
+      w2c_j2 >>= (w2c_j3 & 63);
+      w2c_j3 = 65280ull;
+      w2c_j2 &= w2c_j3;
+      w2c_j3 = w2c_l17;
+      w2c_j4 = 56ull;
+      w2c_j3 >>= (w2c_j4 & 63);
+      w2c_j2 |= w2c_j3;
+      w2c_j1 |= w2c_j2;
+      w2c_j0 |= w2c_j1;
+      w2c_l30 = w2c_j0;
+      w2c_j0 = w2c_l7;
+      w2c_j1 = 1183ull;
+      w2c_j0 += w2c_j1;
+      w2c_j1 = w2c_l35;
+      w2c_j2 = w2c_p3;
+      w2c_j1 *= w2c_j2;
+      w2c_j0 += w2c_j1;
+      w2c_l35 = w2c_j0;
+      w2c_j0 = w2c_p2;
+      w2c_i0 = (u32)(w2c_j0);
+      w2c_i0 = i32_load8_u(memory, (u64)(w2c_i0));
+      if (w2c_i0) {goto w2c_B40;}
+      w2c_j0 = w2c_l13;
+      w2c_j1 = 8ull;
+      w2c_i0 = w2c_j0 == w2c_j1;
+      w2c_j1 = w2c_l17;
+      w2c_j2 = 12008468691120727718ull;
+      w2c_i1 = w2c_j1 != w2c_j2;
+      w2c_i0 |= w2c_i1;
+      w2c_j1 = w2c_l13;
+      w2c_j2 = w2c_l30;
+      w2c_j3 = 4294967295ull;
+      w2c_j2 &= w2c_j3;
+      w2c_j1 -= w2c_j2;
+      w2c_l36 = w2c_j1;
+      w2c_j2 = 3ull;
+      w2c_j1 >>= (w2c_j2 & 63);
+      w2c_j2 = w2c_l30;
+      w2c_j3 = 32ull;
+      w2c_j2 >>= (w2c_j3 & 63);
+      w2c_j3 = 2790873510ull;
+      w2c_j2 ^= w2c_j3;
+      w2c_j1 |= w2c_j2;
+      w2c_j2 = w2c_l35;
+      w2c_j3 = w2c_p3;
+      w2c_j2 += w2c_j3;
+      w2c_j3 = 18446744073709551608ull;
+      w2c_j2 += w2c_j3;
+      w2c_i2 = (u32)(w2c_j2);
+      w2c_j2 = step_i64_load(memory, (u64)(w2c_i2));
+      w2c_l17 = w2c_j2;
+      w2c_j3 = 56ull;
+      w2c_j2 <<= (w2c_j3 & 63);
+      w2c_j3 = w2c_l17;
+      w2c_j4 = 65280ull;
+      w2c_j3 &= w2c_j4;
+      w2c_j4 = 40ull;
+      w2c_j3 <<= (w2c_j4 & 63);
+      w2c_j2 |= w2c_j3;
+      w2c_j3 = w2c_l17;
+      w2c_j4 = 16711680ull;
+      w2c_j3 &= w2c_j4;
+      w2c_j4 = 24ull;
+      w2c_j3 <<= (w2c_j4 & 63);
+      w2c_j4 = w2c_l17;
+      w2c_j5 = 4278190080ull;
+      w2c_j4 &= w2c_j5;
+      w2c_j5 = 8ull;
+      w2c_j4 <<= (w2c_j5 & 63);
+      w2c_j3 |= w2c_j4;
+      w2c_j2 |= w2c_j3;
+      w2c_j3 = w2c_l17;
+      w2c_j4 = 8ull;
+      w2c_j3 >>= (w2c_j4 & 63);
+      w2c_j4 = 4278190080ull;
+      w2c_j3 &= w2c_j4;
+      w2c_j4 = w2c_l17;
+      w2c_j5 = 24ull;
+      w2c_j4 >>= (w2c_j5 & 63);
+      w2c_j5 = 16711680ull;
+      w2c_j4 &= w2c_j5;
+      w2c_j3 |= w2c_j4;
+      w2c_j4 = w2c_l17;
+      w2c_j5 = 40ull;
+      w2c_j4 >>= (w2c_j5 & 63);
+      w2c_j5 = 65280ull;
+      w2c_j4 &= w2c_j5;
+      w2c_j5 = w2c_l17;
+      w2c_j6 = 56ull;
+      w2c_j5 >>= (w2c_j6 & 63);
+      w2c_j4 |= w2c_j5;
+      w2c_j3 |= w2c_j4;
+      w2c_j2 |= w2c_j3;
+      w2c_j3 = 18446744073709551615ull;
+      w2c_j4 = w2c_l36;
+      w2c_j5 = 3ull;
+      w2c_j4 <<= (w2c_j5 & 63);
+      w2c_j3 <<= (w2c_j4 & 63);
+      w2c_j4 = 18446744073709551615ull;
+      w2c_j3 ^= w2c_j4;
+      w2c_j2 &= w2c_j3;
+      w2c_j1 |= w2c_j2;
+      w2c_j2 = 0ull;
+      w2c_i1 = w2c_j1 != w2c_j2;
+      w2c_i0 &= w2c_i1;
+      w2c_j0 = (u64)(w2c_i0);
+      w2c_l17 = w2c_j0;
+      goto w2c_B39;
+      w2c_B40:;
+      w2c_j0 = w2c_p2;
+      w2c_j1 = 24ull;
+      w2c_j0 += w2c_j1;
+      w2c_i0 = (u32)(w2c_j0);
+      w2c_i0 = i32_load8_u(memory, (u64)(w2c_i0));
+      if (w2c_i0) {goto w2c_B41;}
+      w2c_j0 = 1ull;
+      w2c_j1 = w2c_p2;
+      w2c_j2 = 32ull;
+      w2c_j1 += w2c_j2;
+      w2c_i1 = (u32)(w2c_j1);
+      w2c_j1 = step_i64_load(memory, (u64)(w2c_i1));
+      w2c_j2 = w2c_l30;
+      w2c_j1 ^= w2c_j2;
+      w2c_j2 = w2c_l13;
+      w2c_j3 = 8ull;
+      w2c_i2 = w2c_j2 == w2c_j3;
+      w2c_j0 = w2c_i2 ? w2c_j0 : w2c_j1;
+      w2c_l17 = w2c_j0;
+      goto w2c_B39;
+      w2c_B41:;
+      w2c_j0 = w2c_l13;
+      w2c_j1 = w2c_l30;
+      w2c_j2 = 4294967295ull;
+      w2c_j1 &= w2c_j2;
+      w2c_j0 -= w2c_j1;
+      w2c_l36 = w2c_j0;
+      w2c_j1 = 3ull;
+      w2c_j0 >>= (w2c_j1 & 63);
+      w2c_j1 = w2c_l30;
+      w2c_j2 = 32ull;
+      w2c_j1 >>= (w2c_j2 & 63);
+      w2c_j2 = 2790873510ull;
+      w2c_j1 ^= w2c_j2;
+      w2c_j0 |= w2c_j1;
+      w2c_j1 = w2c_l35;
+      w2c_j2 = w2c_p3;
+      w2c_j1 += w2c_j2;
+      w2c_j2 = 18446744073709551608ull;
+      w2c_j1 += w2c_j2;
+      w2c_i1 = (u32)(w2c_j1);
+      w2c_j1 = step_i64_load(memory, (u64)(w2c_i1));
+      w2c_l17 = w2c_j1;
+      w2c_j2 = 56ull;
+      w2c_j1 <<= (w2c_j2 & 63);
+      w2c_j2 = w2c_l17;
+      w2c_j3 = 65280ull;
+      w2c_j2 &= w2c_j3;
+      w2c_j3 = 40ull;
+      w2c_j2 <<= (w2c_j3 & 63);
+      w2c_j1 |= w2c_j2;
+      w2c_j2 = w2c_l17;
+      w2c_j3 = 16711680ull;
+      w2c_j2 &= w2c_j3;
+      w2c_j3 = 24ull;
+      w2c_j2 <<= (w2c_j3 & 63);
+      w2c_j3 = w2c_l17;
+      w2c_j4 = 4278190080ull;
+      w2c_j3 &= w2c_j4;
+      w2c_j4 = 8ull;
+      w2c_j3 <<= (w2c_j4 & 63);
+      w2c_j2 |= w2c_j3;
+      w2c_j1 |= w2c_j2;
+      w2c_j2 = w2c_l17;
+      w2c_j3 = 8ull;
+      w2c_j2 >>= (w2c_j3 & 63);
+      w2c_j3 = 4278190080ull;
+      w2c_j2 &= w2c_j3;
+      w2c_j3 = w2c_l17;
+      w2c_j4 = 24ull;
+      w2c_j3 >>= (w2c_j4 & 63);
+      w2c_j4 = 16711680ull;
+      w2c_j3 &= w2c_j4;
+      w2c_j2 |= w2c_j3;
+      w2c_j3 = w2c_l17;
+      w2c_j4 = 40ull;
+      w2c_j3 >>= (w2c_j4 & 63);
+      w2c_j4 = 65280ull;
+      w2c_j3 &= w2c_j4;
+      w2c_j4 = w2c_l17;
+      w2c_j5 = 56ull;
+      w2c_j4 >>= (w2c_j5 & 63);
+      w2c_j3 |= w2c_j4;
+      w2c_j2 |= w2c_j3;
+      w2c_j1 |= w2c_j2;
+      w2c_j2 = 18446744073709551615ull;
+      w2c_j3 = w2c_l36;
+      w2c_j4 = 3ull;
+      w2c_j3 <<= (w2c_j4 & 63);
+      w2c_j2 <<= (w2c_j3 & 63);
+      w2c_j3 = 18446744073709551615ull;
+      w2c_j2 ^= w2c_j3;
+      w2c_j1 &= w2c_j2;
+      w2c_j0 |= w2c_j1;
+      w2c_l17 = w2c_j0;
+      w2c_B39:;
+      w2c_j0 = w2c_l7;
+      w2c_j1 = w2c_l17;
+      w2c_j2 = w2c_l7;
+      w2c_j3 = 13855ull;
+      w2c_j2 += w2c_j3;
+      w2c_j3 = 0ull;
+      w2c_f13(instance, w2c_j0, w2c_j1, w2c_j2, w2c_j3);
+      w2c_j0 = w2c_l18;
+      w2c_j1 = w2c_l23;
+      w2c_j0 += w2c_j1;
+      w2c_i0 = (u32)(w2c_j0);
+      w2c_i1 = 5u;
+      w2c_i2 = 1u;
+      w2c_j3 = w2c_l7;
+      w2c_i3 = (u32)(w2c_j3);
+      w2c_i3 = i32_load8_u(memory, (u64)(w2c_i3));
+      w2c_i1 = w2c_i3 ? w2c_i1 : w2c_i2;
+      i32_store8(memory, (u64)(w2c_i0), w2c_i1);
+      w2c_B38:;
+      w2c_j0 = w2c_l31;
+      w2c_j1 = 8ull;
+      w2c_j0 += w2c_j1;
+      w2c_l31 = w2c_j0;
+      w2c_j0 = w2c_l28;
+      w2c_j1 = w2c_l23;
+      w2c_j2 = 1ull;
+      w2c_j1 += w2c_j2;
+      w2c_l23 = w2c_j1;
+      w2c_i0 = w2c_j0 != w2c_j1;
+      if (w2c_i0) {goto w2c_L37;}
+    w2c_B30:;
+    w2c_j0 = w2c_l27;
+    w2c_i0 = !(w2c_j0);
+    if (w2c_i0) {goto w2c_B42;}
+    w2c_j0 = w2c_l27;
+    w2c_j1 = 18446744073709551615ull;
+    w2c_j0 += w2c_j1;
+    w2c_l17 = w2c_j0;
+    w2c_i0 = !(w2c_j0);
+    w2c_l39 = w2c_i0;
+    if (w2c_i0) {goto w2c_B43;}
+    w2c_i0 = w2c_l39;
+    if (w2c_i0) {goto w2c_B43;}
+    w2c_j0 = w2c_l7;
+    w2c_j1 = 1183ull;
+    w2c_j0 += w2c_j1;
+    w2c_i0 = (u32)(w2c_j0);
+    w2c_i1 = 0u;
+    w2c_j2 = w2c_l17;
+    w2c_i2 = (u32)(w2c_j2);
+    memory_fill(memory, w2c_i0, w2c_i1, w2c_i2);
+    w2c_B43:;
+    w2c_j0 = w2c_l7;
+    w2c_j1 = 1183ull;
+    w2c_j0 += w2c_j1;
+    w2c_j1 = w2c_l17;
+    w2c_j0 += w2c_j1;
+    w2c_i0 = (u32)(w2c_j0);
+    w2c_i1 = 0u;
+    i32_store8(memory, (u64)(w2c_i0), w2c_i1);
+    w2c_B42:;
+    w2c_j0 = w2c_l25;
+    w2c_i0 = !(w2c_j0);
+    if (w2c_i0) {goto w2c_B4;}
+    w2c_j0 = w2c_l25;
+    w2c_j1 = 18446744073709551615ull;
+    w2c_j0 += w2c_j1;
+    w2c_l17 = w2c_j0;
+    w2c_i0 = !(w2c_j0);
+    if (w2c_i0) {goto w2c_B44;}
+    w2c_j0 = w2c_l7;
+    w2c_j1 = 415ull;
+    w2c_j0 += w2c_j1;
+    w2c_i0 = (u32)(w2c_j0);
+    w2c_i1 = 0u;
+    w2c_j2 = w2c_l17;
+    w2c_i2 = (u32)(w2c_j2);
+    memory_fill(memory, w2c_i0, w2c_i1, w2c_i2);
+    w2c_B44:;
+    w2c_j0 = w2c_l7;
+    w2c_j1 = 415ull;
+    w2c_j0 += w2c_j1;
+    w2c_j1 = w2c_l17;
+    w2c_j0 += w2c_j1;
+    w2c_i0 = (u32)(w2c_j0);
+    w2c_i1 = 0u;
+    i32_store8(memory, (u64)(w2c_i0), w2c_i1);
+    goto w2c_B4;
+    w2c_B5:;
+    w2c_j0 = w2c_p1;
+    w2c_j1 = w2c_l7;
+    w2c_j2 = 1183ull;
+    w2c_j1 += w2c_j2;
+    w2c_j2 = 0ull;
+    w2c_j3 = w2c_p3;
+    w2c_j4 = w2c_l7;
+    w2c_j5 = 415ull;
+    w2c_j4 += w2c_j5;
+    w2c_j5 = 0ull;
+    w2c_f23(instance, w2c_j0, w2c_j1, w2c_j2, w2c_j3, w2c_j4, w2c_j5);
+    w2c_B4:;
+    w2c_j0 = w2c_l18;
+    w2c_j1 = 48ull;
+    w2c_j0 += w2c_j1;
+    w2c_l18 = w2c_j0;
+    w2c_j0 = w2c_l19;
+    w2c_j1 = w2c_l10;
+    w2c_j0 += w2c_j1;
+    w2c_l19 = w2c_j0;
+    w2c_j0 = w2c_l20;
+    w2c_j1 = 18446744073709551568ull;
+    w2c_j0 += w2c_j1;
+    w2c_l20 = w2c_j0;
+    w2c_j0 = w2c_l21;
+    w2c_j1 = 48ull;
+    w2c_j0 += w2c_j1;
+    w2c_l21 = w2c_j0;
+    w2c_j0 = w2c_l22;
+    w2c_j1 = 1ull;
+    w2c_j0 += w2c_j1;
+    w2c_l17 = w2c_j0;
+    w2c_j0 = w2c_l22;
+    w2c_j1 = w2c_l12;
+    w2c_i0 = w2c_j0 != w2c_j1;
+    if (w2c_i0) {goto w2c_L1;}
+  w2c_j0 = w2c_l7;
+  w2c_j1 = 13856ull;
+  w2c_j0 += w2c_j1;
+  instance->w2c_g0 = w2c_j0;
+  goto w2c_Bfunc;
+  w2c_B0:;
+  UNREACHABLE;
+  w2c_Bfunc:;
+}
+static void w2c_f23(struct instance *instance, u64 w2c_p0, u64 w2c_p1, u64 w2c_p2, u64 w2c_p3, u64 w2c_p4, u64 w2c_p5) {
+  u32 w2c_l25 = 0;
+  u64 w2c_l6 = 0, w2c_l7 = 0, w2c_l8 = 0, w2c_l9 = 0, w2c_l10 = 0, w2c_l11 = 0, w2c_l12 = 0, w2c_l13 = 0, 
+      w2c_l14 = 0, w2c_l15 = 0, w2c_l16 = 0, w2c_l17 = 0, w2c_l18 = 0, w2c_l19 = 0, w2c_l20 = 0, w2c_l21 = 0, 
+      w2c_l22 = 0, w2c_l23 = 0, w2c_l24 = 0;
+  const struct memory memory = instance->w2c_memory;
+  (void)memory;
+  u32 w2c_i0, w2c_i1, w2c_i2;
+  u64 w2c_j0, w2c_j1, w2c_j2, w2c_j3, w2c_j4;
+  w2c_j0 = instance->w2c_g0;
+  w2c_j1 = 16ull;
+  w2c_j0 -= w2c_j1;
+  w2c_l6 = w2c_j0;
+  instance->w2c_g0 = w2c_j0;
+  w2c_j0 = w2c_l6;
+  w2c_l7 = w2c_j0;
+  w2c_j1 = 16ull;
+  w2c_i0 = (u64)((s64)w2c_j0 < (s64)w2c_j1);
+  if (w2c_i0) {goto w2c_B2;}
+  w2c_j0 = 1ull;
+  w2c_j1 = w2c_p3;
+  w2c_j2 = 18446744073709551608ull;
+  w2c_j1 += w2c_j2;
+  w2c_l6 = w2c_j1;
+  w2c_j2 = 3ull;
+  w2c_j1 >>= (w2c_j2 & 63);
+  w2c_j2 = 6ull;
+  w2c_j1 *= w2c_j2;
+  w2c_l8 = w2c_j1;
+  w2c_j2 = w2c_l6;
+  w2c_j3 = 8ull;
+  w2c_i2 = w2c_j2 == w2c_j3;
+  w2c_j0 = w2c_i2 ? w2c_j0 : w2c_j1;
+  w2c_l9 = w2c_j0;
+  w2c_i0 = !(w2c_j0);
+  if (w2c_i0) {goto w2c_B0;}
+  w2c_j0 = w2c_p3;
+  w2c_j1 = 18446744073709551592ull;
+  w2c_j0 += w2c_j1;
+  w2c_j1 = 1048560ull;
+  w2c_i0 = w2c_j0 > w2c_j1;
+  if (w2c_i0) {goto w2c_B3;}
+  w2c_j0 = w2c_p5;
+  w2c_j1 = 15ull;
+  w2c_j0 &= w2c_j1;
+  w2c_j1 = w2c_p3;
+  w2c_j2 = 7ull;
+  w2c_j1 &= w2c_j2;
+  w2c_j0 |= w2c_j1;
+  w2c_i0 = !(w2c_j0);
+  w2c_i0 = !(w2c_i0);
+  if (w2c_i0) {goto w2c_B3;}
+  w2c_j0 = w2c_l7;
+  w2c_j1 = w2c_p5;
+  w2c_j2 = 4ull;
+  w2c_j1 >>= (w2c_j2 & 63);
+  w2c_l10 = w2c_j1;
+  w2c_j2 = 0ull;
+  w2c_j3 = w2c_p3;
+  w2c_j4 = 0ull;
+  w2c_f9(instance, w2c_j0, w2c_j1, w2c_j2, w2c_j3, w2c_j4);
+  w2c_j0 = w2c_l7;
+  w2c_i0 = (u32)(w2c_j0);
+  w2c_j0 = step_i64_load(memory, (u64)(w2c_i0) + 8u);
+  w2c_j1 = 0ull;
+  w2c_i0 = w2c_j0 != w2c_j1;
+  w2c_l25 = w2c_i0;
+  if (w2c_i0) {goto w2c_B5;}
+  w2c_j0 = 0ull;
+  w2c_j1 = w2c_l10;
+  w2c_j2 = w2c_p3;
+  w2c_j1 *= w2c_j2;
+  w2c_i2 = w2c_l25;
+  w2c_j0 = w2c_i2 ? w2c_j0 : w2c_j1;
+  w2c_j1 = w2c_p2;
+  w2c_i0 = w2c_j0 == w2c_j1;
+  if (w2c_i0) {goto w2c_B4;}
+  w2c_B5:;
+  w2c_L6: 
+    w2c_j0 = w2c_p0;
+    w2c_i0 = (u32)(w2c_j0);
+    w2c_j0 = step_i64_load(memory, (u64)(w2c_i0));
+    w2c_j1 = w2c_p0;
+    w2c_i1 = (u32)(w2c_j1);
+    w2c_j1 = step_i64_load(memory, (u64)(w2c_i1) + 8u);
+    w2c_j2 = w2c_p4;
+    w2c_j3 = w2c_p5;
+    leaf_encrypt_many(memory, w2c_j0, w2c_j1, w2c_j2, w2c_j3);
+    w2c_j0 = w2c_l9;
+    w2c_j1 = 18446744073709551615ull;
+    w2c_j0 += w2c_j1;
+    w2c_l9 = w2c_j0;
+    w2c_i0 = !(w2c_j0);
+    w2c_i0 = !(w2c_i0);
+    if (w2c_i0) {goto w2c_L6;}
+    goto w2c_B0;
+  UNREACHABLE;
+  w2c_B4:;
+  w2c_j0 = 0ull;
+  w2c_l6 = w2c_j0;
+  w2c_j0 = w2c_l10;
+  w2c_j1 = 0ull;
+  w2c_i0 = w2c_j0 == w2c_j1;
+  if (w2c_i0) {goto w2c_B1;}
+  w2c_j0 = w2c_p3;
+  w2c_j1 = 3ull;
+  w2c_j0 >>= (w2c_j1 & 63);
+  w2c_i0 = (u32)(w2c_j0);
+  w2c_i1 = 4294967295u;
+  w2c_i0 += w2c_i1;
+  w2c_l25 = w2c_i0;
+  w2c_j0 = (u64)(w2c_i0);
+  w2c_l11 = w2c_j0;
+  w2c_j0 = w2c_p3;
+  w2c_j1 = 1ull;
+  w2c_j0 <<= (w2c_j1 & 63);
+  w2c_l12 = w2c_j0;
+  w2c_j0 = w2c_p1;
+  w2c_j1 = 8ull;
+  w2c_j0 += w2c_j1;
+  w2c_l13 = w2c_j0;
+  w2c_j0 = w2c_l10;
+  w2c_j1 = 1152921504606846974ull;
+  w2c_j0 &= w2c_j1;
+  w2c_l14 = w2c_j0;
+  w2c_j0 = w2c_l10;
+  w2c_j1 = 1ull;
+  w2c_j0 &= w2c_j1;
+  w2c_l15 = w2c_j0;
+  w2c_j0 = 0ull;
+  w2c_l16 = w2c_j0;
+  w2c_L7: 
+    w2c_j0 = w2c_p0;
+    w2c_i0 = (u32)(w2c_j0);
+    w2c_j0 = step_i64_load(memory, (u64)(w2c_i0));
+    w2c_j1 = w2c_p0;
+    w2c_i1 = (u32)(w2c_j1);
+    w2c_j1 = step_i64_load(memory, (u64)(w2c_i1) + 8u);
+    w2c_j2 = w2c_p4;
+    w2c_j3 = w2c_p5;
+    leaf_encrypt_many(memory, w2c_j0, w2c_j1, w2c_j2, w2c_j3);
+    w2c_j0 = w2c_l8;
+    w2c_j1 = w2c_l6;
+    w2c_i0 = w2c_j0 <= w2c_j1;
+    if (w2c_i0) {goto w2c_B8;}
+    w2c_j0 = w2c_l6;
+    w2c_j1 = 1ull;
+    w2c_j0 += w2c_j1;
+    w2c_l17 = w2c_j0;
+    w2c_j1 = 56ull;
+    w2c_j0 <<= (w2c_j1 & 63);
+    w2c_j1 = w2c_l17;
+    w2c_j2 = 65280ull;
+    w2c_j1 &= w2c_j2;
+    w2c_j2 = 40ull;
+    w2c_j1 <<= (w2c_j2 & 63);
+    w2c_j0 |= w2c_j1;
+    w2c_j1 = w2c_l17;
+    w2c_j2 = 16711680ull;
+    w2c_j1 &= w2c_j2;
+    w2c_j2 = 24ull;
+    w2c_j1 <<= (w2c_j2 & 63);
+    w2c_j2 = w2c_l17;
+    w2c_j3 = 4278190080ull;
+    w2c_j2 &= w2c_j3;
+    w2c_j3 = 8ull;
+    w2c_j2 <<= (w2c_j3 & 63);
+    w2c_j1 |= w2c_j2;
+    w2c_j0 |= w2c_j1;
+    w2c_j1 = w2c_l17;
+    w2c_j2 = 8ull;
+    w2c_j1 >>= (w2c_j2 & 63);
+    w2c_j2 = 4278190080ull;
+    w2c_j1 &= w2c_j2;
+    w2c_j2 = w2c_l17;
+    w2c_j3 = 24ull;
+    w2c_j2 >>= (w2c_j3 & 63);
+    w2c_j3 = 16711680ull;
+    w2c_j2 &= w2c_j3;
+    w2c_j1 |= w2c_j2;
+    w2c_j2 = w2c_l17;
+    w2c_j3 = 40ull;
+    w2c_j2 >>= (w2c_j3 & 63);
+    w2c_j3 = 65280ull;
+    w2c_j2 &= w2c_j3;
+    w2c_j3 = w2c_l17;
+    w2c_j4 = 56ull;
+    w2c_j3 >>= (w2c_j4 & 63);
+    w2c_j2 |= w2c_j3;
+    w2c_j1 |= w2c_j2;
+    w2c_j0 |= w2c_j1;
+    w2c_l18 = w2c_j0;
+    w2c_j0 = 0ull;
+    w2c_p2 = w2c_j0;
+    w2c_j0 = 0ull;
+    w2c_j1 = w2c_l6;
+    w2c_i1 = (u32)(w2c_j1);
+    w2c_i2 = w2c_l25;
+    w2c_i1 = REM_U(w2c_i1, w2c_i2);
+    w2c_j1 = (u64)(w2c_i1);
+    w2c_l6 = w2c_j1;
+    w2c_j2 = 1ull;
+    w2c_j1 += w2c_j2;
+    w2c_l19 = w2c_j1;
+    w2c_j2 = 3ull;
+    w2c_j1 <<= (w2c_j2 & 63);
+    w2c_j2 = w2c_l19;
+    w2c_j3 = w2c_l11;
+    w2c_i2 = w2c_j2 == w2c_j3;
+    w2c_j0 = w2c_i2 ? w2c_j0 : w2c_j1;
+    w2c_l20 = w2c_j0;
+    w2c_j0 = w2c_l6;
+    w2c_j1 = 3ull;
+    w2c_j0 <<= (w2c_j1 & 63);
+    w2c_l21 = w2c_j0;
+    w2c_j0 = w2c_l10;
+    w2c_j1 = 1ull;
+    w2c_i0 = w2c_j0 == w2c_j1;
+    if (w2c_i0) {goto w2c_B10;}
+    w2c_j0 = w2c_l13;
+    w2c_j1 = w2c_l20;
+    w2c_j0 += w2c_j1;
+    w2c_l19 = w2c_j0;
+    w2c_j0 = 0ull;
+    w2c_p2 = w2c_j0;
+    w2c_j0 = w2c_p4;
+    w2c_l6 = w2c_j0;
+    w2c_L11: 
+      w2c_j0 = w2c_l6;
+      w2c_i0 = (u32)(w2c_j0);
+      w2c_j0 = step_i64_load(memory, (u64)(w2c_i0));
+      w2c_l22 = w2c_j0;
+      w2c_j0 = w2c_p1;
+      w2c_j1 = w2c_p2;
+      w2c_j2 = w2c_p3;
+      w2c_j1 *= w2c_j2;
+      w2c_j0 += w2c_j1;
+      w2c_j1 = w2c_l21;
+      w2c_j0 += w2c_j1;
+      w2c_j1 = 8ull;
+      w2c_j0 += w2c_j1;
+      w2c_i0 = (u32)(w2c_j0);
+      w2c_j1 = w2c_l6;
+      w2c_j2 = 8ull;
+      w2c_j1 += w2c_j2;
+      w2c_l23 = w2c_j1;
+      w2c_i1 = (u32)(w2c_j1);
+      w2c_j1 = step_i64_load(memory, (u64)(w2c_i1));
+      step_i64_store(memory, (u64)(w2c_i0), w2c_j1);
+      w2c_j0 = w2c_l23;
+      w2c_i0 = (u32)(w2c_j0);
+      w2c_j1 = w2c_l19;
+      w2c_i1 = (u32)(w2c_j1);
+      w2c_j1 = step_i64_load(memory, (u64)(w2c_i1));
+      step_i64_store(memory, (u64)(w2c_i0), w2c_j1);
+      w2c_j0 = w2c_l6;
+      w2c_i0 = (u32)(w2c_j0);
+      w2c_j1 = w2c_l22;
+      w2c_j2 = w2c_l18;
+      w2c_j1 ^= w2c_j2;
+      step_i64_store(memory, (u64)(w2c_i0), w2c_j1);
+      w2c_j0 = w2c_l6;
+      w2c_j1 = 16ull;
+      w2c_j0 += w2c_j1;
+      w2c_l22 = w2c_j0;
+      w2c_i0 = (u32)(w2c_j0);
+      w2c_j0 = step_i64_load(memory, (u64)(w2c_i0));
+      w2c_l23 = w2c_j0;
+      w2c_j0 = w2c_p1;
+      w2c_j1 = w2c_p2;
+      w2c_j2 = 1ull;
+      w2c_j1 |= w2c_j2;
+      w2c_j2 = w2c_p3;
+      w2c_j1 *= w2c_j2;
+      w2c_j0 += w2c_j1;
+      w2c_j1 = w2c_l21;
+      w2c_j0 += w2c_j1;
+      w2c_j1 = 8ull;
+      w2c_j0 += w2c_j1;
+      w2c_i0 = (u32)(w2c_j0);
+      w2c_j1 = w2c_l6;
+      w2c_j2 = 24ull;
+      w2c_j1 += w2c_j2;
+      w2c_l24 = w2c_j1;
+      w2c_i1 = (u32)(w2c_j1);
+      w2c_j1 = step_i64_load(memory, (u64)(w2c_i1));
+      step_i64_store(memory, (u64)(w2c_i0), w2c_j1);
+      w2c_j0 = w2c_l24;
+      w2c_i0 = (u32)(w2c_j0);
+      w2c_j1 = w2c_l19;
+      w2c_j2 = w2c_p3;
+      w2c_j1 += w2c_j2;
+      w2c_i1 = (u32)(w2c_j1);
+      w2c_j1 = step_i64_load(memory, (u64)(w2c_i1));
+      step_i64_store(memory, (u64)(w2c_i0), w2c_j1);
+      w2c_j0 = w2c_l22;
+      w2c_i0 = (u32)(w2c_j0);
+      w2c_j1 = w2c_l23;
+      w2c_j2 = w2c_l18;
+      w2c_j1 ^= w2c_j2;
+      step_i64_store(memory, (u64)(w2c_i0), w2c_j1);
+      w2c_j0 = w2c_l6;
+      w2c_j1 = 32ull;
+      w2c_j0 += w2c_j1;
+      w2c_l6 = w2c_j0;
+      w2c_j0 = w2c_l19;
+      w2c_j1 = w2c_l12;
+      w2c_j0 += w2c_j1;
+      w2c_l19 = w2c_j0;
+      w2c_j0 = w2c_l14;
+      w2c_j1 = w2c_p2;
+      w2c_j2 = 2ull;
+      w2c_j1 += w2c_j2;
+      w2c_p2 = w2c_j1;
+      w2c_i0 = w2c_j0 != w2c_j1;
+      if (w2c_i0) {goto w2c_L11;}
+    w2c_j0 = w2c_l15;
+    w2c_i0 = !(w2c_j0);
+    if (w2c_i0) {goto w2c_B9;}
+    w2c_B10:;
+    w2c_j0 = w2c_p4;
+    w2c_j1 = w2c_p2;
+    w2c_j2 = 4ull;
+    w2c_j1 <<= (w2c_j2 & 63);
+    w2c_j0 += w2c_j1;
+    w2c_l6 = w2c_j0;
+    w2c_i0 = (u32)(w2c_j0);
+    w2c_j0 = step_i64_load(memory, (u64)(w2c_i0));
+    w2c_l19 = w2c_j0;
+    w2c_j0 = w2c_p1;
+    w2c_j1 = w2c_p2;
+    w2c_j2 = w2c_p3;
+    w2c_j1 *= w2c_j2;
+    w2c_j0 += w2c_j1;
+    w2c_j1 = 8ull;
+    w2c_j0 += w2c_j1;
+    w2c_p2 = w2c_j0;
+    w2c_j1 = w2c_l21;
+    w2c_j0 += w2c_j1;
+    w2c_i0 = (u32)(w2c_j0);
+    w2c_j1 = w2c_l6;
+    w2c_j2 = 8ull;
+    w2c_j1 += w2c_j2;
+    w2c_l21 = w2c_j1;
+    w2c_i1 = (u32)(w2c_j1);
+    w2c_j1 = step_i64_load(memory, (u64)(w2c_i1));
+    step_i64_store(memory, (u64)(w2c_i0), w2c_j1);
+    w2c_j0 = w2c_l21;
+    w2c_i0 = (u32)(w2c_j0);
+    w2c_j1 = w2c_p2;
+    w2c_j2 = w2c_l20;
+    w2c_j1 += w2c_j2;
+    w2c_i1 = (u32)(w2c_j1);
+    w2c_j1 = step_i64_load(memory, (u64)(w2c_i1));
+    step_i64_store(memory, (u64)(w2c_i0), w2c_j1);
+    w2c_j0 = w2c_l6;
+    w2c_i0 = (u32)(w2c_j0);
+    w2c_j1 = w2c_l19;
+    w2c_j2 = w2c_l18;
+    w2c_j1 ^= w2c_j2;
+    step_i64_store(memory, (u64)(w2c_i0), w2c_j1);
+    w2c_B9:;
+    w2c_j0 = w2c_l17;
+    w2c_l6 = w2c_j0;
+    w2c_B8:;
+    w2c_j0 = w2c_l16;
+    w2c_j1 = 1ull;
+    w2c_j0 += w2c_j1;
+    w2c_l16 = w2c_j0;
+    w2c_j1 = w2c_l9;
+    w2c_i0 = w2c_j0 != w2c_j1;
+    if (w2c_i0) {goto w2c_L7;}
+    goto w2c_B0;
+  UNREACHABLE;
+  w2c_B3:;
+  w2c_L12: 
+    w2c_j0 = w2c_p0;
+    w2c_i0 = (u32)(w2c_j0);
+    w2c_j0 = step_i64_load(memory, (u64)(w2c_i0));
+    w2c_j1 = w2c_p0;
+    w2c_i1 = (u32)(w2c_j1);
+    w2c_j1 = step_i64_load(memory, (u64)(w2c_i1) + 8u);
+    w2c_j2 = w2c_p4;
+    w2c_j3 = w2c_p5;
+    leaf_encrypt_many(memory, w2c_j0, w2c_j1, w2c_j2, w2c_j3);
+    w2c_j0 = w2c_l9;
+    w2c_j1 = 18446744073709551615ull;
+    w2c_j0 += w2c_j1;
+    w2c_l9 = w2c_j0;
+    w2c_j1 = 0ull;
+    w2c_i0 = w2c_j0 != w2c_j1;
+    if (w2c_i0) {goto w2c_L12;}
+    goto w2c_B0;
+  UNREACHABLE;
+  w2c_B2:;
+  UNREACHABLE;
+  w2c_B1:;
+  w2c_L13: 
+    w2c_j0 = w2c_p0;
+    w2c_i0 = (u32)(w2c_j0);
+    w2c_j0 = step_i64_load(memory, (u64)(w2c_i0));
+    w2c_j1 = w2c_p0;
+    w2c_i1 = (u32)(w2c_j1);
+    w2c_j1 = step_i64_load(memory, (u64)(w2c_i1) + 8u);
+    w2c_j2 = w2c_p4;
+    w2c_j3 = w2c_p5;
+    leaf_encrypt_many(memory, w2c_j0, w2c_j1, w2c_j2, w2c_j3);
+    w2c_j0 = w2c_l9;
+    w2c_j1 = 18446744073709551615ull;
+    w2c_j0 += w2c_j1;
+    w2c_l9 = w2c_j0;
+    w2c_i0 = !(w2c_j0);
+    w2c_i0 = !(w2c_i0);
+    if (w2c_i0) {goto w2c_L13;}
+  w2c_B0:;
+  w2c_j0 = w2c_l7;
+  w2c_j1 = 16ull;
+  w2c_j0 += w2c_j1;
+  instance->w2c_g0 = w2c_j0;
+}
 #endif
-static void w2c_f8(struct instance *instance, u64 w2c_p0, u64 w2c_p1, u64 w2c_p2, u64 w2c_p3, u64 w2c_p4) {
+static void w2c_f24(struct instance *instance, u64 w2c_p0, u64 w2c_p1, u64 w2c_p2, u64 w2c_p3, u64 w2c_p4) {
   u64 w2c_l5 = 0, w2c_l6 = 0, w2c_l7 = 0, w2c_l8 = 0, w2c_l9 = 0, w2c_l10 = 0;
   const struct memory memory = instance->w2c_memory;
   (void)memory;
@@ -3638,7 +7654,7 @@ static void w2c_f8(struct instance *instance, u64 w2c_p0, u64 w2c_p1, u64 w2c_p2
   w2c_j3 = 15ull;
   w2c_j2 += w2c_j3;
   w2c_j3 = 0ull;
-  w2c_f3(instance, w2c_j0, w2c_j1, w2c_j2, w2c_j3);
+  w2c_f13(instance, w2c_j0, w2c_j1, w2c_j2, w2c_j3);
   w2c_j0 = w2c_l6;
   w2c_i0 = (u32)(w2c_j0);
   w2c_i0 = i32_load8_u(memory, (u64)(w2c_i0) + 8u);
@@ -3670,7 +7686,7 @@ static void w2c_f8(struct instance *instance, u64 w2c_p0, u64 w2c_p1, u64 w2c_p2
   w2c_j3 = 15ull;
   w2c_j2 += w2c_j3;
   w2c_j3 = 0ull;
-  w2c_f3(instance, w2c_j0, w2c_j1, w2c_j2, w2c_j3);
+  w2c_f13(instance, w2c_j0, w2c_j1, w2c_j2, w2c_j3);
   w2c_j0 = w2c_l6;
   w2c_i0 = (u32)(w2c_j0);
   w2c_i0 = i32_load8_u(memory, (u64)(w2c_i0));
@@ -3766,7 +7782,7 @@ static void w2c_f8(struct instance *instance, u64 w2c_p0, u64 w2c_p1, u64 w2c_p2
   w2c_j0 += w2c_j1;
   instance->w2c_g0 = w2c_j0;
 }
-static void w2c_f9(struct instance *instance, u64 w2c_p0, u64 w2c_p1, u32 w2c_p2, u64 w2c_p3, u64 w2c_p4, u64 w2c_p5) {
+static void w2c_f25(struct instance *instance, u64 w2c_p0, u64 w2c_p1, u32 w2c_p2, u64 w2c_p3, u64 w2c_p4, u64 w2c_p5) {
   u32 w2c_l10 = 0;
   u64 w2c_l6 = 0, w2c_l7 = 0, w2c_l8 = 0, w2c_l9 = 0;
   const struct memory memory = instance->w2c_memory;
@@ -4037,7 +8053,7 @@ static void w2c_f9(struct instance *instance, u64 w2c_p0, u64 w2c_p1, u32 w2c_p2
   w2c_j3 = 15ull;
   w2c_j2 += w2c_j3;
   w2c_j3 = 0ull;
-  w2c_f3(instance, w2c_j0, w2c_j1, w2c_j2, w2c_j3);
+  w2c_f13(instance, w2c_j0, w2c_j1, w2c_j2, w2c_j3);
   w2c_j0 = w2c_p0;
   w2c_i0 = (u32)(w2c_j0);
   w2c_j1 = w2c_l7;
@@ -4061,1789 +8077,64 @@ static void w2c_f9(struct instance *instance, u64 w2c_p0, u64 w2c_p1, u32 w2c_p2
   UNREACHABLE;
   w2c_Bfunc:;
 }
-#ifndef KEYWRAP_STEPS_ONLY
-static void w2c_f10(struct instance *instance, u64 w2c_p0, u64 w2c_p1, u64 w2c_p2, u64 w2c_p3, u64 w2c_p4, u64 w2c_p5) {
-  u32 w2c_l10 = 0, w2c_l11 = 0, w2c_l12 = 0;
-  u64 w2c_l6 = 0, w2c_l7 = 0, w2c_l8 = 0, w2c_l9 = 0;
-  const struct memory memory = instance->w2c_memory;
-  (void)memory;
-  u32 w2c_i0, w2c_i1;
-  u64 w2c_j0, w2c_j1, w2c_j2, w2c_j3, w2c_j4;
-  w2c_j0 = instance->w2c_g0;
-  w2c_j1 = 64ull;
-  w2c_j0 -= w2c_j1;
-  w2c_l6 = w2c_j0;
-  instance->w2c_g0 = w2c_j0;
-  w2c_j0 = w2c_l6;
-  w2c_l6 = w2c_j0;
-  w2c_j1 = 16ull;
-  w2c_i0 = (u64)((s64)w2c_j0 < (s64)w2c_j1);
-  if (w2c_i0) {goto w2c_B0;}
-  w2c_j0 = w2c_p3;
-  w2c_j1 = 40ull;
-  w2c_j0 += w2c_j1;
-  w2c_i0 = (u32)(w2c_j0);
-  w2c_i0 = i32_load8_u(memory, (u64)(w2c_i0));
-  w2c_l10 = w2c_i0;
-  w2c_j0 = 0ull;
-  w2c_l7 = w2c_j0;
-  w2c_j0 = w2c_l6;
-  w2c_i0 = (u32)(w2c_j0);
-  w2c_j1 = 0ull;
-  i64_store(memory, (u64)(w2c_i0) + 48, w2c_j1);
-  w2c_j0 = w2c_l6;
-  w2c_i0 = (u32)(w2c_j0);
-  w2c_j1 = 0ull;
-  i64_store(memory, (u64)(w2c_i0) + 56, w2c_j1);
-  w2c_j0 = w2c_l6;
-  w2c_i0 = (u32)(w2c_j0);
-  w2c_j1 = 0ull;
-  i64_store(memory, (u64)(w2c_i0) + 16, w2c_j1);
-  w2c_j0 = w2c_l6;
-  w2c_i0 = (u32)(w2c_j0);
-  w2c_j1 = 0ull;
-  i64_store(memory, (u64)(w2c_i0) + 8, w2c_j1);
-  w2c_j0 = w2c_l6;
-  w2c_j1 = 8ull;
-  w2c_j0 += w2c_j1;
-  w2c_j1 = w2c_p1;
-  w2c_j2 = w2c_p3;
-  w2c_j3 = w2c_p4;
-  w2c_j4 = w2c_p5;
-  w2c_f11(instance, w2c_j0, w2c_j1, w2c_j2, w2c_j3, w2c_j4);
-  w2c_j0 = w2c_l6;
-  w2c_i0 = (u32)(w2c_j0);
-  w2c_i0 = i32_load8_u(memory, (u64)(w2c_i0) + 8u);
-  if (w2c_i0) {goto w2c_B4;}
-  w2c_j0 = w2c_l6;
-  w2c_i0 = (u32)(w2c_j0);
-  w2c_j0 = i64_load(memory, (u64)(w2c_i0) + 16u);
-  w2c_l8 = w2c_j0;
-  w2c_j0 = w2c_p3;
-  w2c_i0 = (u32)(w2c_j0);
-  w2c_i0 = i32_load8_u(memory, (u64)(w2c_i0));
-  if (w2c_i0) {goto w2c_B6;}
-  w2c_j0 = w2c_l8;
-  w2c_l9 = w2c_j0;
-  goto w2c_B5;
-  w2c_B6:;
-  w2c_j0 = w2c_p3;
-  w2c_j1 = 24ull;
-  w2c_j0 += w2c_j1;
-  w2c_i0 = (u32)(w2c_j0);
-  w2c_i0 = i32_load8_u(memory, (u64)(w2c_i0));
-  w2c_l10 = w2c_i0;
-  w2c_j0 = w2c_p3;
-  w2c_j1 = 8ull;
-  w2c_j0 += w2c_j1;
-  w2c_i0 = (u32)(w2c_j0);
-  w2c_i0 = i32_load8_u(memory, (u64)(w2c_i0));
-  if (w2c_i0) {goto w2c_B7;}
-  w2c_i0 = w2c_l10;
-  w2c_i1 = 255u;
-  w2c_i0 &= w2c_i1;
-  w2c_i1 = 1u;
-  w2c_i0 = w2c_i0 != w2c_i1;
-  if (w2c_i0) {goto w2c_B8;}
-  w2c_j0 = w2c_p5;
-  w2c_j1 = 11986710452722728952ull;
-  w2c_j0 += w2c_j1;
-  w2c_l9 = w2c_j0;
-  goto w2c_B5;
-  w2c_B8:;
-  w2c_j0 = w2c_p3;
-  w2c_j1 = 32ull;
-  w2c_j0 += w2c_j1;
-  w2c_i0 = (u32)(w2c_j0);
-  w2c_j0 = i64_load(memory, (u64)(w2c_i0));
-  w2c_l9 = w2c_j0;
-  goto w2c_B5;
-  w2c_B7:;
-  w2c_j0 = w2c_l8;
-  w2c_l9 = w2c_j0;
-  w2c_i0 = w2c_l10;
-  w2c_i1 = 255u;
-  w2c_i0 &= w2c_i1;
-  if (w2c_i0) {goto w2c_B5;}
-  w2c_j0 = w2c_l8;
-  w2c_j1 = 4294967295ull;
-  w2c_j0 &= w2c_j1;
-  w2c_j1 = w2c_p5;
-  w2c_j2 = 18446744073709551608ull;
-  w2c_j1 += w2c_j2;
-  w2c_l7 = w2c_j1;
-  w2c_j0 ^= w2c_j1;
-  w2c_j1 = w2c_l7;
-  w2c_j2 = 8ull;
-  w2c_i1 = w2c_j1 == w2c_j2;
-  w2c_j1 = (u64)(w2c_i1);
-  w2c_j0 |= w2c_j1;
-  w2c_l7 = w2c_j0;
-  w2c_j0 = w2c_p3;
-  w2c_j1 = 32ull;
-  w2c_j0 += w2c_j1;
-  w2c_i0 = (u32)(w2c_j0);
-  w2c_j0 = i64_load(memory, (u64)(w2c_i0));
-  w2c_l9 = w2c_j0;
-  w2c_B5:;
-  w2c_j0 = w2c_p1;
-  w2c_j1 = w2c_l8;
-  w2c_j2 = w2c_l7;
-  w2c_j3 = w2c_p4;
-  w2c_j4 = w2c_p5;
-  w2c_i0 = w2c_f12(instance, w2c_j0, w2c_j1, w2c_j2, w2c_j3, w2c_j4);
-  w2c_i1 = 255u;
-  w2c_i0 &= w2c_i1;
-  if (w2c_i0) {goto w2c_B3;}
-  w2c_j0 = w2c_p2;
-  w2c_j1 = w2c_l9;
-  w2c_j2 = w2c_p4;
-  w2c_j3 = w2c_p5;
-  w2c_f13(instance, w2c_j0, w2c_j1, w2c_j2, w2c_j3);
-  w2c_i0 = 0u;
-  w2c_l10 = w2c_i0;
-  w2c_i0 = 0u;
-  w2c_l11 = w2c_i0;
-  goto w2c_B1;
-  w2c_B4:;
-  w2c_i0 = 1u;
-  w2c_l11 = w2c_i0;
-  w2c_j0 = w2c_l6;
-  w2c_i0 = (u32)(w2c_j0);
-  w2c_i0 = i32_load8_u(memory, (u64)(w2c_i0) + 9u);
-  w2c_l12 = w2c_i0;
-  w2c_i0 = w2c_l10;
-  w2c_i1 = 1u;
-  w2c_i0 &= w2c_i1;
-  if (w2c_i0) {goto w2c_B2;}
-  w2c_i0 = w2c_l12;
-  w2c_l10 = w2c_i0;
-  goto w2c_B1;
-  w2c_B3:;
-  w2c_i0 = 1u;
-  w2c_l11 = w2c_i0;
-  w2c_i0 = 2u;
-  w2c_l10 = w2c_i0;
-  goto w2c_B1;
-  w2c_B2:;
-  w2c_i0 = 2u;
-  w2c_l10 = w2c_i0;
-  w2c_i0 = w2c_l12;
-  w2c_i1 = 255u;
-  w2c_i0 &= w2c_i1;
-  w2c_i1 = 2u;
-  w2c_i0 = w2c_i0 == w2c_i1;
-  if (w2c_i0) {goto w2c_B1;}
-  w2c_j0 = w2c_p3;
-  w2c_i0 = (u32)(w2c_j0);
-  w2c_j0 = i64_load8_u(memory, (u64)(w2c_i0));
-  w2c_l7 = w2c_j0;
-  w2c_i0 = !(w2c_j0);
-  w2c_i0 = !(w2c_i0);
-  if (w2c_i0) {goto w2c_B10;}
-  w2c_j0 = 0ull;
-  w2c_p1 = w2c_j0;
-  w2c_j0 = 0ull;
-  w2c_p3 = w2c_j0;
-  goto w2c_B9;
-  w2c_B10:;
-  w2c_j0 = w2c_p3;
-  w2c_j1 = 24ull;
-  w2c_j0 += w2c_j1;
-  w2c_i0 = (u32)(w2c_j0);
-  w2c_j0 = i64_load8_u(memory, (u64)(w2c_i0));
-  w2c_p1 = w2c_j0;
-  w2c_j0 = w2c_p3;
-  w2c_j1 = 32ull;
-  w2c_j0 += w2c_j1;
-  w2c_i0 = (u32)(w2c_j0);
-  w2c_j0 = i64_load(memory, (u64)(w2c_i0));
-  w2c_p3 = w2c_j0;
-  w2c_B9:;
-  w2c_j0 = w2c_l6;
-  w2c_i0 = (u32)(w2c_j0);
-  w2c_j1 = w2c_p3;
-  i64_store(memory, (u64)(w2c_i0) + 40, w2c_j1);
-  w2c_j0 = w2c_l6;
-  w2c_i0 = (u32)(w2c_j0);
-  w2c_j1 = w2c_p1;
-  i64_store(memory, (u64)(w2c_i0) + 32, w2c_j1);
-  w2c_j0 = w2c_l6;
-  w2c_i0 = (u32)(w2c_j0);
-  w2c_j1 = w2c_p3;
-  i64_store(memory, (u64)(w2c_i0) + 24, w2c_j1);
-  w2c_j0 = w2c_l6;
-  w2c_i0 = (u32)(w2c_j0);
-  w2c_j1 = w2c_p1;
-  i64_store(memory, (u64)(w2c_i0) + 16, w2c_j1);
-  w2c_j0 = w2c_l6;
-  w2c_i0 = (u32)(w2c_j0);
-  w2c_j1 = w2c_l7;
-  i64_store(memory, (u64)(w2c_i0) + 8, w2c_j1);
-  w2c_j0 = w2c_l6;
-  w2c_j1 = 48ull;
-  w2c_j0 += w2c_j1;
-  w2c_j1 = w2c_p2;
-  w2c_j2 = w2c_l6;
-  w2c_j3 = 8ull;
-  w2c_j2 += w2c_j3;
-  w2c_j3 = w2c_p4;
-  w2c_j4 = w2c_p5;
-  w2c_f11(instance, w2c_j0, w2c_j1, w2c_j2, w2c_j3, w2c_j4);
-  w2c_i0 = w2c_l12;
-  w2c_l10 = w2c_i0;
-  w2c_j0 = w2c_l6;
-  w2c_i0 = (u32)(w2c_j0);
-  w2c_i0 = i32_load8_u(memory, (u64)(w2c_i0) + 48u);
-  w2c_l11 = w2c_i0;
-  if (w2c_i0) {goto w2c_B1;}
-  w2c_j0 = w2c_p2;
-  w2c_j1 = w2c_l6;
-  w2c_i1 = (u32)(w2c_j1);
-  w2c_j1 = i64_load(memory, (u64)(w2c_i1) + 56u);
-  w2c_j2 = w2c_p4;
-  w2c_j3 = w2c_p5;
-  w2c_f13(instance, w2c_j0, w2c_j1, w2c_j2, w2c_j3);
-  w2c_i0 = 0u;
-  w2c_l11 = w2c_i0;
-  w2c_i0 = 1u;
-  w2c_l10 = w2c_i0;
-  w2c_B1:;
-  w2c_j0 = w2c_p0;
-  w2c_i0 = (u32)(w2c_j0);
-  w2c_i1 = w2c_l10;
-  i32_store8(memory, (u64)(w2c_i0) + 1, w2c_i1);
-  w2c_j0 = w2c_p0;
-  w2c_i0 = (u32)(w2c_j0);
-  w2c_i1 = w2c_l11;
-  i32_store8(memory, (u64)(w2c_i0), w2c_i1);
-  w2c_j0 = w2c_l6;
-  w2c_j1 = 64ull;
-  w2c_j0 += w2c_j1;
-  instance->w2c_g0 = w2c_j0;
-  goto w2c_Bfunc;
-  w2c_B0:;
-  UNREACHABLE;
-  w2c_Bfunc:;
-}
-static void w2c_f11(struct instance *instance, u64 w2c_p0, u64 w2c_p1, u64 w2c_p2, u64 w2c_p3, u64 w2c_p4) {
-  u64 w2c_l5 = 0, w2c_l6 = 0, w2c_l7 = 0;
+#ifdef WITH_AES
+static u32 w2c_f26(struct instance *instance, u64 w2c_p0, u64 w2c_p1, u64 w2c_p2, u64 w2c_p3, u64 w2c_p4, u64 w2c_p5) {
+  u32 w2c_l8 = 0, w2c_l9 = 0;
+  u64 w2c_l6 = 0, w2c_l7 = 0;
   const struct memory memory = instance->w2c_memory;
   (void)memory;
   u32 w2c_i0, w2c_i1, w2c_i2;
   u64 w2c_j0, w2c_j1, w2c_j2, w2c_j3, w2c_j4, w2c_j5, w2c_j6;
   w2c_j0 = instance->w2c_g0;
-  w2c_l5 = w2c_j0;
+  w2c_j1 = 80ull;
+  w2c_j0 -= w2c_j1;
+  w2c_l6 = w2c_j0;
+  instance->w2c_g0 = w2c_j0;
+  w2c_j0 = w2c_l6;
+  w2c_l6 = w2c_j0;
   w2c_j1 = 16ull;
   w2c_i0 = (u64)((s64)w2c_j0 < (s64)w2c_j1);
-  if (w2c_i0) {goto w2c_B1;}
-  w2c_j0 = w2c_p2;
-  w2c_i0 = (u32)(w2c_j0);
-  w2c_i0 = i32_load8_u(memory, (u64)(w2c_i0));
-  if (w2c_i0) {goto w2c_B3;}
-  w2c_j0 = w2c_p4;
-  w2c_j1 = 7ull;
-  w2c_j0 &= w2c_j1;
-  w2c_j1 = 0ull;
-  w2c_i0 = w2c_j0 != w2c_j1;
-  if (w2c_i0) {goto w2c_B2;}
-  w2c_j0 = w2c_p4;
-  w2c_j1 = 18446744073709551600ull;
-  w2c_j0 += w2c_j1;
-  w2c_j1 = 1048569ull;
-  w2c_i0 = w2c_j0 >= w2c_j1;
-  if (w2c_i0) {goto w2c_B2;}
-  goto w2c_B0;
-  w2c_B3:;
-  w2c_j0 = w2c_p4;
-  w2c_j1 = 7ull;
-  w2c_j0 &= w2c_j1;
-  w2c_j1 = 0ull;
-  w2c_i0 = w2c_j0 != w2c_j1;
-  if (w2c_i0) {goto w2c_B2;}
-  w2c_j0 = w2c_p4;
-  w2c_j1 = 18446744073709551600ull;
-  w2c_j0 += w2c_j1;
-  w2c_j1 = 1048569ull;
-  w2c_i0 = w2c_j0 < w2c_j1;
-  w2c_j1 = w2c_p4;
-  w2c_j2 = 18446744073709551592ull;
-  w2c_j1 += w2c_j2;
-  w2c_j2 = 1048561ull;
-  w2c_i1 = w2c_j1 < w2c_j2;
-  w2c_j2 = w2c_p2;
-  w2c_j3 = 8ull;
-  w2c_j2 += w2c_j3;
-  w2c_i2 = (u32)(w2c_j2);
-  w2c_i2 = i32_load8_u(memory, (u64)(w2c_i2));
-  w2c_i0 = w2c_i2 ? w2c_i0 : w2c_i1;
   if (w2c_i0) {goto w2c_B0;}
-  w2c_B2:;
-  w2c_j0 = w2c_p0;
-  w2c_i0 = (u32)(w2c_j0);
-  w2c_i1 = 1u;
-  i32_store16(memory, (u64)(w2c_i0), w2c_i1);
-  w2c_j0 = w2c_p0;
-  w2c_j1 = 8ull;
-  w2c_j0 += w2c_j1;
+  w2c_j0 = w2c_l6;
   w2c_i0 = (u32)(w2c_j0);
   w2c_j1 = 0ull;
-  i64_store(memory, (u64)(w2c_i0), w2c_j1);
-  w2c_j0 = w2c_l5;
-  instance->w2c_g0 = w2c_j0;
-  goto w2c_Bfunc;
-  w2c_B1:;
-  UNREACHABLE;
-  w2c_B0:;
-  w2c_j0 = w2c_p1;
-  w2c_j1 = w2c_p3;
-  w2c_i1 = (u32)(w2c_j1);
-  w2c_j1 = i64_load(memory, (u64)(w2c_i1));
-  w2c_l6 = w2c_j1;
-  w2c_j2 = 56ull;
-  w2c_j1 <<= (w2c_j2 & 63);
-  w2c_j2 = w2c_l6;
-  w2c_j3 = 65280ull;
-  w2c_j2 &= w2c_j3;
-  w2c_j3 = 40ull;
-  w2c_j2 <<= (w2c_j3 & 63);
-  w2c_j1 |= w2c_j2;
-  w2c_j2 = w2c_l6;
-  w2c_j3 = 16711680ull;
-  w2c_j2 &= w2c_j3;
-  w2c_j3 = 24ull;
-  w2c_j2 <<= (w2c_j3 & 63);
-  w2c_j3 = w2c_l6;
-  w2c_j4 = 4278190080ull;
-  w2c_j3 &= w2c_j4;
-  w2c_j4 = 8ull;
-  w2c_j3 <<= (w2c_j4 & 63);
-  w2c_j2 |= w2c_j3;
-  w2c_j1 |= w2c_j2;
-  w2c_j2 = w2c_l6;
-  w2c_j3 = 8ull;
-  w2c_j2 >>= (w2c_j3 & 63);
-  w2c_j3 = 4278190080ull;
-  w2c_j2 &= w2c_j3;
-  w2c_j3 = w2c_l6;
-  w2c_j4 = 24ull;
-  w2c_j3 >>= (w2c_j4 & 63);
-  w2c_j4 = 16711680ull;
-  w2c_j3 &= w2c_j4;
-  w2c_j2 |= w2c_j3;
-  w2c_j3 = w2c_l6;
-  w2c_j4 = 40ull;
-  w2c_j3 >>= (w2c_j4 & 63);
-  w2c_j4 = 65280ull;
-  w2c_j3 &= w2c_j4;
-  w2c_j4 = w2c_l6;
-  w2c_j5 = 56ull;
-  w2c_j4 >>= (w2c_j5 & 63);
-  w2c_j3 |= w2c_j4;
-  w2c_j2 |= w2c_j3;
-  w2c_j1 |= w2c_j2;
-  w2c_j2 = w2c_p3;
-  w2c_j3 = 8ull;
-  w2c_j2 += w2c_j3;
-  w2c_j3 = w2c_p4;
-  w2c_j4 = 18446744073709551608ull;
-  w2c_j3 += w2c_j4;
-  w2c_l7 = w2c_j3;
-  w2c_j0 = w2c_f6(instance, w2c_j0, w2c_j1, w2c_j2, w2c_j3);
-  w2c_l6 = w2c_j0;
-  w2c_j0 = w2c_p2;
+  step_i64_store(memory, (u64)(w2c_i0) + 72, w2c_j1);
+  w2c_j0 = w2c_l6;
   w2c_i0 = (u32)(w2c_j0);
-  w2c_i0 = i32_load8_u(memory, (u64)(w2c_i0));
-  if (w2c_i0) {goto w2c_B5;}
-  w2c_j0 = w2c_l7;
-  w2c_j1 = 8ull;
-  w2c_i0 = w2c_j0 == w2c_j1;
-  w2c_j1 = w2c_l6;
-  w2c_j2 = 12008468691120727718ull;
-  w2c_i1 = w2c_j1 != w2c_j2;
-  w2c_i0 |= w2c_i1;
-  w2c_j1 = w2c_l7;
-  w2c_j2 = w2c_l6;
-  w2c_j3 = 4294967295ull;
-  w2c_j2 &= w2c_j3;
-  w2c_j1 -= w2c_j2;
-  w2c_l7 = w2c_j1;
-  w2c_j2 = 3ull;
-  w2c_j1 >>= (w2c_j2 & 63);
-  w2c_j2 = w2c_l6;
-  w2c_j3 = 32ull;
-  w2c_j2 >>= (w2c_j3 & 63);
-  w2c_j3 = 2790873510ull;
-  w2c_j2 ^= w2c_j3;
-  w2c_j1 |= w2c_j2;
-  w2c_j2 = w2c_p3;
-  w2c_j3 = w2c_p4;
-  w2c_j2 += w2c_j3;
-  w2c_j3 = 18446744073709551608ull;
-  w2c_j2 += w2c_j3;
-  w2c_i2 = (u32)(w2c_j2);
-  w2c_j2 = i64_load(memory, (u64)(w2c_i2));
-  w2c_p2 = w2c_j2;
-  w2c_j3 = 56ull;
-  w2c_j2 <<= (w2c_j3 & 63);
-  w2c_j3 = w2c_p2;
-  w2c_j4 = 65280ull;
-  w2c_j3 &= w2c_j4;
-  w2c_j4 = 40ull;
-  w2c_j3 <<= (w2c_j4 & 63);
-  w2c_j2 |= w2c_j3;
-  w2c_j3 = w2c_p2;
-  w2c_j4 = 16711680ull;
-  w2c_j3 &= w2c_j4;
-  w2c_j4 = 24ull;
-  w2c_j3 <<= (w2c_j4 & 63);
-  w2c_j4 = w2c_p2;
-  w2c_j5 = 4278190080ull;
-  w2c_j4 &= w2c_j5;
-  w2c_j5 = 8ull;
-  w2c_j4 <<= (w2c_j5 & 63);
-  w2c_j3 |= w2c_j4;
-  w2c_j2 |= w2c_j3;
-  w2c_j3 = w2c_p2;
-  w2c_j4 = 8ull;
-  w2c_j3 >>= (w2c_j4 & 63);
-  w2c_j4 = 4278190080ull;
-  w2c_j3 &= w2c_j4;
-  w2c_j4 = w2c_p2;
-  w2c_j5 = 24ull;
-  w2c_j4 >>= (w2c_j5 & 63);
-  w2c_j5 = 16711680ull;
-  w2c_j4 &= w2c_j5;
-  w2c_j3 |= w2c_j4;
-  w2c_j4 = w2c_p2;
-  w2c_j5 = 40ull;
-  w2c_j4 >>= (w2c_j5 & 63);
-  w2c_j5 = 65280ull;
-  w2c_j4 &= w2c_j5;
-  w2c_j5 = w2c_p2;
-  w2c_j6 = 56ull;
-  w2c_j5 >>= (w2c_j6 & 63);
-  w2c_j4 |= w2c_j5;
-  w2c_j3 |= w2c_j4;
-  w2c_j2 |= w2c_j3;
-  w2c_j3 = 18446744073709551615ull;
-  w2c_j4 = w2c_l7;
-  w2c_j5 = 3ull;
-  w2c_j4 <<= (w2c_j5 & 63);
-  w2c_j3 <<= (w2c_j4 & 63);
-  w2c_j4 = 18446744073709551615ull;
-  w2c_j3 ^= w2c_j4;
-  w2c_j2 &= w2c_j3;
-  w2c_j1 |= w2c_j2;
-  w2c_j2 = 0ull;
-  w2c_i1 = w2c_j1 != w2c_j2;
-  w2c_i0 &= w2c_i1;
-  w2c_j0 = (u64)(w2c_i0);
-  w2c_p2 = w2c_j0;
-  goto w2c_B4;
-  w2c_B5:;
-  w2c_j0 = w2c_p2;
-  w2c_j1 = 8ull;
-  w2c_j0 += w2c_j1;
+  w2c_j1 = 0ull;
+  step_i64_store(memory, (u64)(w2c_i0) + 64, w2c_j1);
+  w2c_j0 = w2c_l6;
   w2c_i0 = (u32)(w2c_j0);
-  w2c_i0 = i32_load8_u(memory, (u64)(w2c_i0));
-  if (w2c_i0) {goto w2c_B6;}
-  w2c_j0 = 1ull;
-  w2c_j1 = w2c_p2;
-  w2c_j2 = 16ull;
-  w2c_j1 += w2c_j2;
-  w2c_i1 = (u32)(w2c_j1);
-  w2c_j1 = i64_load(memory, (u64)(w2c_i1));
-  w2c_j2 = w2c_l6;
-  w2c_j1 ^= w2c_j2;
-  w2c_j2 = w2c_l7;
-  w2c_j3 = 8ull;
-  w2c_i2 = w2c_j2 == w2c_j3;
-  w2c_j0 = w2c_i2 ? w2c_j0 : w2c_j1;
-  w2c_p2 = w2c_j0;
-  goto w2c_B4;
-  w2c_B6:;
-  w2c_j0 = w2c_l7;
-  w2c_j1 = w2c_l6;
-  w2c_j2 = 4294967295ull;
-  w2c_j1 &= w2c_j2;
-  w2c_j0 -= w2c_j1;
-  w2c_l7 = w2c_j0;
-  w2c_j1 = 3ull;
-  w2c_j0 >>= (w2c_j1 & 63);
-  w2c_j1 = w2c_l6;
-  w2c_j2 = 32ull;
-  w2c_j1 >>= (w2c_j2 & 63);
-  w2c_j2 = 2790873510ull;
-  w2c_j1 ^= w2c_j2;
-  w2c_j0 |= w2c_j1;
-  w2c_j1 = w2c_p3;
-  w2c_j2 = w2c_p4;
-  w2c_j1 += w2c_j2;
-  w2c_j2 = 18446744073709551608ull;
-  w2c_j1 += w2c_j2;
-  w2c_i1 = (u32)(w2c_j1);
-  w2c_j1 = i64_load(memory, (u64)(w2c_i1));
-  w2c_p2 = w2c_j1;
-  w2c_j2 = 56ull;
-  w2c_j1 <<= (w2c_j2 & 63);
-  w2c_j2 = w2c_p2;
-  w2c_j3 = 65280ull;
-  w2c_j2 &= w2c_j3;
-  w2c_j3 = 40ull;
-  w2c_j2 <<= (w2c_j3 & 63);
-  w2c_j1 |= w2c_j2;
-  w2c_j2 = w2c_p2;
-  w2c_j3 = 16711680ull;
-  w2c_j2 &= w2c_j3;
-  w2c_j3 = 24ull;
-  w2c_j2 <<= (w2c_j3 & 63);
-  w2c_j3 = w2c_p2;
-  w2c_j4 = 4278190080ull;
-  w2c_j3 &= w2c_j4;
-  w2c_j4 = 8ull;
-  w2c_j3 <<= (w2c_j4 & 63);
-  w2c_j2 |= w2c_j3;
-  w2c_j1 |= w2c_j2;
-  w2c_j2 = w2c_p2;
-  w2c_j3 = 8ull;
-  w2c_j2 >>= (w2c_j3 & 63);
-  w2c_j3 = 4278190080ull;
-  w2c_j2 &= w2c_j3;
-  w2c_j3 = w2c_p2;
-  w2c_j4 = 24ull;
-  w2c_j3 >>= (w2c_j4 & 63);
-  w2c_j4 = 16711680ull;
-  w2c_j3 &= w2c_j4;
-  w2c_j2 |= w2c_j3;
-  w2c_j3 = w2c_p2;
-  w2c_j4 = 40ull;
-  w2c_j3 >>= (w2c_j4 & 63);
-  w2c_j4 = 65280ull;
-  w2c_j3 &= w2c_j4;
-  w2c_j4 = w2c_p2;
-  w2c_j5 = 56ull;
-  w2c_j4 >>= (w2c_j5 & 63);
-  w2c_j3 |= w2c_j4;
-  w2c_j2 |= w2c_j3;
-  w2c_j1 |= w2c_j2;
-  w2c_j2 = 18446744073709551615ull;
-  w2c_j3 = w2c_l7;
-  w2c_j4 = 3ull;
-  w2c_j3 <<= (w2c_j4 & 63);
-  w2c_j2 <<= (w2c_j3 & 63);
-  w2c_j3 = 18446744073709551615ull;
-  w2c_j2 ^= w2c_j3;
-  w2c_j1 &= w2c_j2;
-  w2c_j0 |= w2c_j1;
-  w2c_p2 = w2c_j0;
-  w2c_B4:;
-  w2c_j0 = w2c_p1;
-  w2c_j1 = w2c_l6;
+  w2c_j1 = 0ull;
+  step_i64_store(memory, (u64)(w2c_i0) + 56, w2c_j1);
+  w2c_j0 = w2c_l6;
+  w2c_i0 = (u32)(w2c_j0);
+  w2c_j1 = 0ull;
+  step_i64_store(memory, (u64)(w2c_i0) + 48, w2c_j1);
+  w2c_j0 = w2c_l6;
+  w2c_i0 = (u32)(w2c_j0);
+  w2c_j1 = 0ull;
+  step_i64_store(memory, (u64)(w2c_i0) + 40, w2c_j1);
+  w2c_i0 = 0u;
+  w2c_l8 = w2c_i0;
+  w2c_j0 = w2c_p0;
+  w2c_j1 = w2c_p1;
   w2c_j2 = w2c_p2;
   w2c_j3 = w2c_p3;
-  w2c_j4 = w2c_p4;
-  w2c_i0 = w2c_f12(instance, w2c_j0, w2c_j1, w2c_j2, w2c_j3, w2c_j4);
-  w2c_i1 = 255u;
-  w2c_i0 &= w2c_i1;
-  w2c_i0 = !(w2c_i0);
-  if (w2c_i0) {goto w2c_B7;}
-  w2c_j0 = w2c_p0;
-  w2c_i0 = (u32)(w2c_j0);
-  w2c_i1 = 257u;
-  i32_store16(memory, (u64)(w2c_i0), w2c_i1);
-  w2c_j0 = w2c_p0;
-  w2c_j1 = 8ull;
-  w2c_j0 += w2c_j1;
-  w2c_i0 = (u32)(w2c_j0);
-  w2c_j1 = 0ull;
-  i64_store(memory, (u64)(w2c_i0), w2c_j1);
-  w2c_j0 = w2c_l5;
-  instance->w2c_g0 = w2c_j0;
-  goto w2c_Bfunc;
-  w2c_B7:;
-  w2c_j0 = w2c_p0;
-  w2c_i0 = (u32)(w2c_j0);
-  w2c_i1 = 0u;
-  i32_store16(memory, (u64)(w2c_i0), w2c_i1);
-  w2c_j0 = w2c_p0;
-  w2c_j1 = 8ull;
-  w2c_j0 += w2c_j1;
-  w2c_i0 = (u32)(w2c_j0);
-  w2c_j1 = w2c_l6;
-  i64_store(memory, (u64)(w2c_i0), w2c_j1);
-  w2c_j0 = w2c_l5;
-  instance->w2c_g0 = w2c_j0;
-  w2c_Bfunc:;
-}
-static u32 w2c_f12(struct instance *instance, u64 w2c_p0, u64 w2c_p1, u64 w2c_p2, u64 w2c_p3, u64 w2c_p4) {
-  u64 w2c_l5 = 0;
-  const struct memory memory = instance->w2c_memory;
-  (void)memory;
-  u32 w2c_i0;
-  u64 w2c_j0, w2c_j1, w2c_j2, w2c_j3;
-  w2c_j0 = instance->w2c_g0;
-  w2c_l5 = w2c_j0;
-  w2c_j1 = 16ull;
-  w2c_i0 = (u64)((s64)w2c_j0 < (s64)w2c_j1);
-  if (w2c_i0) {goto w2c_B0;}
-  w2c_j0 = w2c_p2;
-  w2c_i0 = !(w2c_j0);
-  w2c_i0 = !(w2c_i0);
-  if (w2c_i0) {goto w2c_B1;}
-  w2c_j0 = w2c_l5;
-  instance->w2c_g0 = w2c_j0;
-  w2c_i0 = 0u;
-  goto w2c_Bfunc;
-  w2c_B1:;
-  w2c_j0 = w2c_p0;
-  w2c_j1 = w2c_p1;
-  w2c_j2 = w2c_p3;
-  w2c_j3 = w2c_p4;
-  w2c_f13(instance, w2c_j0, w2c_j1, w2c_j2, w2c_j3);
-  w2c_j0 = w2c_l5;
-  instance->w2c_g0 = w2c_j0;
-  w2c_i0 = 1u;
-  goto w2c_Bfunc;
-  w2c_B0:;
-  UNREACHABLE;
-  w2c_Bfunc:;
-  return w2c_i0;
-}
-static void w2c_f13(struct instance *instance, u64 w2c_p0, u64 w2c_p1, u64 w2c_p2, u64 w2c_p3) {
-  u64 w2c_l4 = 0, w2c_l5 = 0, w2c_l6 = 0, w2c_l7 = 0, w2c_l8 = 0, w2c_l9 = 0;
-  const struct memory memory = instance->w2c_memory;
-  (void)memory;
-  u32 w2c_i0, w2c_i1, w2c_i2, w2c_i3;
-  u64 w2c_j0, w2c_j1, w2c_j2, w2c_j3, w2c_j4, w2c_j5;
-  w2c_j0 = instance->w2c_g0;
-  w2c_j1 = 32ull;
-  w2c_j0 -= w2c_j1;
-  w2c_l4 = w2c_j0;
-  instance->w2c_g0 = w2c_j0;
-  w2c_j0 = w2c_l4;
-  w2c_l4 = w2c_j0;
-  w2c_j1 = 16ull;
-  w2c_i0 = (u64)((s64)w2c_j0 < (s64)w2c_j1);
-  if (w2c_i0) {goto w2c_B0;}
-  w2c_j0 = w2c_p2;
-  w2c_j1 = 8ull;
-  w2c_j0 += w2c_j1;
-  w2c_l5 = w2c_j0;
-  w2c_j0 = w2c_p3;
-  w2c_j1 = 18446744073709551608ull;
-  w2c_j0 += w2c_j1;
-  w2c_l6 = w2c_j0;
-  w2c_j1 = 9ull;
-  w2c_i0 = w2c_j0 < w2c_j1;
-  if (w2c_i0) {goto w2c_B2;}
-  w2c_j0 = w2c_p1;
-  w2c_j1 = 56ull;
-  w2c_j0 <<= (w2c_j1 & 63);
-  w2c_j1 = w2c_p1;
-  w2c_j2 = 65280ull;
-  w2c_j1 &= w2c_j2;
-  w2c_j2 = 40ull;
-  w2c_j1 <<= (w2c_j2 & 63);
-  w2c_j0 |= w2c_j1;
-  w2c_j1 = w2c_p1;
-  w2c_j2 = 16711680ull;
-  w2c_j1 &= w2c_j2;
-  w2c_j2 = 24ull;
-  w2c_j1 <<= (w2c_j2 & 63);
-  w2c_j2 = w2c_p1;
-  w2c_j3 = 4278190080ull;
-  w2c_j2 &= w2c_j3;
-  w2c_j3 = 8ull;
-  w2c_j2 <<= (w2c_j3 & 63);
-  w2c_j1 |= w2c_j2;
-  w2c_j0 |= w2c_j1;
-  w2c_j1 = w2c_p1;
-  w2c_j2 = 8ull;
-  w2c_j1 >>= (w2c_j2 & 63);
-  w2c_j2 = 4278190080ull;
-  w2c_j1 &= w2c_j2;
-  w2c_j2 = w2c_p1;
-  w2c_j3 = 24ull;
-  w2c_j2 >>= (w2c_j3 & 63);
-  w2c_j3 = 16711680ull;
-  w2c_j2 &= w2c_j3;
-  w2c_j1 |= w2c_j2;
-  w2c_j2 = w2c_p1;
-  w2c_j3 = 40ull;
-  w2c_j2 >>= (w2c_j3 & 63);
-  w2c_j3 = 65280ull;
-  w2c_j2 &= w2c_j3;
-  w2c_j3 = w2c_p1;
-  w2c_j4 = 56ull;
-  w2c_j3 >>= (w2c_j4 & 63);
-  w2c_j2 |= w2c_j3;
-  w2c_j1 |= w2c_j2;
-  w2c_j0 |= w2c_j1;
-  w2c_p3 = w2c_j0;
-  w2c_j0 = w2c_l6;
-  w2c_j1 = 3ull;
-  w2c_j0 >>= (w2c_j1 & 63);
-  w2c_l6 = w2c_j0;
-  w2c_j1 = 6ull;
-  w2c_j0 *= w2c_j1;
-  w2c_l7 = w2c_j0;
-  w2c_j0 = 0ull;
-  w2c_p1 = w2c_j0;
-  w2c_j0 = w2c_l5;
-  w2c_l8 = w2c_j0;
-  w2c_L3: 
-    w2c_j0 = w2c_l8;
-    w2c_i0 = (u32)(w2c_j0);
-    w2c_j0 = i64_load(memory, (u64)(w2c_i0));
-    w2c_l8 = w2c_j0;
-    w2c_j0 = w2c_p0;
-    w2c_j1 = 8ull;
-    w2c_j0 += w2c_j1;
-    w2c_l9 = w2c_j0;
-    w2c_i0 = (u32)(w2c_j0);
-    w2c_j1 = 18446744073709551615ull;
-    w2c_j2 = w2c_l9;
-    w2c_i2 = (u32)(w2c_j2);
-    w2c_j2 = i64_load(memory, (u64)(w2c_i2));
-    w2c_j3 = 1ull;
-    w2c_j2 += w2c_j3;
-    w2c_l9 = w2c_j2;
-    w2c_j3 = w2c_l9;
-    w2c_i3 = !(w2c_j3);
-    w2c_j1 = w2c_i3 ? w2c_j1 : w2c_j2;
-    i64_store(memory, (u64)(w2c_i0), w2c_j1);
-    w2c_j0 = w2c_l4;
-    w2c_i0 = (u32)(w2c_j0);
-    w2c_j1 = 0ull;
-    i64_store(memory, (u64)(w2c_i0) + 16, w2c_j1);
-    w2c_j0 = w2c_l4;
-    w2c_i0 = (u32)(w2c_j0);
-    w2c_j1 = 0ull;
-    i64_store(memory, (u64)(w2c_i0) + 24, w2c_j1);
-    w2c_j0 = w2c_l4;
-    w2c_i0 = (u32)(w2c_j0);
-    w2c_j1 = w2c_l8;
-    i64_store(memory, (u64)(w2c_i0) + 8, w2c_j1);
-    w2c_j0 = w2c_l4;
-    w2c_i0 = (u32)(w2c_j0);
-    w2c_j1 = w2c_p3;
-    i64_store(memory, (u64)(w2c_i0), w2c_j1);
-    w2c_j0 = w2c_l4;
-    w2c_j1 = 16ull;
-    w2c_j0 += w2c_j1;
-    w2c_j1 = w2c_p0;
-    w2c_i1 = (u32)(w2c_j1);
-    w2c_j1 = i64_load(memory, (u64)(w2c_i1));
-    w2c_j2 = w2c_l4;
-    w2c_f14(instance, w2c_j0, w2c_j1, w2c_j2);
-    w2c_j0 = w2c_l4;
-    w2c_i0 = (u32)(w2c_j0);
-    w2c_j0 = i64_load(memory, (u64)(w2c_i0) + 16u);
-    w2c_p3 = w2c_j0;
-    w2c_j0 = w2c_l5;
-    w2c_j1 = w2c_p1;
-    w2c_j2 = w2c_l6;
-    w2c_j1 = REM_U(w2c_j1, w2c_j2);
-    w2c_l8 = w2c_j1;
-    w2c_j2 = 3ull;
-    w2c_j1 <<= (w2c_j2 & 63);
-    w2c_j0 += w2c_j1;
-    w2c_i0 = (u32)(w2c_j0);
-    w2c_j1 = w2c_l4;
-    w2c_i1 = (u32)(w2c_j1);
-    w2c_j1 = i64_load(memory, (u64)(w2c_i1) + 24u);
-    i64_store(memory, (u64)(w2c_i0), w2c_j1);
-    w2c_j0 = w2c_p3;
-    w2c_j1 = w2c_p1;
-    w2c_j2 = 1ull;
-    w2c_j1 += w2c_j2;
-    w2c_p1 = w2c_j1;
-    w2c_j2 = 56ull;
-    w2c_j1 <<= (w2c_j2 & 63);
-    w2c_j2 = w2c_p1;
-    w2c_j3 = 65280ull;
-    w2c_j2 &= w2c_j3;
-    w2c_j3 = 40ull;
-    w2c_j2 <<= (w2c_j3 & 63);
-    w2c_j1 |= w2c_j2;
-    w2c_j2 = w2c_p1;
-    w2c_j3 = 16711680ull;
-    w2c_j2 &= w2c_j3;
-    w2c_j3 = 24ull;
-    w2c_j2 <<= (w2c_j3 & 63);
-    w2c_j3 = w2c_p1;
-    w2c_j4 = 4278190080ull;
-    w2c_j3 &= w2c_j4;
-    w2c_j4 = 8ull;
-    w2c_j3 <<= (w2c_j4 & 63);
-    w2c_j2 |= w2c_j3;
-    w2c_j1 |= w2c_j2;
-    w2c_j2 = w2c_p1;
-    w2c_j3 = 8ull;
-    w2c_j2 >>= (w2c_j3 & 63);
-    w2c_j3 = 4278190080ull;
-    w2c_j2 &= w2c_j3;
-    w2c_j3 = w2c_p1;
-    w2c_j4 = 24ull;
-    w2c_j3 >>= (w2c_j4 & 63);
-    w2c_j4 = 16711680ull;
-    w2c_j3 &= w2c_j4;
-    w2c_j2 |= w2c_j3;
-    w2c_j3 = w2c_p1;
-    w2c_j4 = 40ull;
-    w2c_j3 >>= (w2c_j4 & 63);
-    w2c_j4 = 65280ull;
-    w2c_j3 &= w2c_j4;
-    w2c_j4 = w2c_p1;
-    w2c_j5 = 56ull;
-    w2c_j4 >>= (w2c_j5 & 63);
-    w2c_j3 |= w2c_j4;
-    w2c_j2 |= w2c_j3;
-    w2c_j1 |= w2c_j2;
-    w2c_j0 ^= w2c_j1;
-    w2c_p3 = w2c_j0;
-    w2c_j0 = w2c_l5;
-    w2c_j1 = 0ull;
-    w2c_j2 = w2c_l8;
-    w2c_j3 = 1ull;
-    w2c_j2 += w2c_j3;
-    w2c_l8 = w2c_j2;
-    w2c_j3 = 3ull;
-    w2c_j2 <<= (w2c_j3 & 63);
-    w2c_j3 = w2c_l8;
-    w2c_j4 = w2c_l6;
-    w2c_i3 = w2c_j3 == w2c_j4;
-    w2c_j1 = w2c_i3 ? w2c_j1 : w2c_j2;
-    w2c_j0 += w2c_j1;
-    w2c_l8 = w2c_j0;
-    w2c_j0 = w2c_l7;
-    w2c_j1 = w2c_p1;
-    w2c_i0 = w2c_j0 != w2c_j1;
-    if (w2c_i0) {goto w2c_L3;}
-    goto w2c_B1;
-  UNREACHABLE;
-  w2c_B2:;
-  w2c_j0 = w2c_l5;
-  w2c_i0 = (u32)(w2c_j0);
-  w2c_j0 = i64_load(memory, (u64)(w2c_i0));
-  w2c_p3 = w2c_j0;
-  w2c_j0 = w2c_p0;
-  w2c_j1 = 8ull;
-  w2c_j0 += w2c_j1;
-  w2c_l6 = w2c_j0;
-  w2c_i0 = (u32)(w2c_j0);
-  w2c_j1 = 18446744073709551615ull;
-  w2c_j2 = w2c_l6;
-  w2c_i2 = (u32)(w2c_j2);
-  w2c_j2 = i64_load(memory, (u64)(w2c_i2));
-  w2c_j3 = 1ull;
-  w2c_j2 += w2c_j3;
-  w2c_l6 = w2c_j2;
-  w2c_j3 = w2c_l6;
-  w2c_i3 = !(w2c_j3);
-  w2c_j1 = w2c_i3 ? w2c_j1 : w2c_j2;
-  i64_store(memory, (u64)(w2c_i0), w2c_j1);
-  w2c_j0 = w2c_l4;
-  w2c_i0 = (u32)(w2c_j0);
-  w2c_j1 = 0ull;
-  i64_store(memory, (u64)(w2c_i0) + 16, w2c_j1);
-  w2c_j0 = w2c_l4;
-  w2c_i0 = (u32)(w2c_j0);
-  w2c_j1 = 0ull;
-  i64_store(memory, (u64)(w2c_i0) + 24, w2c_j1);
-  w2c_j0 = w2c_l4;
-  w2c_i0 = (u32)(w2c_j0);
-  w2c_j1 = w2c_p3;
-  i64_store(memory, (u64)(w2c_i0) + 8, w2c_j1);
-  w2c_j0 = w2c_l4;
-  w2c_i0 = (u32)(w2c_j0);
-  w2c_j1 = w2c_p1;
-  w2c_j2 = 56ull;
-  w2c_j1 <<= (w2c_j2 & 63);
-  w2c_j2 = w2c_p1;
-  w2c_j3 = 65280ull;
-  w2c_j2 &= w2c_j3;
-  w2c_j3 = 40ull;
-  w2c_j2 <<= (w2c_j3 & 63);
-  w2c_j1 |= w2c_j2;
-  w2c_j2 = w2c_p1;
-  w2c_j3 = 16711680ull;
-  w2c_j2 &= w2c_j3;
-  w2c_j3 = 24ull;
-  w2c_j2 <<= (w2c_j3 & 63);
-  w2c_j3 = w2c_p1;
-  w2c_j4 = 4278190080ull;
-  w2c_j3 &= w2c_j4;
-  w2c_j4 = 8ull;
-  w2c_j3 <<= (w2c_j4 & 63);
-  w2c_j2 |= w2c_j3;
-  w2c_j1 |= w2c_j2;
-  w2c_j2 = w2c_p1;
-  w2c_j3 = 8ull;
-  w2c_j2 >>= (w2c_j3 & 63);
-  w2c_j3 = 4278190080ull;
-  w2c_j2 &= w2c_j3;
-  w2c_j3 = w2c_p1;
-  w2c_j4 = 24ull;
-  w2c_j3 >>= (w2c_j4 & 63);
-  w2c_j4 = 16711680ull;
-  w2c_j3 &= w2c_j4;
-  w2c_j2 |= w2c_j3;
-  w2c_j3 = w2c_p1;
-  w2c_j4 = 40ull;
-  w2c_j3 >>= (w2c_j4 & 63);
-  w2c_j4 = 65280ull;
-  w2c_j3 &= w2c_j4;
-  w2c_j4 = w2c_p1;
-  w2c_j5 = 56ull;
-  w2c_j4 >>= (w2c_j5 & 63);
-  w2c_j3 |= w2c_j4;
-  w2c_j2 |= w2c_j3;
-  w2c_j1 |= w2c_j2;
-  i64_store(memory, (u64)(w2c_i0), w2c_j1);
-  w2c_j0 = w2c_l4;
-  w2c_j1 = 16ull;
-  w2c_j0 += w2c_j1;
-  w2c_j1 = w2c_p0;
-  w2c_i1 = (u32)(w2c_j1);
-  w2c_j1 = i64_load(memory, (u64)(w2c_i1));
-  w2c_j2 = w2c_l4;
-  w2c_f14(instance, w2c_j0, w2c_j1, w2c_j2);
-  w2c_j0 = w2c_l4;
-  w2c_i0 = (u32)(w2c_j0);
-  w2c_j0 = i64_load(memory, (u64)(w2c_i0) + 16u);
-  w2c_p3 = w2c_j0;
-  w2c_j0 = w2c_l5;
-  w2c_i0 = (u32)(w2c_j0);
-  w2c_j1 = w2c_l4;
-  w2c_i1 = (u32)(w2c_j1);
-  w2c_j1 = i64_load(memory, (u64)(w2c_i1) + 24u);
-  i64_store(memory, (u64)(w2c_i0), w2c_j1);
-  w2c_B1:;
-  w2c_j0 = w2c_p2;
-  w2c_i0 = (u32)(w2c_j0);
-  w2c_j1 = w2c_p3;
-  i64_store(memory, (u64)(w2c_i0), w2c_j1);
-  w2c_j0 = w2c_l4;
-  w2c_j1 = 32ull;
-  w2c_j0 += w2c_j1;
-  instance->w2c_g0 = w2c_j0;
-  goto w2c_Bfunc;
-  w2c_B0:;
-  UNREACHABLE;
-  w2c_Bfunc:;
-}
-static void w2c_f14(struct instance *instance, u64 w2c_p0, u64 w2c_p1, u64 w2c_p2) {
-  u32 w2c_l3 = 0, w2c_l4 = 0, w2c_l5 = 0, w2c_l6 = 0, w2c_l7 = 0, w2c_l8 = 0, w2c_l9 = 0, w2c_l10 = 0;
-  u64 w2c_l11 = 0, w2c_l12 = 0;
-  const struct memory memory = instance->w2c_memory;
-  (void)memory;
-  u32 w2c_i0, w2c_i1, w2c_i2, w2c_i3, w2c_i4;
-  u64 w2c_j0, w2c_j1, w2c_j2, w2c_j3;
-  w2c_j0 = instance->w2c_g0;
-  w2c_j1 = 16ull;
-  w2c_i0 = (u64)((s64)w2c_j0 < (s64)w2c_j1);
-  if (w2c_i0) {goto w2c_B0;}
-  w2c_j0 = w2c_p1;
-  w2c_i0 = (u32)(w2c_j0);
-  w2c_i0 = i32_load(memory, (u64)(w2c_i0) + 12u);
-  w2c_j1 = w2c_p2;
-  w2c_i1 = (u32)(w2c_j1);
-  w2c_i1 = i32_load(memory, (u64)(w2c_i1) + 12u);
-  w2c_l3 = w2c_i1;
-  w2c_i2 = 16711935u;
-  w2c_i1 &= w2c_i2;
-  w2c_i2 = 8u;
-  w2c_i1 = I32_ROTR(w2c_i1, w2c_i2);
-  w2c_i2 = w2c_l3;
-  w2c_i3 = 24u;
-  w2c_i2 = I32_ROTR(w2c_i2, w2c_i3);
-  w2c_i3 = 16711935u;
-  w2c_i2 &= w2c_i3;
-  w2c_i1 |= w2c_i2;
-  w2c_i0 ^= w2c_i1;
-  w2c_l4 = w2c_i0;
-  w2c_j0 = w2c_p1;
-  w2c_i0 = (u32)(w2c_j0);
-  w2c_i0 = i32_load(memory, (u64)(w2c_i0) + 8u);
-  w2c_j1 = w2c_p2;
-  w2c_i1 = (u32)(w2c_j1);
-  w2c_i1 = i32_load(memory, (u64)(w2c_i1) + 8u);
-  w2c_l3 = w2c_i1;
-  w2c_i2 = 16711935u;
-  w2c_i1 &= w2c_i2;
-  w2c_i2 = 8u;
-  w2c_i1 = I32_ROTR(w2c_i1, w2c_i2);
-  w2c_i2 = w2c_l3;
-  w2c_i3 = 24u;
-  w2c_i2 = I32_ROTR(w2c_i2, w2c_i3);
-  w2c_i3 = 16711935u;
-  w2c_i2 &= w2c_i3;
-  w2c_i1 |= w2c_i2;
-  w2c_i0 ^= w2c_i1;
-  w2c_l5 = w2c_i0;
-  w2c_j0 = w2c_p1;
-  w2c_i0 = (u32)(w2c_j0);
-  w2c_i0 = i32_load(memory, (u64)(w2c_i0) + 4u);
-  w2c_j1 = w2c_p2;
-  w2c_i1 = (u32)(w2c_j1);
-  w2c_i1 = i32_load(memory, (u64)(w2c_i1) + 4u);
-  w2c_l3 = w2c_i1;
-  w2c_i2 = 16711935u;
-  w2c_i1 &= w2c_i2;
-  w2c_i2 = 8u;
-  w2c_i1 = I32_ROTR(w2c_i1, w2c_i2);
-  w2c_i2 = w2c_l3;
-  w2c_i3 = 24u;
-  w2c_i2 = I32_ROTR(w2c_i2, w2c_i3);
-  w2c_i3 = 16711935u;
-  w2c_i2 &= w2c_i3;
-  w2c_i1 |= w2c_i2;
-  w2c_i0 ^= w2c_i1;
-  w2c_l6 = w2c_i0;
-  w2c_j0 = w2c_p1;
-  w2c_i0 = (u32)(w2c_j0);
-  w2c_i0 = i32_load(memory, (u64)(w2c_i0));
-  w2c_j1 = w2c_p2;
-  w2c_i1 = (u32)(w2c_j1);
-  w2c_i1 = i32_load(memory, (u64)(w2c_i1));
-  w2c_l3 = w2c_i1;
-  w2c_i2 = 16711935u;
-  w2c_i1 &= w2c_i2;
-  w2c_i2 = 8u;
-  w2c_i1 = I32_ROTR(w2c_i1, w2c_i2);
-  w2c_i2 = w2c_l3;
-  w2c_i3 = 24u;
-  w2c_i2 = I32_ROTR(w2c_i2, w2c_i3);
-  w2c_i3 = 16711935u;
-  w2c_i2 &= w2c_i3;
-  w2c_i1 |= w2c_i2;
-  w2c_i0 ^= w2c_i1;
-  w2c_l3 = w2c_i0;
-  w2c_j0 = w2c_p1;
-  w2c_j1 = 240ull;
-  w2c_j0 += w2c_j1;
-  w2c_i0 = (u32)(w2c_j0);
-  w2c_j0 = i64_load8_u(memory, (u64)(w2c_i0));
-  w2c_l11 = w2c_j0;
-  w2c_j1 = 2ull;
-  w2c_i0 = w2c_j0 < w2c_j1;
-  if (w2c_i0) {goto w2c_B1;}
-  w2c_j0 = w2c_p1;
-  w2c_j1 = 28ull;
-  w2c_j0 += w2c_j1;
-  w2c_p2 = w2c_j0;
-  w2c_j0 = w2c_l11;
-  w2c_j1 = 18446744073709551615ull;
-  w2c_j0 += w2c_j1;
-  w2c_l12 = w2c_j0;
-  w2c_L2: 
-    w2c_i0 = w2c_l4;
-    w2c_l7 = w2c_i0;
-    w2c_i1 = 22u;
-    w2c_i0 >>= (w2c_i1 & 31);
-    w2c_j0 = (u64)(w2c_i0);
-    w2c_j1 = 1020ull;
-    w2c_j0 &= w2c_j1;
-    w2c_j1 = 67112ull;
-    w2c_j0 += w2c_j1;
-    w2c_i0 = (u32)(w2c_j0);
-    w2c_i0 = constant_i32_load((u64)(w2c_i0));
-    w2c_j1 = w2c_p2;
-    w2c_i1 = (u32)(w2c_j1);
-    w2c_i1 = i32_load(memory, (u64)(w2c_i1));
-    w2c_i0 ^= w2c_i1;
-    w2c_i1 = w2c_l3;
-    w2c_i2 = 14u;
-    w2c_i1 >>= (w2c_i2 & 31);
-    w2c_j1 = (u64)(w2c_i1);
-    w2c_j2 = 1020ull;
-    w2c_j1 &= w2c_j2;
-    w2c_j2 = 67112ull;
-    w2c_j1 += w2c_j2;
-    w2c_i1 = (u32)(w2c_j1);
-    w2c_i1 = constant_i32_load((u64)(w2c_i1));
-    w2c_i2 = 24u;
-    w2c_i1 = I32_ROTL(w2c_i1, w2c_i2);
-    w2c_i0 ^= w2c_i1;
-    w2c_i1 = w2c_l6;
-    w2c_l8 = w2c_i1;
-    w2c_i2 = 6u;
-    w2c_i1 >>= (w2c_i2 & 31);
-    w2c_j1 = (u64)(w2c_i1);
-    w2c_j2 = 1020ull;
-    w2c_j1 &= w2c_j2;
-    w2c_j2 = 67112ull;
-    w2c_j1 += w2c_j2;
-    w2c_i1 = (u32)(w2c_j1);
-    w2c_i1 = constant_i32_load((u64)(w2c_i1));
-    w2c_i2 = 16u;
-    w2c_i1 = I32_ROTL(w2c_i1, w2c_i2);
-    w2c_i0 ^= w2c_i1;
-    w2c_i1 = w2c_l5;
-    w2c_l9 = w2c_i1;
-    w2c_i2 = 2u;
-    w2c_i1 <<= (w2c_i2 & 31);
-    w2c_j1 = (u64)(w2c_i1);
-    w2c_j2 = 1020ull;
-    w2c_j1 &= w2c_j2;
-    w2c_j2 = 67112ull;
-    w2c_j1 += w2c_j2;
-    w2c_i1 = (u32)(w2c_j1);
-    w2c_i1 = constant_i32_load((u64)(w2c_i1));
-    w2c_i2 = 8u;
-    w2c_i1 = I32_ROTL(w2c_i1, w2c_i2);
-    w2c_i0 ^= w2c_i1;
-    w2c_l4 = w2c_i0;
-    w2c_i0 = w2c_l9;
-    w2c_i1 = 22u;
-    w2c_i0 >>= (w2c_i1 & 31);
-    w2c_j0 = (u64)(w2c_i0);
-    w2c_j1 = 1020ull;
-    w2c_j0 &= w2c_j1;
-    w2c_j1 = 67112ull;
-    w2c_j0 += w2c_j1;
-    w2c_i0 = (u32)(w2c_j0);
-    w2c_i0 = constant_i32_load((u64)(w2c_i0));
-    w2c_j1 = w2c_p2;
-    w2c_j2 = 18446744073709551612ull;
-    w2c_j1 += w2c_j2;
-    w2c_i1 = (u32)(w2c_j1);
-    w2c_i1 = i32_load(memory, (u64)(w2c_i1));
-    w2c_i0 ^= w2c_i1;
-    w2c_i1 = w2c_l7;
-    w2c_i2 = 14u;
-    w2c_i1 >>= (w2c_i2 & 31);
-    w2c_j1 = (u64)(w2c_i1);
-    w2c_j2 = 1020ull;
-    w2c_j1 &= w2c_j2;
-    w2c_j2 = 67112ull;
-    w2c_j1 += w2c_j2;
-    w2c_i1 = (u32)(w2c_j1);
-    w2c_i1 = constant_i32_load((u64)(w2c_i1));
-    w2c_i2 = 24u;
-    w2c_i1 = I32_ROTL(w2c_i1, w2c_i2);
-    w2c_i0 ^= w2c_i1;
-    w2c_i1 = w2c_l3;
-    w2c_i2 = 6u;
-    w2c_i1 >>= (w2c_i2 & 31);
-    w2c_j1 = (u64)(w2c_i1);
-    w2c_j2 = 1020ull;
-    w2c_j1 &= w2c_j2;
-    w2c_j2 = 67112ull;
-    w2c_j1 += w2c_j2;
-    w2c_i1 = (u32)(w2c_j1);
-    w2c_i1 = constant_i32_load((u64)(w2c_i1));
-    w2c_i2 = 16u;
-    w2c_i1 = I32_ROTL(w2c_i1, w2c_i2);
-    w2c_i0 ^= w2c_i1;
-    w2c_i1 = w2c_l8;
-    w2c_i2 = 2u;
-    w2c_i1 <<= (w2c_i2 & 31);
-    w2c_j1 = (u64)(w2c_i1);
-    w2c_j2 = 1020ull;
-    w2c_j1 &= w2c_j2;
-    w2c_j2 = 67112ull;
-    w2c_j1 += w2c_j2;
-    w2c_i1 = (u32)(w2c_j1);
-    w2c_i1 = constant_i32_load((u64)(w2c_i1));
-    w2c_i2 = 8u;
-    w2c_i1 = I32_ROTL(w2c_i1, w2c_i2);
-    w2c_i0 ^= w2c_i1;
-    w2c_l5 = w2c_i0;
-    w2c_i0 = w2c_l8;
-    w2c_i1 = 22u;
-    w2c_i0 >>= (w2c_i1 & 31);
-    w2c_j0 = (u64)(w2c_i0);
-    w2c_j1 = 1020ull;
-    w2c_j0 &= w2c_j1;
-    w2c_j1 = 67112ull;
-    w2c_j0 += w2c_j1;
-    w2c_i0 = (u32)(w2c_j0);
-    w2c_i0 = constant_i32_load((u64)(w2c_i0));
-    w2c_j1 = w2c_p2;
-    w2c_j2 = 18446744073709551608ull;
-    w2c_j1 += w2c_j2;
-    w2c_i1 = (u32)(w2c_j1);
-    w2c_i1 = i32_load(memory, (u64)(w2c_i1));
-    w2c_i0 ^= w2c_i1;
-    w2c_i1 = w2c_l9;
-    w2c_i2 = 14u;
-    w2c_i1 >>= (w2c_i2 & 31);
-    w2c_j1 = (u64)(w2c_i1);
-    w2c_j2 = 1020ull;
-    w2c_j1 &= w2c_j2;
-    w2c_j2 = 67112ull;
-    w2c_j1 += w2c_j2;
-    w2c_i1 = (u32)(w2c_j1);
-    w2c_i1 = constant_i32_load((u64)(w2c_i1));
-    w2c_i2 = 24u;
-    w2c_i1 = I32_ROTL(w2c_i1, w2c_i2);
-    w2c_i0 ^= w2c_i1;
-    w2c_i1 = w2c_l7;
-    w2c_i2 = 6u;
-    w2c_i1 >>= (w2c_i2 & 31);
-    w2c_j1 = (u64)(w2c_i1);
-    w2c_j2 = 1020ull;
-    w2c_j1 &= w2c_j2;
-    w2c_j2 = 67112ull;
-    w2c_j1 += w2c_j2;
-    w2c_i1 = (u32)(w2c_j1);
-    w2c_i1 = constant_i32_load((u64)(w2c_i1));
-    w2c_i2 = 16u;
-    w2c_i1 = I32_ROTL(w2c_i1, w2c_i2);
-    w2c_i0 ^= w2c_i1;
-    w2c_i1 = w2c_l3;
-    w2c_i2 = 2u;
-    w2c_i1 <<= (w2c_i2 & 31);
-    w2c_j1 = (u64)(w2c_i1);
-    w2c_j2 = 1020ull;
-    w2c_j1 &= w2c_j2;
-    w2c_j2 = 67112ull;
-    w2c_j1 += w2c_j2;
-    w2c_i1 = (u32)(w2c_j1);
-    w2c_i1 = constant_i32_load((u64)(w2c_i1));
-    w2c_i2 = 8u;
-    w2c_i1 = I32_ROTL(w2c_i1, w2c_i2);
-    w2c_i0 ^= w2c_i1;
-    w2c_l6 = w2c_i0;
-    w2c_i0 = w2c_l3;
-    w2c_i1 = 22u;
-    w2c_i0 >>= (w2c_i1 & 31);
-    w2c_j0 = (u64)(w2c_i0);
-    w2c_j1 = 1020ull;
-    w2c_j0 &= w2c_j1;
-    w2c_j1 = 67112ull;
-    w2c_j0 += w2c_j1;
-    w2c_i0 = (u32)(w2c_j0);
-    w2c_i0 = constant_i32_load((u64)(w2c_i0));
-    w2c_j1 = w2c_p2;
-    w2c_j2 = 18446744073709551604ull;
-    w2c_j1 += w2c_j2;
-    w2c_i1 = (u32)(w2c_j1);
-    w2c_i1 = i32_load(memory, (u64)(w2c_i1));
-    w2c_i0 ^= w2c_i1;
-    w2c_i1 = w2c_l8;
-    w2c_i2 = 14u;
-    w2c_i1 >>= (w2c_i2 & 31);
-    w2c_j1 = (u64)(w2c_i1);
-    w2c_j2 = 1020ull;
-    w2c_j1 &= w2c_j2;
-    w2c_j2 = 67112ull;
-    w2c_j1 += w2c_j2;
-    w2c_i1 = (u32)(w2c_j1);
-    w2c_i1 = constant_i32_load((u64)(w2c_i1));
-    w2c_i2 = 24u;
-    w2c_i1 = I32_ROTL(w2c_i1, w2c_i2);
-    w2c_i0 ^= w2c_i1;
-    w2c_i1 = w2c_l9;
-    w2c_i2 = 6u;
-    w2c_i1 >>= (w2c_i2 & 31);
-    w2c_j1 = (u64)(w2c_i1);
-    w2c_j2 = 1020ull;
-    w2c_j1 &= w2c_j2;
-    w2c_j2 = 67112ull;
-    w2c_j1 += w2c_j2;
-    w2c_i1 = (u32)(w2c_j1);
-    w2c_i1 = constant_i32_load((u64)(w2c_i1));
-    w2c_i2 = 16u;
-    w2c_i1 = I32_ROTL(w2c_i1, w2c_i2);
-    w2c_i0 ^= w2c_i1;
-    w2c_i1 = w2c_l7;
-    w2c_i2 = 2u;
-    w2c_i1 <<= (w2c_i2 & 31);
-    w2c_j1 = (u64)(w2c_i1);
-    w2c_j2 = 1020ull;
-    w2c_j1 &= w2c_j2;
-    w2c_j2 = 67112ull;
-    w2c_j1 += w2c_j2;
-    w2c_i1 = (u32)(w2c_j1);
-    w2c_i1 = constant_i32_load((u64)(w2c_i1));
-    w2c_i2 = 8u;
-    w2c_i1 = I32_ROTL(w2c_i1, w2c_i2);
-    w2c_i0 ^= w2c_i1;
-    w2c_l3 = w2c_i0;
-    w2c_j0 = w2c_p2;
-    w2c_j1 = 16ull;
-    w2c_j0 += w2c_j1;
-    w2c_p2 = w2c_j0;
-    w2c_j0 = w2c_l12;
-    w2c_j1 = 18446744073709551615ull;
-    w2c_j0 += w2c_j1;
-    w2c_l12 = w2c_j0;
-    w2c_j1 = 0ull;
-    w2c_i0 = w2c_j0 != w2c_j1;
-    if (w2c_i0) {goto w2c_L2;}
-  w2c_B1:;
-  w2c_j0 = w2c_p1;
-  w2c_j1 = w2c_l11;
-  w2c_j2 = 4ull;
-  w2c_j1 <<= (w2c_j2 & 63);
-  w2c_j0 += w2c_j1;
-  w2c_p2 = w2c_j0;
-  w2c_i0 = (u32)(w2c_j0);
-  w2c_i0 = i32_load(memory, (u64)(w2c_i0));
-  w2c_l7 = w2c_i0;
-  w2c_j0 = w2c_p2;
-  w2c_i0 = (u32)(w2c_j0);
-  w2c_i0 = i32_load(memory, (u64)(w2c_i0) + 4u);
-  w2c_l8 = w2c_i0;
-  w2c_j0 = w2c_p2;
-  w2c_i0 = (u32)(w2c_j0);
-  w2c_i0 = i32_load(memory, (u64)(w2c_i0) + 8u);
+  w2c_j4 = w2c_l6;
+  w2c_j5 = 40ull;
+  w2c_j4 += w2c_j5;
+  w2c_j5 = w2c_p3;
+  w2c_j6 = 8ull;
+  w2c_j5 += w2c_j6;
+  w2c_l7 = w2c_j5;
+  w2c_i0 = w2c_f27(instance, w2c_j0, w2c_j1, w2c_j2, w2c_j3, w2c_j4, w2c_j5);
   w2c_l9 = w2c_i0;
-  w2c_j0 = w2c_p0;
-  w2c_i0 = (u32)(w2c_j0);
-  w2c_i1 = w2c_l3;
-  w2c_i2 = 16u;
-  w2c_i1 >>= (w2c_i2 & 31);
-  w2c_j1 = (u64)(w2c_i1);
-  w2c_j2 = 255ull;
-  w2c_j1 &= w2c_j2;
-  w2c_j2 = 65576ull;
-  w2c_j1 += w2c_j2;
-  w2c_i1 = (u32)(w2c_j1);
-  w2c_i1 = constant_i32_load8_u((u64)(w2c_i1));
-  w2c_i2 = 8u;
-  w2c_i1 <<= (w2c_i2 & 31);
-  w2c_i2 = w2c_l4;
-  w2c_j2 = (u64)(w2c_i2);
-  w2c_l12 = w2c_j2;
-  w2c_j3 = 24ull;
-  w2c_j2 >>= (w2c_j3 & 63);
-  w2c_i2 = (u32)(w2c_j2);
-  w2c_i2 = constant_i32_load8_u((u64)(w2c_i2) + 65576u);
-  w2c_i1 |= w2c_i2;
-  w2c_i2 = w2c_l6;
-  w2c_i3 = 8u;
-  w2c_i2 >>= (w2c_i3 & 31);
-  w2c_j2 = (u64)(w2c_i2);
-  w2c_j3 = 255ull;
-  w2c_j2 &= w2c_j3;
-  w2c_j3 = 65576ull;
-  w2c_j2 += w2c_j3;
-  w2c_i2 = (u32)(w2c_j2);
-  w2c_i2 = constant_i32_load8_u((u64)(w2c_i2));
-  w2c_i3 = 16u;
-  w2c_i2 <<= (w2c_i3 & 31);
-  w2c_i1 |= w2c_i2;
-  w2c_i2 = w2c_l5;
-  w2c_j2 = (u64)(w2c_i2);
-  w2c_p1 = w2c_j2;
-  w2c_j3 = 255ull;
-  w2c_j2 &= w2c_j3;
-  w2c_i2 = (u32)(w2c_j2);
-  w2c_i2 = constant_i32_load8_u((u64)(w2c_i2) + 65576u);
-  w2c_i3 = 24u;
-  w2c_i2 <<= (w2c_i3 & 31);
-  w2c_i1 |= w2c_i2;
-  w2c_j2 = w2c_p2;
-  w2c_i2 = (u32)(w2c_j2);
-  w2c_i2 = i32_load(memory, (u64)(w2c_i2) + 12u);
-  w2c_l10 = w2c_i2;
-  w2c_i3 = 16711935u;
-  w2c_i2 &= w2c_i3;
-  w2c_i3 = 8u;
-  w2c_i2 = I32_ROTR(w2c_i2, w2c_i3);
-  w2c_i3 = w2c_l10;
-  w2c_i4 = 24u;
-  w2c_i3 = I32_ROTR(w2c_i3, w2c_i4);
-  w2c_i4 = 16711935u;
-  w2c_i3 &= w2c_i4;
-  w2c_i2 |= w2c_i3;
-  w2c_i1 ^= w2c_i2;
-  i32_store(memory, (u64)(w2c_i0) + 12, w2c_i1);
-  w2c_j0 = w2c_p0;
-  w2c_i0 = (u32)(w2c_j0);
-  w2c_i1 = w2c_l4;
-  w2c_i2 = 16u;
-  w2c_i1 >>= (w2c_i2 & 31);
-  w2c_j1 = (u64)(w2c_i1);
-  w2c_j2 = 255ull;
-  w2c_j1 &= w2c_j2;
-  w2c_j2 = 65576ull;
-  w2c_j1 += w2c_j2;
-  w2c_i1 = (u32)(w2c_j1);
-  w2c_i1 = constant_i32_load8_u((u64)(w2c_i1));
-  w2c_i2 = 8u;
-  w2c_i1 <<= (w2c_i2 & 31);
-  w2c_j2 = w2c_p1;
-  w2c_j3 = 24ull;
-  w2c_j2 >>= (w2c_j3 & 63);
-  w2c_i2 = (u32)(w2c_j2);
-  w2c_i2 = constant_i32_load8_u((u64)(w2c_i2) + 65576u);
-  w2c_i1 |= w2c_i2;
-  w2c_i2 = w2c_l3;
-  w2c_i3 = 8u;
-  w2c_i2 >>= (w2c_i3 & 31);
-  w2c_j2 = (u64)(w2c_i2);
-  w2c_j3 = 255ull;
-  w2c_j2 &= w2c_j3;
-  w2c_j3 = 65576ull;
-  w2c_j2 += w2c_j3;
-  w2c_i2 = (u32)(w2c_j2);
-  w2c_i2 = constant_i32_load8_u((u64)(w2c_i2));
-  w2c_i3 = 16u;
-  w2c_i2 <<= (w2c_i3 & 31);
-  w2c_i1 |= w2c_i2;
-  w2c_i2 = w2c_l6;
-  w2c_j2 = (u64)(w2c_i2);
-  w2c_p2 = w2c_j2;
-  w2c_j3 = 255ull;
-  w2c_j2 &= w2c_j3;
-  w2c_i2 = (u32)(w2c_j2);
-  w2c_i2 = constant_i32_load8_u((u64)(w2c_i2) + 65576u);
-  w2c_i3 = 24u;
-  w2c_i2 <<= (w2c_i3 & 31);
-  w2c_i1 |= w2c_i2;
-  w2c_i2 = w2c_l9;
-  w2c_i3 = 16711935u;
-  w2c_i2 &= w2c_i3;
-  w2c_i3 = 8u;
-  w2c_i2 = I32_ROTR(w2c_i2, w2c_i3);
-  w2c_i3 = w2c_l9;
-  w2c_i4 = 24u;
-  w2c_i3 = I32_ROTR(w2c_i3, w2c_i4);
-  w2c_i4 = 16711935u;
-  w2c_i3 &= w2c_i4;
-  w2c_i2 |= w2c_i3;
-  w2c_i1 ^= w2c_i2;
-  i32_store(memory, (u64)(w2c_i0) + 8, w2c_i1);
-  w2c_j0 = w2c_p0;
-  w2c_i0 = (u32)(w2c_j0);
-  w2c_i1 = w2c_l5;
-  w2c_i2 = 16u;
-  w2c_i1 >>= (w2c_i2 & 31);
-  w2c_j1 = (u64)(w2c_i1);
-  w2c_j2 = 255ull;
-  w2c_j1 &= w2c_j2;
-  w2c_j2 = 65576ull;
-  w2c_j1 += w2c_j2;
-  w2c_i1 = (u32)(w2c_j1);
-  w2c_i1 = constant_i32_load8_u((u64)(w2c_i1));
-  w2c_i2 = 8u;
-  w2c_i1 <<= (w2c_i2 & 31);
-  w2c_j2 = w2c_p2;
-  w2c_j3 = 24ull;
-  w2c_j2 >>= (w2c_j3 & 63);
-  w2c_i2 = (u32)(w2c_j2);
-  w2c_i2 = constant_i32_load8_u((u64)(w2c_i2) + 65576u);
-  w2c_i1 |= w2c_i2;
-  w2c_i2 = w2c_l4;
-  w2c_i3 = 8u;
-  w2c_i2 >>= (w2c_i3 & 31);
-  w2c_j2 = (u64)(w2c_i2);
-  w2c_j3 = 255ull;
-  w2c_j2 &= w2c_j3;
-  w2c_j3 = 65576ull;
-  w2c_j2 += w2c_j3;
-  w2c_i2 = (u32)(w2c_j2);
-  w2c_i2 = constant_i32_load8_u((u64)(w2c_i2));
-  w2c_i3 = 16u;
-  w2c_i2 <<= (w2c_i3 & 31);
-  w2c_i1 |= w2c_i2;
-  w2c_i2 = w2c_l3;
-  w2c_j2 = (u64)(w2c_i2);
-  w2c_p2 = w2c_j2;
-  w2c_j3 = 255ull;
-  w2c_j2 &= w2c_j3;
-  w2c_i2 = (u32)(w2c_j2);
-  w2c_i2 = constant_i32_load8_u((u64)(w2c_i2) + 65576u);
-  w2c_i3 = 24u;
-  w2c_i2 <<= (w2c_i3 & 31);
-  w2c_i1 |= w2c_i2;
-  w2c_i2 = w2c_l8;
-  w2c_i3 = 16711935u;
-  w2c_i2 &= w2c_i3;
-  w2c_i3 = 8u;
-  w2c_i2 = I32_ROTR(w2c_i2, w2c_i3);
-  w2c_i3 = w2c_l8;
-  w2c_i4 = 24u;
-  w2c_i3 = I32_ROTR(w2c_i3, w2c_i4);
-  w2c_i4 = 16711935u;
-  w2c_i3 &= w2c_i4;
-  w2c_i2 |= w2c_i3;
-  w2c_i1 ^= w2c_i2;
-  i32_store(memory, (u64)(w2c_i0) + 4, w2c_i1);
-  w2c_j0 = w2c_p0;
-  w2c_i0 = (u32)(w2c_j0);
-  w2c_i1 = w2c_l6;
-  w2c_i2 = 16u;
-  w2c_i1 >>= (w2c_i2 & 31);
-  w2c_j1 = (u64)(w2c_i1);
-  w2c_j2 = 255ull;
-  w2c_j1 &= w2c_j2;
-  w2c_j2 = 65576ull;
-  w2c_j1 += w2c_j2;
-  w2c_i1 = (u32)(w2c_j1);
-  w2c_i1 = constant_i32_load8_u((u64)(w2c_i1));
-  w2c_i2 = 8u;
-  w2c_i1 <<= (w2c_i2 & 31);
-  w2c_j2 = w2c_p2;
-  w2c_j3 = 24ull;
-  w2c_j2 >>= (w2c_j3 & 63);
-  w2c_i2 = (u32)(w2c_j2);
-  w2c_i2 = constant_i32_load8_u((u64)(w2c_i2) + 65576u);
-  w2c_i1 |= w2c_i2;
-  w2c_i2 = w2c_l5;
-  w2c_i3 = 8u;
-  w2c_i2 >>= (w2c_i3 & 31);
-  w2c_j2 = (u64)(w2c_i2);
-  w2c_j3 = 255ull;
-  w2c_j2 &= w2c_j3;
-  w2c_j3 = 65576ull;
-  w2c_j2 += w2c_j3;
-  w2c_i2 = (u32)(w2c_j2);
-  w2c_i2 = constant_i32_load8_u((u64)(w2c_i2));
-  w2c_i3 = 16u;
-  w2c_i2 <<= (w2c_i3 & 31);
-  w2c_i1 |= w2c_i2;
-  w2c_j2 = w2c_l12;
-  w2c_j3 = 255ull;
-  w2c_j2 &= w2c_j3;
-  w2c_i2 = (u32)(w2c_j2);
-  w2c_i2 = constant_i32_load8_u((u64)(w2c_i2) + 65576u);
-  w2c_i3 = 24u;
-  w2c_i2 <<= (w2c_i3 & 31);
-  w2c_i1 |= w2c_i2;
-  w2c_i2 = w2c_l7;
-  w2c_i3 = 16711935u;
-  w2c_i2 &= w2c_i3;
-  w2c_i3 = 8u;
-  w2c_i2 = I32_ROTR(w2c_i2, w2c_i3);
-  w2c_i3 = w2c_l7;
-  w2c_i4 = 24u;
-  w2c_i3 = I32_ROTR(w2c_i3, w2c_i4);
-  w2c_i4 = 16711935u;
-  w2c_i3 &= w2c_i4;
-  w2c_i2 |= w2c_i3;
-  w2c_i1 ^= w2c_i2;
-  i32_store(memory, (u64)(w2c_i0), w2c_i1);
-  goto w2c_Bfunc;
-  w2c_B0:;
-  UNREACHABLE;
-  w2c_Bfunc:;
-}
-static void w2c_f15(struct instance *instance, u64 w2c_p0, u64 w2c_p1, u64 w2c_p2, u64 w2c_p3, u64 w2c_p4, u64 w2c_p5, u64 w2c_p6) {
-  u32 w2c_l8 = 0;
-  u64 w2c_l7 = 0;
-  const struct memory memory = instance->w2c_memory;
-  (void)memory;
-  u32 w2c_i0, w2c_i1, w2c_i2;
-  u64 w2c_j0, w2c_j1, w2c_j2, w2c_j3, w2c_j4, w2c_j5;
-  w2c_j0 = instance->w2c_g0;
-  w2c_j1 = 48ull;
-  w2c_j0 -= w2c_j1;
-  w2c_l7 = w2c_j0;
-  instance->w2c_g0 = w2c_j0;
-  w2c_j0 = w2c_l7;
-  w2c_l7 = w2c_j0;
-  w2c_j1 = 16ull;
-  w2c_i0 = (u64)((s64)w2c_j0 < (s64)w2c_j1);
-  if (w2c_i0) {goto w2c_B0;}
-  w2c_j0 = w2c_p6;
-  w2c_i0 = !(w2c_j0);
-  if (w2c_i0) {goto w2c_B1;}
-  w2c_L2: 
-    w2c_j0 = w2c_l7;
-    w2c_i0 = (u32)(w2c_j0);
-    w2c_j1 = 0ull;
-    i64_store(memory, (u64)(w2c_i0) + 40, w2c_j1);
-    w2c_j0 = w2c_l7;
-    w2c_i0 = (u32)(w2c_j0);
-    w2c_j1 = w2c_p0;
-    i64_store(memory, (u64)(w2c_i0) + 32, w2c_j1);
-    w2c_j0 = w2c_l7;
-    w2c_i0 = (u32)(w2c_j0);
-    w2c_j1 = 0ull;
-    i64_store(memory, (u64)(w2c_i0) + 24, w2c_j1);
-    w2c_j0 = w2c_l7;
-    w2c_i0 = (u32)(w2c_j0);
-    w2c_j1 = w2c_p1;
-    i64_store(memory, (u64)(w2c_i0) + 16, w2c_j1);
-    w2c_j0 = w2c_l7;
-    w2c_j1 = 8ull;
-    w2c_j0 += w2c_j1;
-    w2c_j1 = w2c_l7;
-    w2c_j2 = 32ull;
-    w2c_j1 += w2c_j2;
-    w2c_j2 = w2c_l7;
-    w2c_j3 = 16ull;
-    w2c_j2 += w2c_j3;
-    w2c_j3 = w2c_p2;
-    w2c_j4 = w2c_p4;
-    w2c_j5 = w2c_p3;
-    w2c_f10(instance, w2c_j0, w2c_j1, w2c_j2, w2c_j3, w2c_j4, w2c_j5);
-    w2c_j0 = w2c_l7;
-    w2c_i0 = (u32)(w2c_j0);
-    w2c_i0 = i32_load8_u(memory, (u64)(w2c_i0) + 9u);
-    w2c_l8 = w2c_i0;
-    w2c_j0 = w2c_l7;
-    w2c_i0 = (u32)(w2c_j0);
-    w2c_i0 = i32_load8_u(memory, (u64)(w2c_i0) + 8u);
-    if (w2c_i0) {goto w2c_B4;}
-    w2c_i0 = w2c_l8;
-    w2c_i1 = 255u;
-    w2c_i0 &= w2c_i1;
-    w2c_i1 = 0u;
-    w2c_i0 = w2c_i0 != w2c_i1;
-    w2c_l8 = w2c_i0;
-    goto w2c_B3;
-    w2c_B4:;
-    w2c_i0 = 525572u;
-    w2c_i1 = w2c_l8;
-    w2c_i2 = 255u;
-    w2c_i1 &= w2c_i2;
-    w2c_i2 = 3u;
-    w2c_i1 <<= (w2c_i2 & 31);
-    w2c_i0 >>= (w2c_i1 & 31);
-    w2c_l8 = w2c_i0;
-    w2c_B3:;
-    w2c_j0 = w2c_p5;
-    w2c_i0 = (u32)(w2c_j0);
-    w2c_i1 = w2c_l8;
-    i32_store8(memory, (u64)(w2c_i0), w2c_i1);
-    w2c_j0 = w2c_p4;
-    w2c_j1 = w2c_p3;
-    w2c_j0 += w2c_j1;
-    w2c_p4 = w2c_j0;
-    w2c_j0 = w2c_p5;
-    w2c_j1 = 1ull;
-    w2c_j0 += w2c_j1;
-    w2c_p5 = w2c_j0;
-    w2c_j0 = w2c_p6;
-    w2c_j1 = 18446744073709551615ull;
-    w2c_j0 += w2c_j1;
-    w2c_p6 = w2c_j0;
-    w2c_j1 = 0ull;
-    w2c_i0 = w2c_j0 != w2c_j1;
-    if (w2c_i0) {goto w2c_L2;}
-  w2c_B1:;
-  w2c_j0 = w2c_l7;
-  w2c_j1 = 48ull;
-  w2c_j0 += w2c_j1;
-  instance->w2c_g0 = w2c_j0;
-  goto w2c_Bfunc;
-  w2c_B0:;
-  UNREACHABLE;
-  w2c_Bfunc:;
-}
-static u32 w2c_f16(struct instance *instance, u64 w2c_p0, u64 w2c_p1, u64 w2c_p2, u64 w2c_p3, u64 w2c_p4, u64 w2c_p5) {
-  u32 w2c_l8 = 0;
-  u64 w2c_l6 = 0, w2c_l7 = 0;
-  const struct memory memory = instance->w2c_memory;
-  (void)memory;
-  u32 w2c_i0, w2c_i1, w2c_i2;
-  u64 w2c_j0, w2c_j1, w2c_j2, w2c_j3, w2c_j4, w2c_j5;
-  w2c_j0 = instance->w2c_g0;
-  w2c_j1 = 592ull;
-  w2c_j0 -= w2c_j1;
-  w2c_l6 = w2c_j0;
-  instance->w2c_g0 = w2c_j0;
-  w2c_j0 = w2c_l6;
-  w2c_l6 = w2c_j0;
-  w2c_j1 = 16ull;
-  w2c_i0 = (u64)((s64)w2c_j0 < (s64)w2c_j1);
-  if (w2c_i0) {goto w2c_B0;}
-  w2c_j0 = w2c_l6;
-  w2c_i0 = (u32)(w2c_j0);
-  w2c_j1 = 0ull;
-  i64_store(memory, (u64)(w2c_i0) + 72, w2c_j1);
-  w2c_j0 = w2c_l6;
-  w2c_i0 = (u32)(w2c_j0);
-  w2c_j1 = 0ull;
-  i64_store(memory, (u64)(w2c_i0) + 64, w2c_j1);
-  w2c_j0 = w2c_l6;
-  w2c_i0 = (u32)(w2c_j0);
-  w2c_j1 = 0ull;
-  i64_store(memory, (u64)(w2c_i0) + 56, w2c_j1);
-  w2c_j0 = w2c_l6;
-  w2c_i0 = (u32)(w2c_j0);
-  w2c_j1 = 0ull;
-  i64_store(memory, (u64)(w2c_i0) + 48, w2c_j1);
-  w2c_j0 = w2c_l6;
-  w2c_i0 = (u32)(w2c_j0);
-  w2c_j1 = 0ull;
-  i64_store(memory, (u64)(w2c_i0) + 40, w2c_j1);
-  w2c_i0 = 0u;
-  w2c_l8 = w2c_i0;
-  w2c_j0 = w2c_l6;
-  w2c_j1 = 100ull;
-  w2c_j0 += w2c_j1;
-  w2c_i0 = (u32)(w2c_j0);
-  w2c_i1 = 0u;
-  w2c_j2 = 248ull;
-  w2c_i2 = (u32)(w2c_j2);
-  memory_fill(memory, w2c_i0, w2c_i1, w2c_i2);
-  w2c_j0 = w2c_l6;
-  w2c_j1 = 100ull;
-  w2c_j0 += w2c_j1;
-  w2c_j1 = w2c_p0;
-  w2c_j2 = w2c_p1;
-  w2c_f4(instance, w2c_j0, w2c_j1, w2c_j2);
-  w2c_j0 = w2c_l6;
-  w2c_i0 = (u32)(w2c_j0);
-  w2c_i0 = i32_load8_u(memory, (u64)(w2c_i0) + 100u);
-  w2c_i1 = 1u;
-  w2c_i0 = w2c_i0 != w2c_i1;
-  if (w2c_i0) {goto w2c_B1;}
-  w2c_j0 = w2c_l6;
-  w2c_j1 = 348ull;
-  w2c_j0 += w2c_j1;
-  w2c_i0 = (u32)(w2c_j0);
-  w2c_j1 = w2c_l6;
-  w2c_j2 = 104ull;
-  w2c_j1 += w2c_j2;
-  w2c_i1 = (u32)(w2c_j1);
-  w2c_j2 = 244ull;
-  w2c_i2 = (u32)(w2c_j2);
-  memory_copy(memory, memory, w2c_i0, w2c_i1, w2c_i2);
-  w2c_j0 = w2c_l6;
-  w2c_i0 = (u32)(w2c_j0);
-  w2c_j1 = 0ull;
-  i64_store(memory, (u64)(w2c_i0) + 88, w2c_j1);
-  w2c_j0 = w2c_l6;
-  w2c_i0 = (u32)(w2c_j0);
-  w2c_j1 = w2c_l6;
-  w2c_j2 = 348ull;
-  w2c_j1 += w2c_j2;
-  i64_store(memory, (u64)(w2c_i0) + 80, w2c_j1);
-  w2c_j0 = w2c_p3;
-  w2c_j1 = 7ull;
-  w2c_j0 &= w2c_j1;
-  w2c_j1 = 0ull;
-  w2c_i0 = w2c_j0 != w2c_j1;
-  if (w2c_i0) {goto w2c_B1;}
-  w2c_j0 = w2c_p3;
-  w2c_j1 = 8ull;
-  w2c_j0 += w2c_j1;
-  w2c_l7 = w2c_j0;
-  w2c_j0 = w2c_p3;
-  w2c_i0 = !(w2c_j0);
-  if (w2c_i0) {goto w2c_B2;}
-  w2c_j0 = w2c_l6;
-  w2c_j1 = 48ull;
-  w2c_j0 += w2c_j1;
-  w2c_i0 = (u32)(w2c_j0);
-  w2c_j1 = w2c_p2;
-  w2c_i1 = (u32)(w2c_j1);
-  w2c_j2 = w2c_p3;
-  w2c_i2 = (u32)(w2c_j2);
-  memory_copy(memory, memory, w2c_i0, w2c_i1, w2c_i2);
-  w2c_B2:;
-  w2c_j0 = w2c_l6;
-  w2c_j1 = 80ull;
-  w2c_j0 += w2c_j1;
-  w2c_j1 = 12008468691120727718ull;
-  w2c_j2 = w2c_l6;
-  w2c_j3 = 40ull;
-  w2c_j2 += w2c_j3;
-  w2c_j3 = w2c_l7;
-  w2c_f13(instance, w2c_j0, w2c_j1, w2c_j2, w2c_j3);
   w2c_j0 = w2c_l7;
   w2c_j1 = w2c_p5;
   w2c_i0 = w2c_j0 != w2c_j1;
+  if (w2c_i0) {goto w2c_B1;}
+  w2c_i0 = w2c_l9;
   if (w2c_i0) {goto w2c_B1;}
   w2c_j0 = w2c_l6;
   w2c_i0 = (u32)(w2c_j0);
@@ -5900,25 +8191,25 @@ static u32 w2c_f16(struct instance *instance, u64 w2c_p0, u64 w2c_p1, u64 w2c_p2
   w2c_j0 += w2c_j1;
   w2c_j1 = w2c_p5;
   w2c_j2 = w2c_p4;
-  w2c_i0 = w2c_f17(instance, w2c_j0, w2c_j1, w2c_j2);
+  w2c_i0 = w2c_f28(instance, w2c_j0, w2c_j1, w2c_j2);
   w2c_i0 = !(w2c_i0);
   if (w2c_i0) {goto w2c_B1;}
   w2c_j0 = w2c_l6;
   w2c_i0 = (u32)(w2c_j0);
   w2c_j1 = 0ull;
-  i64_store(memory, (u64)(w2c_i0) + 32, w2c_j1);
+  step_i64_store(memory, (u64)(w2c_i0) + 32, w2c_j1);
   w2c_j0 = w2c_l6;
   w2c_i0 = (u32)(w2c_j0);
   w2c_j1 = 0ull;
-  i64_store(memory, (u64)(w2c_i0) + 24, w2c_j1);
+  step_i64_store(memory, (u64)(w2c_i0) + 24, w2c_j1);
   w2c_j0 = w2c_l6;
   w2c_i0 = (u32)(w2c_j0);
   w2c_j1 = 0ull;
-  i64_store(memory, (u64)(w2c_i0) + 16, w2c_j1);
+  step_i64_store(memory, (u64)(w2c_i0) + 16, w2c_j1);
   w2c_j0 = w2c_l6;
   w2c_i0 = (u32)(w2c_j0);
   w2c_j1 = 0ull;
-  i64_store(memory, (u64)(w2c_i0) + 8, w2c_j1);
+  step_i64_store(memory, (u64)(w2c_i0) + 8, w2c_j1);
   w2c_j0 = w2c_p0;
   w2c_j1 = w2c_p1;
   w2c_j2 = w2c_p4;
@@ -5927,7 +8218,7 @@ static u32 w2c_f16(struct instance *instance, u64 w2c_p0, u64 w2c_p1, u64 w2c_p2
   w2c_j5 = 8ull;
   w2c_j4 += w2c_j5;
   w2c_j5 = w2c_p3;
-  w2c_i0 = w2c_f18(instance, w2c_j0, w2c_j1, w2c_j2, w2c_j3, w2c_j4, w2c_j5);
+  w2c_i0 = w2c_f29(instance, w2c_j0, w2c_j1, w2c_j2, w2c_j3, w2c_j4, w2c_j5);
   if (w2c_i0) {goto w2c_B1;}
   w2c_j0 = w2c_l6;
   w2c_i0 = (u32)(w2c_j0);
@@ -5984,11 +8275,11 @@ static u32 w2c_f16(struct instance *instance, u64 w2c_p0, u64 w2c_p1, u64 w2c_p2
   w2c_j0 += w2c_j1;
   w2c_j1 = w2c_p3;
   w2c_j2 = w2c_p2;
-  w2c_i0 = w2c_f17(instance, w2c_j0, w2c_j1, w2c_j2);
+  w2c_i0 = w2c_f28(instance, w2c_j0, w2c_j1, w2c_j2);
   w2c_l8 = w2c_i0;
   w2c_B1:;
   w2c_j0 = w2c_l6;
-  w2c_j1 = 592ull;
+  w2c_j1 = 80ull;
   w2c_j0 += w2c_j1;
   instance->w2c_g0 = w2c_j0;
   w2c_i0 = w2c_l8;
@@ -5998,7 +8289,207 @@ static u32 w2c_f16(struct instance *instance, u64 w2c_p0, u64 w2c_p1, u64 w2c_p2
   w2c_Bfunc:;
   return w2c_i0;
 }
-static u32 w2c_f17(struct instance *instance, u64 w2c_p0, u64 w2c_p1, u64 w2c_p2) {
+static u32 w2c_f27(struct instance *instance, u64 w2c_p0, u64 w2c_p1, u64 w2c_p2, u64 w2c_p3, u64 w2c_p4, u64 w2c_p5) {
+  u32 w2c_l8 = 0;
+  u64 w2c_l6 = 0, w2c_l7 = 0;
+  const struct memory memory = instance->w2c_memory;
+  (void)memory;
+  u32 w2c_i0, w2c_i1, w2c_i2;
+  u64 w2c_j0, w2c_j1, w2c_j2, w2c_j3, w2c_j4;
+  w2c_j0 = instance->w2c_g0;
+  w2c_j1 = 304ull;
+  w2c_j0 -= w2c_j1;
+  w2c_l6 = w2c_j0;
+  instance->w2c_g0 = w2c_j0;
+  w2c_j0 = w2c_l6;
+  w2c_l7 = w2c_j0;
+  w2c_j1 = 16ull;
+  w2c_i0 = (u64)((s64)w2c_j0 < (s64)w2c_j1);
+  if (w2c_i0) {goto w2c_B0;}
+  w2c_j0 = w2c_l7;
+  w2c_j1 = 8ull;
+  w2c_j0 += w2c_j1;
+  w2c_i0 = (u32)(w2c_j0);
+  w2c_i1 = 0u;
+  w2c_j2 = 240ull;
+  w2c_i2 = (u32)(w2c_j2);
+  memory_fill(memory, w2c_i0, w2c_i1, w2c_i2);
+  w2c_j0 = w2c_l7;
+  w2c_i0 = (u32)(w2c_j0);
+  w2c_j1 = 0ull;
+  step_i64_store(memory, (u64)(w2c_i0) + 264, w2c_j1);
+  w2c_j0 = w2c_l7;
+  w2c_i0 = (u32)(w2c_j0);
+  w2c_j1 = 0ull;
+  step_i64_store(memory, (u64)(w2c_i0) + 272, w2c_j1);
+  w2c_j0 = w2c_l7;
+  w2c_i0 = (u32)(w2c_j0);
+  w2c_j1 = 0ull;
+  step_i64_store(memory, (u64)(w2c_i0) + 280, w2c_j1);
+  w2c_j0 = w2c_l7;
+  w2c_j1 = 264ull;
+  w2c_j0 += w2c_j1;
+  w2c_j1 = w2c_p0;
+  w2c_j2 = w2c_p1;
+  w2c_j3 = w2c_l7;
+  w2c_j4 = 8ull;
+  w2c_j3 += w2c_j4;
+  w2c_f10(instance, w2c_j0, w2c_j1, w2c_j2, w2c_j3);
+  w2c_i0 = 3u;
+  w2c_l8 = w2c_i0;
+  w2c_j0 = w2c_l7;
+  w2c_i0 = (u32)(w2c_j0);
+  w2c_i0 = i32_load8_u(memory, (u64)(w2c_i0) + 264u);
+  w2c_i1 = 1u;
+  w2c_i0 = w2c_i0 != w2c_i1;
+  if (w2c_i0) {goto w2c_B1;}
+  w2c_j0 = w2c_l7;
+  w2c_i0 = (u32)(w2c_j0);
+  w2c_j1 = w2c_l7;
+  w2c_i1 = (u32)(w2c_j1);
+  w2c_j1 = step_i64_load(memory, (u64)(w2c_i1) + 280u);
+  step_i64_store(memory, (u64)(w2c_i0) + 296, w2c_j1);
+  w2c_j0 = w2c_l7;
+  w2c_i0 = (u32)(w2c_j0);
+  w2c_j1 = w2c_l7;
+  w2c_i1 = (u32)(w2c_j1);
+  w2c_j1 = step_i64_load(memory, (u64)(w2c_i1) + 272u);
+  step_i64_store(memory, (u64)(w2c_i0) + 288, w2c_j1);
+  w2c_j0 = w2c_l7;
+  w2c_i0 = (u32)(w2c_j0);
+  w2c_j1 = 0ull;
+  step_i64_store(memory, (u64)(w2c_i0) + 256, w2c_j1);
+  w2c_j0 = w2c_l7;
+  w2c_i0 = (u32)(w2c_j0);
+  w2c_j1 = w2c_l7;
+  w2c_j2 = 288ull;
+  w2c_j1 += w2c_j2;
+  step_i64_store(memory, (u64)(w2c_i0) + 248, w2c_j1);
+  w2c_i0 = 4u;
+  w2c_l8 = w2c_i0;
+  w2c_j0 = w2c_p3;
+  w2c_j1 = 7ull;
+  w2c_j0 &= w2c_j1;
+  w2c_j1 = 0ull;
+  w2c_i0 = w2c_j0 != w2c_j1;
+  if (w2c_i0) {goto w2c_B1;}
+  w2c_j0 = w2c_p3;
+  w2c_j1 = 18446744073709551600ull;
+  w2c_j0 += w2c_j1;
+  w2c_j1 = 1048560ull;
+  w2c_i0 = w2c_j0 > w2c_j1;
+  if (w2c_i0) {goto w2c_B1;}
+  w2c_j0 = w2c_p5;
+  w2c_j1 = w2c_p3;
+  w2c_j2 = 8ull;
+  w2c_j1 += w2c_j2;
+  w2c_i0 = w2c_j0 != w2c_j1;
+  if (w2c_i0) {goto w2c_B1;}
+  w2c_j0 = w2c_p4;
+  w2c_j1 = 8ull;
+  w2c_j0 += w2c_j1;
+  w2c_l6 = w2c_j0;
+  w2c_j1 = w2c_p2;
+  w2c_j0 -= w2c_j1;
+  w2c_j1 = w2c_p3;
+  w2c_i0 = w2c_j0 >= w2c_j1;
+  if (w2c_i0) {goto w2c_B3;}
+  w2c_j0 = 0ull;
+  w2c_l6 = w2c_j0;
+  w2c_L4: 
+    w2c_j0 = w2c_p4;
+    w2c_j1 = w2c_l6;
+    w2c_j0 += w2c_j1;
+    w2c_p1 = w2c_j0;
+    w2c_j1 = 8ull;
+    w2c_j0 += w2c_j1;
+    w2c_i0 = (u32)(w2c_j0);
+    w2c_j1 = w2c_p2;
+    w2c_j2 = w2c_l6;
+    w2c_j1 += w2c_j2;
+    w2c_p0 = w2c_j1;
+    w2c_i1 = (u32)(w2c_j1);
+    w2c_i1 = i32_load8_u(memory, (u64)(w2c_i1));
+    i32_store8(memory, (u64)(w2c_i0), w2c_i1);
+    w2c_j0 = w2c_p1;
+    w2c_j1 = 9ull;
+    w2c_j0 += w2c_j1;
+    w2c_i0 = (u32)(w2c_j0);
+    w2c_j1 = w2c_p0;
+    w2c_j2 = 1ull;
+    w2c_j1 += w2c_j2;
+    w2c_i1 = (u32)(w2c_j1);
+    w2c_i1 = i32_load8_u(memory, (u64)(w2c_i1));
+    i32_store8(memory, (u64)(w2c_i0), w2c_i1);
+    w2c_j0 = w2c_p1;
+    w2c_j1 = 10ull;
+    w2c_j0 += w2c_j1;
+    w2c_i0 = (u32)(w2c_j0);
+    w2c_j1 = w2c_p0;
+    w2c_j2 = 2ull;
+    w2c_j1 += w2c_j2;
+    w2c_i1 = (u32)(w2c_j1);
+    w2c_i1 = i32_load8_u(memory, (u64)(w2c_i1));
+    i32_store8(memory, (u64)(w2c_i0), w2c_i1);
+    w2c_j0 = w2c_p1;
+    w2c_j1 = 11ull;
+    w2c_j0 += w2c_j1;
+    w2c_i0 = (u32)(w2c_j0);
+    w2c_j1 = w2c_p0;
+    w2c_j2 = 3ull;
+    w2c_j1 += w2c_j2;
+    w2c_i1 = (u32)(w2c_j1);
+    w2c_i1 = i32_load8_u(memory, (u64)(w2c_i1));
+    i32_store8(memory, (u64)(w2c_i0), w2c_i1);
+    w2c_j0 = w2c_p3;
+    w2c_j1 = w2c_l6;
+    w2c_j2 = 4ull;
+    w2c_j1 += w2c_j2;
+    w2c_l6 = w2c_j1;
+    w2c_i0 = w2c_j0 != w2c_j1;
+    if (w2c_i0) {goto w2c_L4;}
+    goto w2c_B2;
+  UNREACHABLE;
+  w2c_B3:;
+  w2c_j0 = w2c_p3;
+  w2c_i0 = !(w2c_j0);
+  if (w2c_i0) {goto w2c_B2;}
+  w2c_j0 = w2c_l6;
+  w2c_i0 = (u32)(w2c_j0);
+  w2c_j1 = w2c_p2;
+  w2c_i1 = (u32)(w2c_j1);
+  w2c_j2 = w2c_p3;
+  w2c_i2 = (u32)(w2c_j2);
+  memory_copy(memory, memory, w2c_i0, w2c_i1, w2c_i2);
+  w2c_B2:;
+  w2c_j0 = w2c_l7;
+  w2c_j1 = 248ull;
+  w2c_j0 += w2c_j1;
+  w2c_j1 = 12008468691120727718ull;
+  w2c_j2 = w2c_p4;
+  w2c_j3 = w2c_p5;
+  w2c_f20(instance, w2c_j0, w2c_j1, w2c_j2, w2c_j3);
+  w2c_i0 = 0u;
+  w2c_l8 = w2c_i0;
+  w2c_B1:;
+  w2c_j0 = w2c_l7;
+  w2c_j1 = 8ull;
+  w2c_j0 += w2c_j1;
+  leaf_clear(memory, w2c_j0);
+  w2c_j0 = w2c_l7;
+  w2c_j1 = 304ull;
+  w2c_j0 += w2c_j1;
+  instance->w2c_g0 = w2c_j0;
+  w2c_i0 = w2c_l8;
+  goto w2c_Bfunc;
+  w2c_B0:;
+  UNREACHABLE;
+  w2c_Bfunc:;
+  return w2c_i0;
+}
+#endif
+#ifndef KEYWRAP_STEPS_ONLY
+static u32 w2c_f28(struct instance *instance, u64 w2c_p0, u64 w2c_p1, u64 w2c_p2) {
   u32 w2c_l10 = 0;
   u64 w2c_l3 = 0, w2c_l4 = 0, w2c_l5 = 0, w2c_l6 = 0, w2c_l7 = 0, w2c_l8 = 0, w2c_l9 = 0;
   const struct memory memory = instance->w2c_memory;
@@ -7948,7 +10439,8428 @@ static u32 w2c_f17(struct instance *instance, u64 w2c_p0, u64 w2c_p1, u64 w2c_p2
   w2c_i0 &= w2c_i1;
   return w2c_i0;
 }
-static u32 w2c_f18(struct instance *instance, u64 w2c_p0, u64 w2c_p1, u64 w2c_p2, u64 w2c_p3, u64 w2c_p4, u64 w2c_p5) {
+#endif
+#ifdef WITH_AES
+static u32 w2c_f29(struct instance *instance, u64 w2c_p0, u64 w2c_p1, u64 w2c_p2, u64 w2c_p3, u64 w2c_p4, u64 w2c_p5) {
+  u32 w2c_l9 = 0;
+  u64 w2c_l6 = 0, w2c_l7 = 0, w2c_l8 = 0;
+  const struct memory memory = instance->w2c_memory;
+  (void)memory;
+  u32 w2c_i0, w2c_i1, w2c_i2, w2c_i3;
+  u64 w2c_j0, w2c_j1, w2c_j2, w2c_j3, w2c_j4, w2c_j5, w2c_j6;
+  w2c_j0 = instance->w2c_g0;
+  w2c_j1 = 304ull;
+  w2c_j0 -= w2c_j1;
+  w2c_l6 = w2c_j0;
+  instance->w2c_g0 = w2c_j0;
+  w2c_j0 = w2c_l6;
+  w2c_l6 = w2c_j0;
+  w2c_j1 = 16ull;
+  w2c_i0 = (u64)((s64)w2c_j0 < (s64)w2c_j1);
+  if (w2c_i0) {goto w2c_B0;}
+  w2c_j0 = w2c_l6;
+  w2c_j1 = 8ull;
+  w2c_j0 += w2c_j1;
+  w2c_i0 = (u32)(w2c_j0);
+  w2c_i1 = 0u;
+  w2c_j2 = 240ull;
+  w2c_i2 = (u32)(w2c_j2);
+  memory_fill(memory, w2c_i0, w2c_i1, w2c_i2);
+  w2c_j0 = w2c_l6;
+  w2c_i0 = (u32)(w2c_j0);
+  w2c_j1 = 0ull;
+  step_i64_store(memory, (u64)(w2c_i0) + 264, w2c_j1);
+  w2c_j0 = w2c_l6;
+  w2c_i0 = (u32)(w2c_j0);
+  w2c_j1 = 0ull;
+  step_i64_store(memory, (u64)(w2c_i0) + 272, w2c_j1);
+  w2c_j0 = w2c_l6;
+  w2c_i0 = (u32)(w2c_j0);
+  w2c_j1 = 0ull;
+  step_i64_store(memory, (u64)(w2c_i0) + 280, w2c_j1);
+  w2c_j0 = w2c_l6;
+  w2c_j1 = 264ull;
+  w2c_j0 += w2c_j1;
+  w2c_j1 = w2c_p0;
+  w2c_j2 = w2c_p1;
+  w2c_j3 = w2c_l6;
+  w2c_j4 = 8ull;
+  w2c_j3 += w2c_j4;
+  w2c_f10(instance, w2c_j0, w2c_j1, w2c_j2, w2c_j3);
+  w2c_i0 = 3u;
+  w2c_l9 = w2c_i0;
+  w2c_j0 = w2c_l6;
+  w2c_i0 = (u32)(w2c_j0);
+  w2c_i0 = i32_load8_u(memory, (u64)(w2c_i0) + 264u);
+  w2c_i1 = 1u;
+  w2c_i0 = w2c_i0 != w2c_i1;
+  if (w2c_i0) {goto w2c_B1;}
+  w2c_j0 = w2c_l6;
+  w2c_i0 = (u32)(w2c_j0);
+  w2c_j1 = w2c_l6;
+  w2c_i1 = (u32)(w2c_j1);
+  w2c_j1 = step_i64_load(memory, (u64)(w2c_i1) + 280u);
+  step_i64_store(memory, (u64)(w2c_i0) + 296, w2c_j1);
+  w2c_j0 = w2c_l6;
+  w2c_i0 = (u32)(w2c_j0);
+  w2c_j1 = w2c_l6;
+  w2c_i1 = (u32)(w2c_j1);
+  w2c_j1 = step_i64_load(memory, (u64)(w2c_i1) + 272u);
+  step_i64_store(memory, (u64)(w2c_i0) + 288, w2c_j1);
+  w2c_j0 = w2c_l6;
+  w2c_i0 = (u32)(w2c_j0);
+  w2c_j1 = 0ull;
+  step_i64_store(memory, (u64)(w2c_i0) + 256, w2c_j1);
+  w2c_j0 = w2c_l6;
+  w2c_i0 = (u32)(w2c_j0);
+  w2c_j1 = w2c_l6;
+  w2c_j2 = 288ull;
+  w2c_j1 += w2c_j2;
+  step_i64_store(memory, (u64)(w2c_i0) + 248, w2c_j1);
+  w2c_i0 = 4u;
+  w2c_l9 = w2c_i0;
+  w2c_j0 = w2c_p3;
+  w2c_j1 = 7ull;
+  w2c_j0 &= w2c_j1;
+  w2c_j1 = 0ull;
+  w2c_i0 = w2c_j0 != w2c_j1;
+  if (w2c_i0) {goto w2c_B1;}
+  w2c_j0 = w2c_p3;
+  w2c_j1 = 18446744073709551592ull;
+  w2c_j0 += w2c_j1;
+  w2c_j1 = 1048560ull;
+  w2c_i0 = w2c_j0 > w2c_j1;
+  if (w2c_i0) {goto w2c_B1;}
+  w2c_j0 = w2c_p5;
+  w2c_j1 = w2c_p3;
+  w2c_j2 = 18446744073709551608ull;
+  w2c_j1 += w2c_j2;
+  w2c_i0 = w2c_j0 != w2c_j1;
+  if (w2c_i0) {goto w2c_B1;}
+  w2c_j0 = w2c_p4;
+  w2c_j1 = w2c_p2;
+  w2c_j2 = 8ull;
+  w2c_j1 += w2c_j2;
+  w2c_p3 = w2c_j1;
+  w2c_j0 -= w2c_j1;
+  w2c_j1 = w2c_p5;
+  w2c_i0 = w2c_j0 >= w2c_j1;
+  if (w2c_i0) {goto w2c_B3;}
+  w2c_j0 = w2c_p5;
+  w2c_j1 = 3ull;
+  w2c_j0 &= w2c_j1;
+  w2c_l7 = w2c_j0;
+  w2c_j0 = 0ull;
+  w2c_p1 = w2c_j0;
+  w2c_j0 = w2c_p5;
+  w2c_j1 = 4ull;
+  w2c_i0 = w2c_j0 < w2c_j1;
+  if (w2c_i0) {goto w2c_B4;}
+  w2c_j0 = w2c_p5;
+  w2c_j1 = 18446744073709551612ull;
+  w2c_j0 &= w2c_j1;
+  w2c_l8 = w2c_j0;
+  w2c_j0 = 0ull;
+  w2c_p1 = w2c_j0;
+  w2c_L5: 
+    w2c_j0 = w2c_p4;
+    w2c_j1 = w2c_p1;
+    w2c_j0 += w2c_j1;
+    w2c_p3 = w2c_j0;
+    w2c_i0 = (u32)(w2c_j0);
+    w2c_j1 = w2c_p2;
+    w2c_j2 = w2c_p1;
+    w2c_j1 += w2c_j2;
+    w2c_p0 = w2c_j1;
+    w2c_j2 = 8ull;
+    w2c_j1 += w2c_j2;
+    w2c_i1 = (u32)(w2c_j1);
+    w2c_i1 = i32_load8_u(memory, (u64)(w2c_i1));
+    i32_store8(memory, (u64)(w2c_i0), w2c_i1);
+    w2c_j0 = w2c_p3;
+    w2c_j1 = 1ull;
+    w2c_j0 += w2c_j1;
+    w2c_i0 = (u32)(w2c_j0);
+    w2c_j1 = w2c_p0;
+    w2c_j2 = 9ull;
+    w2c_j1 += w2c_j2;
+    w2c_i1 = (u32)(w2c_j1);
+    w2c_i1 = i32_load8_u(memory, (u64)(w2c_i1));
+    i32_store8(memory, (u64)(w2c_i0), w2c_i1);
+    w2c_j0 = w2c_p3;
+    w2c_j1 = 2ull;
+    w2c_j0 += w2c_j1;
+    w2c_i0 = (u32)(w2c_j0);
+    w2c_j1 = w2c_p0;
+    w2c_j2 = 10ull;
+    w2c_j1 += w2c_j2;
+    w2c_i1 = (u32)(w2c_j1);
+    w2c_i1 = i32_load8_u(memory, (u64)(w2c_i1));
+    i32_store8(memory, (u64)(w2c_i0), w2c_i1);
+    w2c_j0 = w2c_p3;
+    w2c_j1 = 3ull;
+    w2c_j0 += w2c_j1;
+    w2c_i0 = (u32)(w2c_j0);
+    w2c_j1 = w2c_p0;
+    w2c_j2 = 11ull;
+    w2c_j1 += w2c_j2;
+    w2c_i1 = (u32)(w2c_j1);
+    w2c_i1 = i32_load8_u(memory, (u64)(w2c_i1));
+    i32_store8(memory, (u64)(w2c_i0), w2c_i1);
+    w2c_j0 = w2c_l8;
+    w2c_j1 = w2c_p1;
+    w2c_j2 = 4ull;
+    w2c_j1 += w2c_j2;
+    w2c_p1 = w2c_j1;
+    w2c_i0 = w2c_j0 != w2c_j1;
+    if (w2c_i0) {goto w2c_L5;}
+  w2c_j0 = w2c_l7;
+  w2c_i0 = !(w2c_j0);
+  if (w2c_i0) {goto w2c_B2;}
+  w2c_B4:;
+  w2c_j0 = w2c_p4;
+  w2c_j1 = w2c_p1;
+  w2c_j0 += w2c_j1;
+  w2c_p3 = w2c_j0;
+  w2c_j0 = w2c_p1;
+  w2c_j1 = w2c_p2;
+  w2c_j0 += w2c_j1;
+  w2c_j1 = 8ull;
+  w2c_j0 += w2c_j1;
+  w2c_p1 = w2c_j0;
+  w2c_L6: 
+    w2c_j0 = w2c_p3;
+    w2c_i0 = (u32)(w2c_j0);
+    w2c_j1 = w2c_p1;
+    w2c_i1 = (u32)(w2c_j1);
+    w2c_i1 = i32_load8_u(memory, (u64)(w2c_i1));
+    i32_store8(memory, (u64)(w2c_i0), w2c_i1);
+    w2c_j0 = w2c_p3;
+    w2c_j1 = 1ull;
+    w2c_j0 += w2c_j1;
+    w2c_p3 = w2c_j0;
+    w2c_j0 = w2c_p1;
+    w2c_j1 = 1ull;
+    w2c_j0 += w2c_j1;
+    w2c_p1 = w2c_j0;
+    w2c_j0 = w2c_l7;
+    w2c_j1 = 18446744073709551615ull;
+    w2c_j0 += w2c_j1;
+    w2c_l7 = w2c_j0;
+    w2c_j1 = 0ull;
+    w2c_i0 = w2c_j0 != w2c_j1;
+    if (w2c_i0) {goto w2c_L6;}
+    goto w2c_B2;
+  UNREACHABLE;
+  w2c_B3:;
+  w2c_j0 = w2c_p5;
+  w2c_i0 = !(w2c_j0);
+  if (w2c_i0) {goto w2c_B2;}
+  w2c_j0 = w2c_p4;
+  w2c_i0 = (u32)(w2c_j0);
+  w2c_j1 = w2c_p3;
+  w2c_i1 = (u32)(w2c_j1);
+  w2c_j2 = w2c_p5;
+  w2c_i2 = (u32)(w2c_j2);
+  memory_copy(memory, memory, w2c_i0, w2c_i1, w2c_i2);
+  w2c_B2:;
+  w2c_j0 = w2c_l6;
+  w2c_j1 = w2c_l6;
+  w2c_j2 = 248ull;
+  w2c_j1 += w2c_j2;
+  w2c_j2 = w2c_p2;
+  w2c_i2 = (u32)(w2c_j2);
+  w2c_j2 = step_i64_load(memory, (u64)(w2c_i2));
+  w2c_p3 = w2c_j2;
+  w2c_j3 = 56ull;
+  w2c_j2 <<= (w2c_j3 & 63);
+  w2c_j3 = w2c_p3;
+  w2c_j4 = 65280ull;
+  w2c_j3 &= w2c_j4;
+  w2c_j4 = 40ull;
+  w2c_j3 <<= (w2c_j4 & 63);
+  w2c_j2 |= w2c_j3;
+  w2c_j3 = w2c_p3;
+  w2c_j4 = 16711680ull;
+  w2c_j3 &= w2c_j4;
+  w2c_j4 = 24ull;
+  w2c_j3 <<= (w2c_j4 & 63);
+  w2c_j4 = w2c_p3;
+  w2c_j5 = 4278190080ull;
+  w2c_j4 &= w2c_j5;
+  w2c_j5 = 8ull;
+  w2c_j4 <<= (w2c_j5 & 63);
+  w2c_j3 |= w2c_j4;
+  w2c_j2 |= w2c_j3;
+  w2c_j3 = w2c_p3;
+  w2c_j4 = 8ull;
+  w2c_j3 >>= (w2c_j4 & 63);
+  w2c_j4 = 4278190080ull;
+  w2c_j3 &= w2c_j4;
+  w2c_j4 = w2c_p3;
+  w2c_j5 = 24ull;
+  w2c_j4 >>= (w2c_j5 & 63);
+  w2c_j5 = 16711680ull;
+  w2c_j4 &= w2c_j5;
+  w2c_j3 |= w2c_j4;
+  w2c_j4 = w2c_p3;
+  w2c_j5 = 40ull;
+  w2c_j4 >>= (w2c_j5 & 63);
+  w2c_j5 = 65280ull;
+  w2c_j4 &= w2c_j5;
+  w2c_j5 = w2c_p3;
+  w2c_j6 = 56ull;
+  w2c_j5 >>= (w2c_j6 & 63);
+  w2c_j4 |= w2c_j5;
+  w2c_j3 |= w2c_j4;
+  w2c_j2 |= w2c_j3;
+  w2c_j3 = w2c_p4;
+  w2c_j4 = w2c_p5;
+  w2c_j1 = w2c_f12(instance, w2c_j1, w2c_j2, w2c_j3, w2c_j4);
+  w2c_j2 = 12008468691120727718ull;
+  w2c_j1 ^= w2c_j2;
+  w2c_j2 = w2c_p4;
+  w2c_j3 = w2c_p5;
+  w2c_f13(instance, w2c_j0, w2c_j1, w2c_j2, w2c_j3);
+  w2c_i0 = 5u;
+  w2c_i1 = 4u;
+  w2c_j2 = w2c_l6;
+  w2c_i2 = (u32)(w2c_j2);
+  w2c_i2 = i32_load8_u(memory, (u64)(w2c_i2) + 1u);
+  w2c_i3 = 255u;
+  w2c_i2 &= w2c_i3;
+  w2c_i0 = w2c_i2 ? w2c_i0 : w2c_i1;
+  w2c_i1 = 0u;
+  w2c_j2 = w2c_l6;
+  w2c_i2 = (u32)(w2c_j2);
+  w2c_i2 = i32_load8_u(memory, (u64)(w2c_i2));
+  w2c_i3 = 1u;
+  w2c_i2 &= w2c_i3;
+  w2c_i0 = w2c_i2 ? w2c_i0 : w2c_i1;
+  w2c_l9 = w2c_i0;
+  w2c_B1:;
+  w2c_j0 = w2c_l6;
+  w2c_j1 = 8ull;
+  w2c_j0 += w2c_j1;
+  leaf_clear(memory, w2c_j0);
+  w2c_j0 = w2c_l6;
+  w2c_j1 = 304ull;
+  w2c_j0 += w2c_j1;
+  instance->w2c_g0 = w2c_j0;
+  w2c_i0 = w2c_l9;
+  goto w2c_Bfunc;
+  w2c_B0:;
+  UNREACHABLE;
+  w2c_Bfunc:;
+  return w2c_i0;
+}
+static u32 w2c_f30(struct instance *instance, u64 w2c_p0, u64 w2c_p1, u64 w2c_p2, u64 w2c_p3) {
+  u32 w2c_l7 = 0, w2c_l8 = 0;
+  u64 w2c_l4 = 0, w2c_l5 = 0, w2c_l6 = 0;
+  const struct memory memory = instance->w2c_memory;
+  (void)memory;
+  u32 w2c_i0, w2c_i1, w2c_i2;
+  u64 w2c_j0, w2c_j1, w2c_j2, w2c_j3, w2c_j4, w2c_j5, w2c_j6;
+  w2c_j0 = instance->w2c_g0;
+  w2c_j1 = 80ull;
+  w2c_j0 -= w2c_j1;
+  w2c_l4 = w2c_j0;
+  instance->w2c_g0 = w2c_j0;
+  w2c_j0 = w2c_l4;
+  w2c_l4 = w2c_j0;
+  w2c_j1 = 16ull;
+  w2c_i0 = (u64)((s64)w2c_j0 < (s64)w2c_j1);
+  if (w2c_i0) {goto w2c_B0;}
+  w2c_j0 = w2c_l4;
+  w2c_i0 = (u32)(w2c_j0);
+  w2c_j1 = 0ull;
+  step_i64_store(memory, (u64)(w2c_i0) + 72, w2c_j1);
+  w2c_j0 = w2c_l4;
+  w2c_i0 = (u32)(w2c_j0);
+  w2c_j1 = 0ull;
+  step_i64_store(memory, (u64)(w2c_i0) + 64, w2c_j1);
+  w2c_j0 = w2c_l4;
+  w2c_i0 = (u32)(w2c_j0);
+  w2c_j1 = 0ull;
+  step_i64_store(memory, (u64)(w2c_i0) + 56, w2c_j1);
+  w2c_j0 = w2c_l4;
+  w2c_i0 = (u32)(w2c_j0);
+  w2c_j1 = 0ull;
+  step_i64_store(memory, (u64)(w2c_i0) + 48, w2c_j1);
+  w2c_j0 = w2c_l4;
+  w2c_i0 = (u32)(w2c_j0);
+  w2c_j1 = 0ull;
+  step_i64_store(memory, (u64)(w2c_i0) + 40, w2c_j1);
+  w2c_i0 = 0u;
+  w2c_l7 = w2c_i0;
+  w2c_j0 = 65896ull;
+  w2c_j1 = 24ull;
+  w2c_j2 = w2c_p0;
+  w2c_j3 = w2c_p1;
+  w2c_j4 = w2c_l4;
+  w2c_j5 = 40ull;
+  w2c_j4 += w2c_j5;
+  w2c_j5 = w2c_p1;
+  w2c_j6 = 7ull;
+  w2c_j5 += w2c_j6;
+  w2c_j6 = 56ull;
+  w2c_j5 &= w2c_j6;
+  w2c_l5 = w2c_j5;
+  w2c_j6 = 8ull;
+  w2c_j5 += w2c_j6;
+  w2c_l6 = w2c_j5;
+  w2c_i0 = w2c_f31(instance, w2c_j0, w2c_j1, w2c_j2, w2c_j3, w2c_j4, w2c_j5);
+  w2c_l8 = w2c_i0;
+  w2c_j0 = w2c_l6;
+  w2c_j1 = w2c_p3;
+  w2c_i0 = w2c_j0 != w2c_j1;
+  if (w2c_i0) {goto w2c_B1;}
+  w2c_i0 = w2c_l8;
+  if (w2c_i0) {goto w2c_B1;}
+  w2c_j0 = w2c_l4;
+  w2c_i0 = (u32)(w2c_j0);
+  w2c_i0 = i32_load8_u(memory, (u64)(w2c_i0) + 40u);
+  w2c_j1 = w2c_p2;
+  w2c_i1 = (u32)(w2c_j1);
+  w2c_i1 = i32_load8_u(memory, (u64)(w2c_i1));
+  w2c_i0 = w2c_i0 != w2c_i1;
+  if (w2c_i0) {goto w2c_B1;}
+  w2c_j0 = w2c_l4;
+  w2c_i0 = (u32)(w2c_j0);
+  w2c_i0 = i32_load8_u(memory, (u64)(w2c_i0) + 41u);
+  w2c_i1 = 255u;
+  w2c_i0 &= w2c_i1;
+  w2c_j1 = w2c_p2;
+  w2c_j2 = 1ull;
+  w2c_j1 += w2c_j2;
+  w2c_i1 = (u32)(w2c_j1);
+  w2c_i1 = i32_load8_u(memory, (u64)(w2c_i1));
+  w2c_i2 = 255u;
+  w2c_i1 &= w2c_i2;
+  w2c_i0 = w2c_i0 != w2c_i1;
+  if (w2c_i0) {goto w2c_B1;}
+  w2c_j0 = w2c_l4;
+  w2c_i0 = (u32)(w2c_j0);
+  w2c_i0 = i32_load8_u(memory, (u64)(w2c_i0) + 42u);
+  w2c_i1 = 255u;
+  w2c_i0 &= w2c_i1;
+  w2c_j1 = w2c_p2;
+  w2c_j2 = 2ull;
+  w2c_j1 += w2c_j2;
+  w2c_i1 = (u32)(w2c_j1);
+  w2c_i1 = i32_load8_u(memory, (u64)(w2c_i1));
+  w2c_i2 = 255u;
+  w2c_i1 &= w2c_i2;
+  w2c_i0 = w2c_i0 != w2c_i1;
+  if (w2c_i0) {goto w2c_B1;}
+  w2c_j0 = w2c_l4;
+  w2c_i0 = (u32)(w2c_j0);
+  w2c_i0 = i32_load8_u(memory, (u64)(w2c_i0) + 43u);
+  w2c_i1 = 255u;
+  w2c_i0 &= w2c_i1;
+  w2c_j1 = w2c_p2;
+  w2c_j2 = 3ull;
+  w2c_j1 += w2c_j2;
+  w2c_i1 = (u32)(w2c_j1);
+  w2c_i1 = i32_load8_u(memory, (u64)(w2c_i1));
+  w2c_i2 = 255u;
+  w2c_i1 &= w2c_i2;
+  w2c_i0 = w2c_i0 != w2c_i1;
+  if (w2c_i0) {goto w2c_B1;}
+  w2c_j0 = w2c_l4;
+  w2c_j1 = 40ull;
+  w2c_j0 += w2c_j1;
+  w2c_j1 = w2c_p3;
+  w2c_j2 = w2c_p2;
+  w2c_i0 = w2c_f28(instance, w2c_j0, w2c_j1, w2c_j2);
+  w2c_i0 = !(w2c_i0);
+  if (w2c_i0) {goto w2c_B1;}
+  w2c_j0 = w2c_l4;
+  w2c_i0 = (u32)(w2c_j0);
+  w2c_j1 = 0ull;
+  step_i64_store(memory, (u64)(w2c_i0) + 32, w2c_j1);
+  w2c_j0 = w2c_l4;
+  w2c_i0 = (u32)(w2c_j0);
+  w2c_j1 = 0ull;
+  step_i64_store(memory, (u64)(w2c_i0) + 24, w2c_j1);
+  w2c_j0 = w2c_l4;
+  w2c_i0 = (u32)(w2c_j0);
+  w2c_j1 = 0ull;
+  step_i64_store(memory, (u64)(w2c_i0) + 16, w2c_j1);
+  w2c_j0 = w2c_l4;
+  w2c_i0 = (u32)(w2c_j0);
+  w2c_j1 = 0ull;
+  step_i64_store(memory, (u64)(w2c_i0) + 8, w2c_j1);
+  w2c_j0 = w2c_l4;
+  w2c_i0 = (u32)(w2c_j0);
+  w2c_j1 = 0ull;
+  step_i64_store(memory, (u64)(w2c_i0), w2c_j1);
+  w2c_j0 = 65896ull;
+  w2c_j1 = 24ull;
+  w2c_j2 = w2c_p2;
+  w2c_j3 = w2c_p3;
+  w2c_j4 = w2c_l4;
+  w2c_j5 = 8ull;
+  w2c_j4 += w2c_j5;
+  w2c_j5 = w2c_l5;
+  w2c_j6 = w2c_l4;
+  w2c_i0 = w2c_f32(instance, w2c_j0, w2c_j1, w2c_j2, w2c_j3, w2c_j4, w2c_j5, w2c_j6);
+  if (w2c_i0) {goto w2c_B1;}
+  w2c_j0 = w2c_l4;
+  w2c_i0 = (u32)(w2c_j0);
+  w2c_j0 = step_i64_load(memory, (u64)(w2c_i0));
+  w2c_j1 = w2c_p1;
+  w2c_i0 = w2c_j0 != w2c_j1;
+  if (w2c_i0) {goto w2c_B1;}
+  w2c_j0 = w2c_l4;
+  w2c_i0 = (u32)(w2c_j0);
+  w2c_i0 = i32_load8_u(memory, (u64)(w2c_i0) + 8u);
+  w2c_j1 = w2c_p0;
+  w2c_i1 = (u32)(w2c_j1);
+  w2c_i1 = i32_load8_u(memory, (u64)(w2c_i1));
+  w2c_i0 = w2c_i0 != w2c_i1;
+  if (w2c_i0) {goto w2c_B1;}
+  w2c_j0 = w2c_l4;
+  w2c_i0 = (u32)(w2c_j0);
+  w2c_i0 = i32_load8_u(memory, (u64)(w2c_i0) + 9u);
+  w2c_i1 = 255u;
+  w2c_i0 &= w2c_i1;
+  w2c_j1 = w2c_p0;
+  w2c_j2 = 1ull;
+  w2c_j1 += w2c_j2;
+  w2c_i1 = (u32)(w2c_j1);
+  w2c_i1 = i32_load8_u(memory, (u64)(w2c_i1));
+  w2c_i2 = 255u;
+  w2c_i1 &= w2c_i2;
+  w2c_i0 = w2c_i0 != w2c_i1;
+  if (w2c_i0) {goto w2c_B1;}
+  w2c_j0 = w2c_l4;
+  w2c_i0 = (u32)(w2c_j0);
+  w2c_i0 = i32_load8_u(memory, (u64)(w2c_i0) + 10u);
+  w2c_i1 = 255u;
+  w2c_i0 &= w2c_i1;
+  w2c_j1 = w2c_p0;
+  w2c_j2 = 2ull;
+  w2c_j1 += w2c_j2;
+  w2c_i1 = (u32)(w2c_j1);
+  w2c_i1 = i32_load8_u(memory, (u64)(w2c_i1));
+  w2c_i2 = 255u;
+  w2c_i1 &= w2c_i2;
+  w2c_i0 = w2c_i0 != w2c_i1;
+  if (w2c_i0) {goto w2c_B1;}
+  w2c_j0 = w2c_l4;
+  w2c_i0 = (u32)(w2c_j0);
+  w2c_i0 = i32_load8_u(memory, (u64)(w2c_i0) + 11u);
+  w2c_i1 = 255u;
+  w2c_i0 &= w2c_i1;
+  w2c_j1 = w2c_p0;
+  w2c_j2 = 3ull;
+  w2c_j1 += w2c_j2;
+  w2c_i1 = (u32)(w2c_j1);
+  w2c_i1 = i32_load8_u(memory, (u64)(w2c_i1));
+  w2c_i2 = 255u;
+  w2c_i1 &= w2c_i2;
+  w2c_i0 = w2c_i0 != w2c_i1;
+  if (w2c_i0) {goto w2c_B1;}
+  w2c_j0 = w2c_l4;
+  w2c_j1 = 8ull;
+  w2c_j0 += w2c_j1;
+  w2c_j1 = w2c_p1;
+  w2c_j2 = w2c_p0;
+  w2c_i0 = w2c_f28(instance, w2c_j0, w2c_j1, w2c_j2);
+  w2c_l7 = w2c_i0;
+  w2c_B1:;
+  w2c_j0 = w2c_l4;
+  w2c_j1 = 80ull;
+  w2c_j0 += w2c_j1;
+  instance->w2c_g0 = w2c_j0;
+  w2c_i0 = w2c_l7;
+  goto w2c_Bfunc;
+  w2c_B0:;
+  UNREACHABLE;
+  w2c_Bfunc:;
+  return w2c_i0;
+}
+static u32 w2c_f31(struct instance *instance, u64 w2c_p0, u64 w2c_p1, u64 w2c_p2, u64 w2c_p3, u64 w2c_p4, u64 w2c_p5) {
+  u32 w2c_l10 = 0;
+  u64 w2c_l6 = 0, w2c_l7 = 0, w2c_l8 = 0, w2c_l9 = 0;
+  const struct memory memory = instance->w2c_memory;
+  (void)memory;
+  u32 w2c_i0, w2c_i1, w2c_i2;
+  u64 w2c_j0, w2c_j1, w2c_j2, w2c_j3, w2c_j4;
+  w2c_j0 = instance->w2c_g0;
+  w2c_j1 = 304ull;
+  w2c_j0 -= w2c_j1;
+  w2c_l6 = w2c_j0;
+  instance->w2c_g0 = w2c_j0;
+  w2c_j0 = w2c_l6;
+  w2c_l6 = w2c_j0;
+  w2c_j1 = 16ull;
+  w2c_i0 = (u64)((s64)w2c_j0 < (s64)w2c_j1);
+  if (w2c_i0) {goto w2c_B0;}
+  w2c_j0 = w2c_l6;
+  w2c_j1 = 8ull;
+  w2c_j0 += w2c_j1;
+  w2c_i0 = (u32)(w2c_j0);
+  w2c_i1 = 0u;
+  w2c_j2 = 240ull;
+  w2c_i2 = (u32)(w2c_j2);
+  memory_fill(memory, w2c_i0, w2c_i1, w2c_i2);
+  w2c_j0 = w2c_l6;
+  w2c_i0 = (u32)(w2c_j0);
+  w2c_j1 = 0ull;
+  step_i64_store(memory, (u64)(w2c_i0) + 264, w2c_j1);
+  w2c_j0 = w2c_l6;
+  w2c_i0 = (u32)(w2c_j0);
+  w2c_j1 = 0ull;
+  step_i64_store(memory, (u64)(w2c_i0) + 272, w2c_j1);
+  w2c_j0 = w2c_l6;
+  w2c_i0 = (u32)(w2c_j0);
+  w2c_j1 = 0ull;
+  step_i64_store(memory, (u64)(w2c_i0) + 280, w2c_j1);
+  w2c_j0 = w2c_l6;
+  w2c_j1 = 264ull;
+  w2c_j0 += w2c_j1;
+  w2c_j1 = w2c_p0;
+  w2c_j2 = w2c_p1;
+  w2c_j3 = w2c_l6;
+  w2c_j4 = 8ull;
+  w2c_j3 += w2c_j4;
+  w2c_f10(instance, w2c_j0, w2c_j1, w2c_j2, w2c_j3);
+  w2c_i0 = 3u;
+  w2c_l10 = w2c_i0;
+  w2c_j0 = w2c_l6;
+  w2c_i0 = (u32)(w2c_j0);
+  w2c_i0 = i32_load8_u(memory, (u64)(w2c_i0) + 264u);
+  w2c_i1 = 1u;
+  w2c_i0 = w2c_i0 != w2c_i1;
+  if (w2c_i0) {goto w2c_B1;}
+  w2c_j0 = w2c_l6;
+  w2c_i0 = (u32)(w2c_j0);
+  w2c_j1 = w2c_l6;
+  w2c_i1 = (u32)(w2c_j1);
+  w2c_j1 = step_i64_load(memory, (u64)(w2c_i1) + 280u);
+  step_i64_store(memory, (u64)(w2c_i0) + 296, w2c_j1);
+  w2c_j0 = w2c_l6;
+  w2c_i0 = (u32)(w2c_j0);
+  w2c_j1 = w2c_l6;
+  w2c_i1 = (u32)(w2c_j1);
+  w2c_j1 = step_i64_load(memory, (u64)(w2c_i1) + 272u);
+  step_i64_store(memory, (u64)(w2c_i0) + 288, w2c_j1);
+  w2c_j0 = w2c_l6;
+  w2c_i0 = (u32)(w2c_j0);
+  w2c_j1 = 0ull;
+  step_i64_store(memory, (u64)(w2c_i0) + 256, w2c_j1);
+  w2c_j0 = w2c_l6;
+  w2c_i0 = (u32)(w2c_j0);
+  w2c_j1 = w2c_l6;
+  w2c_j2 = 288ull;
+  w2c_j1 += w2c_j2;
+  step_i64_store(memory, (u64)(w2c_i0) + 248, w2c_j1);
+  w2c_i0 = 4u;
+  w2c_l10 = w2c_i0;
+  w2c_j0 = w2c_p3;
+  w2c_j1 = 18446744073709551615ull;
+  w2c_j0 += w2c_j1;
+  w2c_j1 = 1048575ull;
+  w2c_i0 = w2c_j0 > w2c_j1;
+  if (w2c_i0) {goto w2c_B1;}
+  w2c_j0 = w2c_p5;
+  w2c_j1 = w2c_p3;
+  w2c_j2 = 15ull;
+  w2c_j1 += w2c_j2;
+  w2c_j2 = 4194296ull;
+  w2c_j1 &= w2c_j2;
+  w2c_i0 = w2c_j0 != w2c_j1;
+  if (w2c_i0) {goto w2c_B1;}
+  w2c_j0 = w2c_p4;
+  w2c_j1 = 8ull;
+  w2c_j0 += w2c_j1;
+  w2c_p1 = w2c_j0;
+  w2c_j1 = w2c_p2;
+  w2c_j0 -= w2c_j1;
+  w2c_j1 = w2c_p3;
+  w2c_i0 = w2c_j0 >= w2c_j1;
+  if (w2c_i0) {goto w2c_B3;}
+  w2c_j0 = w2c_p3;
+  w2c_j1 = 3ull;
+  w2c_j0 &= w2c_j1;
+  w2c_l7 = w2c_j0;
+  w2c_j0 = 0ull;
+  w2c_p0 = w2c_j0;
+  w2c_j0 = w2c_p3;
+  w2c_j1 = 4ull;
+  w2c_i0 = w2c_j0 < w2c_j1;
+  if (w2c_i0) {goto w2c_B4;}
+  w2c_j0 = w2c_p3;
+  w2c_j1 = 2097148ull;
+  w2c_j0 &= w2c_j1;
+  w2c_l8 = w2c_j0;
+  w2c_j0 = 0ull;
+  w2c_p0 = w2c_j0;
+  w2c_L5: 
+    w2c_j0 = w2c_p4;
+    w2c_j1 = w2c_p0;
+    w2c_j0 += w2c_j1;
+    w2c_p1 = w2c_j0;
+    w2c_j1 = 8ull;
+    w2c_j0 += w2c_j1;
+    w2c_i0 = (u32)(w2c_j0);
+    w2c_j1 = w2c_p2;
+    w2c_j2 = w2c_p0;
+    w2c_j1 += w2c_j2;
+    w2c_l9 = w2c_j1;
+    w2c_i1 = (u32)(w2c_j1);
+    w2c_i1 = i32_load8_u(memory, (u64)(w2c_i1));
+    i32_store8(memory, (u64)(w2c_i0), w2c_i1);
+    w2c_j0 = w2c_p1;
+    w2c_j1 = 9ull;
+    w2c_j0 += w2c_j1;
+    w2c_i0 = (u32)(w2c_j0);
+    w2c_j1 = w2c_l9;
+    w2c_j2 = 1ull;
+    w2c_j1 += w2c_j2;
+    w2c_i1 = (u32)(w2c_j1);
+    w2c_i1 = i32_load8_u(memory, (u64)(w2c_i1));
+    i32_store8(memory, (u64)(w2c_i0), w2c_i1);
+    w2c_j0 = w2c_p1;
+    w2c_j1 = 10ull;
+    w2c_j0 += w2c_j1;
+    w2c_i0 = (u32)(w2c_j0);
+    w2c_j1 = w2c_l9;
+    w2c_j2 = 2ull;
+    w2c_j1 += w2c_j2;
+    w2c_i1 = (u32)(w2c_j1);
+    w2c_i1 = i32_load8_u(memory, (u64)(w2c_i1));
+    i32_store8(memory, (u64)(w2c_i0), w2c_i1);
+    w2c_j0 = w2c_p1;
+    w2c_j1 = 11ull;
+    w2c_j0 += w2c_j1;
+    w2c_i0 = (u32)(w2c_j0);
+    w2c_j1 = w2c_l9;
+    w2c_j2 = 3ull;
+    w2c_j1 += w2c_j2;
+    w2c_i1 = (u32)(w2c_j1);
+    w2c_i1 = i32_load8_u(memory, (u64)(w2c_i1));
+    i32_store8(memory, (u64)(w2c_i0), w2c_i1);
+    w2c_j0 = w2c_l8;
+    w2c_j1 = w2c_p0;
+    w2c_j2 = 4ull;
+    w2c_j1 += w2c_j2;
+    w2c_p0 = w2c_j1;
+    w2c_i0 = w2c_j0 != w2c_j1;
+    if (w2c_i0) {goto w2c_L5;}
+  w2c_j0 = w2c_l7;
+  w2c_i0 = !(w2c_j0);
+  if (w2c_i0) {goto w2c_B2;}
+  w2c_B4:;
+  w2c_j0 = w2c_p2;
+  w2c_j1 = w2c_p0;
+  w2c_j0 += w2c_j1;
+  w2c_p1 = w2c_j0;
+  w2c_j0 = w2c_p0;
+  w2c_j1 = w2c_p4;
+  w2c_j0 += w2c_j1;
+  w2c_j1 = 8ull;
+  w2c_j0 += w2c_j1;
+  w2c_p0 = w2c_j0;
+  w2c_L6: 
+    w2c_j0 = w2c_p0;
+    w2c_i0 = (u32)(w2c_j0);
+    w2c_j1 = w2c_p1;
+    w2c_i1 = (u32)(w2c_j1);
+    w2c_i1 = i32_load8_u(memory, (u64)(w2c_i1));
+    i32_store8(memory, (u64)(w2c_i0), w2c_i1);
+    w2c_j0 = w2c_p0;
+    w2c_j1 = 1ull;
+    w2c_j0 += w2c_j1;
+    w2c_p0 = w2c_j0;
+    w2c_j0 = w2c_p1;
+    w2c_j1 = 1ull;
+    w2c_j0 += w2c_j1;
+    w2c_p1 = w2c_j0;
+    w2c_j0 = w2c_l7;
+    w2c_j1 = 18446744073709551615ull;
+    w2c_j0 += w2c_j1;
+    w2c_l7 = w2c_j0;
+    w2c_j1 = 0ull;
+    w2c_i0 = w2c_j0 != w2c_j1;
+    if (w2c_i0) {goto w2c_L6;}
+    goto w2c_B2;
+  UNREACHABLE;
+  w2c_B3:;
+  w2c_j0 = w2c_p3;
+  w2c_i0 = !(w2c_j0);
+  if (w2c_i0) {goto w2c_B2;}
+  w2c_j0 = w2c_p1;
+  w2c_i0 = (u32)(w2c_j0);
+  w2c_j1 = w2c_p2;
+  w2c_i1 = (u32)(w2c_j1);
+  w2c_j2 = w2c_p3;
+  w2c_i2 = (u32)(w2c_j2);
+  memory_copy(memory, memory, w2c_i0, w2c_i1, w2c_i2);
+  w2c_B2:;
+  w2c_j0 = w2c_p5;
+  w2c_j1 = w2c_p3;
+  w2c_j2 = 8ull;
+  w2c_j1 += w2c_j2;
+  w2c_p1 = w2c_j1;
+  w2c_i0 = w2c_j0 == w2c_j1;
+  if (w2c_i0) {goto w2c_B7;}
+  w2c_j0 = w2c_p4;
+  w2c_j1 = w2c_p1;
+  w2c_j0 += w2c_j1;
+  w2c_p1 = w2c_j0;
+  w2c_j0 = w2c_p5;
+  w2c_j1 = w2c_p3;
+  w2c_j0 -= w2c_j1;
+  w2c_j1 = 18446744073709551607ull;
+  w2c_j0 += w2c_j1;
+  w2c_p0 = w2c_j0;
+  w2c_i0 = !(w2c_j0);
+  w2c_l10 = w2c_i0;
+  if (w2c_i0) {goto w2c_B8;}
+  w2c_i0 = w2c_l10;
+  if (w2c_i0) {goto w2c_B8;}
+  w2c_j0 = w2c_p1;
+  w2c_i0 = (u32)(w2c_j0);
+  w2c_i1 = 0u;
+  w2c_j2 = w2c_p0;
+  w2c_i2 = (u32)(w2c_j2);
+  memory_fill(memory, w2c_i0, w2c_i1, w2c_i2);
+  w2c_B8:;
+  w2c_j0 = w2c_p1;
+  w2c_j1 = w2c_p0;
+  w2c_j0 += w2c_j1;
+  w2c_i0 = (u32)(w2c_j0);
+  w2c_i1 = 0u;
+  i32_store8(memory, (u64)(w2c_i0), w2c_i1);
+  w2c_B7:;
+  w2c_j0 = w2c_l6;
+  w2c_j1 = 248ull;
+  w2c_j0 += w2c_j1;
+  w2c_j1 = w2c_p3;
+  w2c_j2 = 11986710452722728960ull;
+  w2c_j1 |= w2c_j2;
+  w2c_j2 = w2c_p4;
+  w2c_j3 = w2c_p5;
+  w2c_f20(instance, w2c_j0, w2c_j1, w2c_j2, w2c_j3);
+  w2c_i0 = 0u;
+  w2c_l10 = w2c_i0;
+  w2c_B1:;
+  w2c_j0 = w2c_l6;
+  w2c_j1 = 8ull;
+  w2c_j0 += w2c_j1;
+  leaf_clear(memory, w2c_j0);
+  w2c_j0 = w2c_l6;
+  w2c_j1 = 304ull;
+  w2c_j0 += w2c_j1;
+  instance->w2c_g0 = w2c_j0;
+  w2c_i0 = w2c_l10;
+  goto w2c_Bfunc;
+  w2c_B0:;
+  UNREACHABLE;
+  w2c_Bfunc:;
+  return w2c_i0;
+}
+static u32 w2c_f32(struct instance *instance, u64 w2c_p0, u64 w2c_p1, u64 w2c_p2, u64 w2c_p3, u64 w2c_p4, u64 w2c_p5, u64 w2c_p6) {
+  u32 w2c_l10 = 0;
+  u64 w2c_l7 = 0, w2c_l8 = 0, w2c_l9 = 0;
+  const struct memory memory = instance->w2c_memory;
+  (void)memory;
+  u32 w2c_i0, w2c_i1, w2c_i2, w2c_i3;
+  u64 w2c_j0, w2c_j1, w2c_j2, w2c_j3, w2c_j4, w2c_j5, w2c_j6, w2c_j7;
+  w2c_j0 = instance->w2c_g0;
+  w2c_j1 = 304ull;
+  w2c_j0 -= w2c_j1;
+  w2c_l7 = w2c_j0;
+  instance->w2c_g0 = w2c_j0;
+  w2c_j0 = w2c_l7;
+  w2c_l7 = w2c_j0;
+  w2c_j1 = 16ull;
+  w2c_i0 = (u64)((s64)w2c_j0 < (s64)w2c_j1);
+  if (w2c_i0) {goto w2c_B0;}
+  w2c_j0 = w2c_l7;
+  w2c_j1 = 8ull;
+  w2c_j0 += w2c_j1;
+  w2c_i0 = (u32)(w2c_j0);
+  w2c_i1 = 0u;
+  w2c_j2 = 240ull;
+  w2c_i2 = (u32)(w2c_j2);
+  memory_fill(memory, w2c_i0, w2c_i1, w2c_i2);
+  w2c_j0 = w2c_p6;
+  w2c_i0 = (u32)(w2c_j0);
+  w2c_j1 = 0ull;
+  step_i64_store(memory, (u64)(w2c_i0), w2c_j1);
+  w2c_j0 = w2c_l7;
+  w2c_i0 = (u32)(w2c_j0);
+  w2c_j1 = 0ull;
+  step_i64_store(memory, (u64)(w2c_i0) + 264, w2c_j1);
+  w2c_j0 = w2c_l7;
+  w2c_i0 = (u32)(w2c_j0);
+  w2c_j1 = 0ull;
+  step_i64_store(memory, (u64)(w2c_i0) + 272, w2c_j1);
+  w2c_j0 = w2c_l7;
+  w2c_i0 = (u32)(w2c_j0);
+  w2c_j1 = 0ull;
+  step_i64_store(memory, (u64)(w2c_i0) + 280, w2c_j1);
+  w2c_j0 = w2c_l7;
+  w2c_j1 = 264ull;
+  w2c_j0 += w2c_j1;
+  w2c_j1 = w2c_p0;
+  w2c_j2 = w2c_p1;
+  w2c_j3 = w2c_l7;
+  w2c_j4 = 8ull;
+  w2c_j3 += w2c_j4;
+  w2c_f10(instance, w2c_j0, w2c_j1, w2c_j2, w2c_j3);
+  w2c_j0 = w2c_l7;
+  w2c_i0 = (u32)(w2c_j0);
+  w2c_i0 = i32_load8_u(memory, (u64)(w2c_i0) + 264u);
+  w2c_i1 = 1u;
+  w2c_i0 = w2c_i0 == w2c_i1;
+  if (w2c_i0) {goto w2c_B2;}
+  w2c_i0 = 3u;
+  w2c_l10 = w2c_i0;
+  goto w2c_B1;
+  w2c_B2:;
+  w2c_j0 = w2c_l7;
+  w2c_i0 = (u32)(w2c_j0);
+  w2c_j1 = w2c_l7;
+  w2c_i1 = (u32)(w2c_j1);
+  w2c_j1 = step_i64_load(memory, (u64)(w2c_i1) + 280u);
+  step_i64_store(memory, (u64)(w2c_i0) + 296, w2c_j1);
+  w2c_j0 = w2c_l7;
+  w2c_i0 = (u32)(w2c_j0);
+  w2c_j1 = w2c_l7;
+  w2c_i1 = (u32)(w2c_j1);
+  w2c_j1 = step_i64_load(memory, (u64)(w2c_i1) + 272u);
+  step_i64_store(memory, (u64)(w2c_i0) + 288, w2c_j1);
+  w2c_j0 = w2c_l7;
+  w2c_i0 = (u32)(w2c_j0);
+  w2c_j1 = 0ull;
+  step_i64_store(memory, (u64)(w2c_i0) + 256, w2c_j1);
+  w2c_j0 = w2c_l7;
+  w2c_i0 = (u32)(w2c_j0);
+  w2c_j1 = w2c_l7;
+  w2c_j2 = 288ull;
+  w2c_j1 += w2c_j2;
+  step_i64_store(memory, (u64)(w2c_i0) + 248, w2c_j1);
+  w2c_j0 = w2c_p3;
+  w2c_j1 = 7ull;
+  w2c_j0 &= w2c_j1;
+  w2c_j1 = 0ull;
+  w2c_i0 = w2c_j0 != w2c_j1;
+  if (w2c_i0) {goto w2c_B3;}
+  w2c_j0 = w2c_p3;
+  w2c_j1 = 18446744073709551600ull;
+  w2c_j0 += w2c_j1;
+  w2c_j1 = 1048568ull;
+  w2c_i0 = w2c_j0 > w2c_j1;
+  if (w2c_i0) {goto w2c_B3;}
+  w2c_j0 = w2c_p5;
+  w2c_j1 = w2c_p3;
+  w2c_j2 = 18446744073709551608ull;
+  w2c_j1 += w2c_j2;
+  w2c_i0 = w2c_j0 != w2c_j1;
+  if (w2c_i0) {goto w2c_B3;}
+  w2c_j0 = w2c_p4;
+  w2c_j1 = w2c_p2;
+  w2c_j2 = 8ull;
+  w2c_j1 += w2c_j2;
+  w2c_p3 = w2c_j1;
+  w2c_j0 -= w2c_j1;
+  w2c_j1 = w2c_p5;
+  w2c_i0 = w2c_j0 >= w2c_j1;
+  if (w2c_i0) {goto w2c_B5;}
+  w2c_j0 = w2c_p5;
+  w2c_j1 = 3ull;
+  w2c_j0 &= w2c_j1;
+  w2c_l8 = w2c_j0;
+  w2c_j0 = 0ull;
+  w2c_p1 = w2c_j0;
+  w2c_j0 = w2c_p5;
+  w2c_j1 = 4ull;
+  w2c_i0 = w2c_j0 < w2c_j1;
+  if (w2c_i0) {goto w2c_B6;}
+  w2c_j0 = w2c_p5;
+  w2c_j1 = 18446744073709551612ull;
+  w2c_j0 &= w2c_j1;
+  w2c_l9 = w2c_j0;
+  w2c_j0 = 0ull;
+  w2c_p1 = w2c_j0;
+  w2c_L7: 
+    w2c_j0 = w2c_p4;
+    w2c_j1 = w2c_p1;
+    w2c_j0 += w2c_j1;
+    w2c_p3 = w2c_j0;
+    w2c_i0 = (u32)(w2c_j0);
+    w2c_j1 = w2c_p2;
+    w2c_j2 = w2c_p1;
+    w2c_j1 += w2c_j2;
+    w2c_p0 = w2c_j1;
+    w2c_j2 = 8ull;
+    w2c_j1 += w2c_j2;
+    w2c_i1 = (u32)(w2c_j1);
+    w2c_i1 = i32_load8_u(memory, (u64)(w2c_i1));
+    i32_store8(memory, (u64)(w2c_i0), w2c_i1);
+    w2c_j0 = w2c_p3;
+    w2c_j1 = 1ull;
+    w2c_j0 += w2c_j1;
+    w2c_i0 = (u32)(w2c_j0);
+    w2c_j1 = w2c_p0;
+    w2c_j2 = 9ull;
+    w2c_j1 += w2c_j2;
+    w2c_i1 = (u32)(w2c_j1);
+    w2c_i1 = i32_load8_u(memory, (u64)(w2c_i1));
+    i32_store8(memory, (u64)(w2c_i0), w2c_i1);
+    w2c_j0 = w2c_p3;
+    w2c_j1 = 2ull;
+    w2c_j0 += w2c_j1;
+    w2c_i0 = (u32)(w2c_j0);
+    w2c_j1 = w2c_p0;
+    w2c_j2 = 10ull;
+    w2c_j1 += w2c_j2;
+    w2c_i1 = (u32)(w2c_j1);
+    w2c_i1 = i32_load8_u(memory, (u64)(w2c_i1));
+    i32_store8(memory, (u64)(w2c_i0), w2c_i1);
+    w2c_j0 = w2c_p3;
+    w2c_j1 = 3ull;
+    w2c_j0 += w2c_j1;
+    w2c_i0 = (u32)(w2c_j0);
+    w2c_j1 = w2c_p0;
+    w2c_j2 = 11ull;
+    w2c_j1 += w2c_j2;
+    w2c_i1 = (u32)(w2c_j1);
+    w2c_i1 = i32_load8_u(memory, (u64)(w2c_i1));
+    i32_store8(memory, (u64)(w2c_i0), w2c_i1);
+    w2c_j0 = w2c_l9;
+    w2c_j1 = w2c_p1;
+    w2c_j2 = 4ull;
+    w2c_j1 += w2c_j2;
+    w2c_p1 = w2c_j1;
+    w2c_i0 = w2c_j0 != w2c_j1;
+    if (w2c_i0) {goto w2c_L7;}
+  w2c_j0 = w2c_l8;
+  w2c_i0 = !(w2c_j0);
+  if (w2c_i0) {goto w2c_B4;}
+  w2c_B6:;
+  w2c_j0 = w2c_p4;
+  w2c_j1 = w2c_p1;
+  w2c_j0 += w2c_j1;
+  w2c_p3 = w2c_j0;
+  w2c_j0 = w2c_p1;
+  w2c_j1 = w2c_p2;
+  w2c_j0 += w2c_j1;
+  w2c_j1 = 8ull;
+  w2c_j0 += w2c_j1;
+  w2c_p1 = w2c_j0;
+  w2c_L8: 
+    w2c_j0 = w2c_p3;
+    w2c_i0 = (u32)(w2c_j0);
+    w2c_j1 = w2c_p1;
+    w2c_i1 = (u32)(w2c_j1);
+    w2c_i1 = i32_load8_u(memory, (u64)(w2c_i1));
+    i32_store8(memory, (u64)(w2c_i0), w2c_i1);
+    w2c_j0 = w2c_p3;
+    w2c_j1 = 1ull;
+    w2c_j0 += w2c_j1;
+    w2c_p3 = w2c_j0;
+    w2c_j0 = w2c_p1;
+    w2c_j1 = 1ull;
+    w2c_j0 += w2c_j1;
+    w2c_p1 = w2c_j0;
+    w2c_j0 = w2c_l8;
+    w2c_j1 = 18446744073709551615ull;
+    w2c_j0 += w2c_j1;
+    w2c_l8 = w2c_j0;
+    w2c_j1 = 0ull;
+    w2c_i0 = w2c_j0 != w2c_j1;
+    if (w2c_i0) {goto w2c_L8;}
+    goto w2c_B4;
+  UNREACHABLE;
+  w2c_B5:;
+  w2c_j0 = w2c_p5;
+  w2c_i0 = !(w2c_j0);
+  if (w2c_i0) {goto w2c_B4;}
+  w2c_j0 = w2c_p4;
+  w2c_i0 = (u32)(w2c_j0);
+  w2c_j1 = w2c_p3;
+  w2c_i1 = (u32)(w2c_j1);
+  w2c_j2 = w2c_p5;
+  w2c_i2 = (u32)(w2c_j2);
+  memory_copy(memory, memory, w2c_i0, w2c_i1, w2c_i2);
+  w2c_B4:;
+  w2c_j0 = w2c_l7;
+  w2c_j1 = w2c_p5;
+  w2c_j2 = w2c_l7;
+  w2c_j3 = 248ull;
+  w2c_j2 += w2c_j3;
+  w2c_j3 = w2c_p2;
+  w2c_i3 = (u32)(w2c_j3);
+  w2c_j3 = step_i64_load(memory, (u64)(w2c_i3));
+  w2c_p3 = w2c_j3;
+  w2c_j4 = 56ull;
+  w2c_j3 <<= (w2c_j4 & 63);
+  w2c_j4 = w2c_p3;
+  w2c_j5 = 65280ull;
+  w2c_j4 &= w2c_j5;
+  w2c_j5 = 40ull;
+  w2c_j4 <<= (w2c_j5 & 63);
+  w2c_j3 |= w2c_j4;
+  w2c_j4 = w2c_p3;
+  w2c_j5 = 16711680ull;
+  w2c_j4 &= w2c_j5;
+  w2c_j5 = 24ull;
+  w2c_j4 <<= (w2c_j5 & 63);
+  w2c_j5 = w2c_p3;
+  w2c_j6 = 4278190080ull;
+  w2c_j5 &= w2c_j6;
+  w2c_j6 = 8ull;
+  w2c_j5 <<= (w2c_j6 & 63);
+  w2c_j4 |= w2c_j5;
+  w2c_j3 |= w2c_j4;
+  w2c_j4 = w2c_p3;
+  w2c_j5 = 8ull;
+  w2c_j4 >>= (w2c_j5 & 63);
+  w2c_j5 = 4278190080ull;
+  w2c_j4 &= w2c_j5;
+  w2c_j5 = w2c_p3;
+  w2c_j6 = 24ull;
+  w2c_j5 >>= (w2c_j6 & 63);
+  w2c_j6 = 16711680ull;
+  w2c_j5 &= w2c_j6;
+  w2c_j4 |= w2c_j5;
+  w2c_j5 = w2c_p3;
+  w2c_j6 = 40ull;
+  w2c_j5 >>= (w2c_j6 & 63);
+  w2c_j6 = 65280ull;
+  w2c_j5 &= w2c_j6;
+  w2c_j6 = w2c_p3;
+  w2c_j7 = 56ull;
+  w2c_j6 >>= (w2c_j7 & 63);
+  w2c_j5 |= w2c_j6;
+  w2c_j4 |= w2c_j5;
+  w2c_j3 |= w2c_j4;
+  w2c_j4 = w2c_p4;
+  w2c_j5 = w2c_p5;
+  w2c_j2 = w2c_f12(instance, w2c_j2, w2c_j3, w2c_j4, w2c_j5);
+  w2c_p3 = w2c_j2;
+  w2c_j3 = 4294967295ull;
+  w2c_j2 &= w2c_j3;
+  w2c_p0 = w2c_j2;
+  w2c_j1 -= w2c_j2;
+  w2c_p1 = w2c_j1;
+  w2c_j2 = 3ull;
+  w2c_j1 >>= (w2c_j2 & 63);
+  w2c_j2 = w2c_p3;
+  w2c_j3 = 32ull;
+  w2c_j2 >>= (w2c_j3 & 63);
+  w2c_j3 = 2790873510ull;
+  w2c_j2 ^= w2c_j3;
+  w2c_j1 |= w2c_j2;
+  w2c_j2 = w2c_p4;
+  w2c_j3 = w2c_p5;
+  w2c_j2 += w2c_j3;
+  w2c_j3 = 18446744073709551608ull;
+  w2c_j2 += w2c_j3;
+  w2c_i2 = (u32)(w2c_j2);
+  w2c_j2 = step_i64_load(memory, (u64)(w2c_i2));
+  w2c_p3 = w2c_j2;
+  w2c_j3 = 56ull;
+  w2c_j2 <<= (w2c_j3 & 63);
+  w2c_j3 = w2c_p3;
+  w2c_j4 = 65280ull;
+  w2c_j3 &= w2c_j4;
+  w2c_j4 = 40ull;
+  w2c_j3 <<= (w2c_j4 & 63);
+  w2c_j2 |= w2c_j3;
+  w2c_j3 = w2c_p3;
+  w2c_j4 = 16711680ull;
+  w2c_j3 &= w2c_j4;
+  w2c_j4 = 24ull;
+  w2c_j3 <<= (w2c_j4 & 63);
+  w2c_j4 = w2c_p3;
+  w2c_j5 = 4278190080ull;
+  w2c_j4 &= w2c_j5;
+  w2c_j5 = 8ull;
+  w2c_j4 <<= (w2c_j5 & 63);
+  w2c_j3 |= w2c_j4;
+  w2c_j2 |= w2c_j3;
+  w2c_j3 = w2c_p3;
+  w2c_j4 = 8ull;
+  w2c_j3 >>= (w2c_j4 & 63);
+  w2c_j4 = 4278190080ull;
+  w2c_j3 &= w2c_j4;
+  w2c_j4 = w2c_p3;
+  w2c_j5 = 24ull;
+  w2c_j4 >>= (w2c_j5 & 63);
+  w2c_j5 = 16711680ull;
+  w2c_j4 &= w2c_j5;
+  w2c_j3 |= w2c_j4;
+  w2c_j4 = w2c_p3;
+  w2c_j5 = 40ull;
+  w2c_j4 >>= (w2c_j5 & 63);
+  w2c_j5 = 65280ull;
+  w2c_j4 &= w2c_j5;
+  w2c_j5 = w2c_p3;
+  w2c_j6 = 56ull;
+  w2c_j5 >>= (w2c_j6 & 63);
+  w2c_j4 |= w2c_j5;
+  w2c_j3 |= w2c_j4;
+  w2c_j2 |= w2c_j3;
+  w2c_j3 = 18446744073709551615ull;
+  w2c_j4 = w2c_p1;
+  w2c_j5 = 3ull;
+  w2c_j4 <<= (w2c_j5 & 63);
+  w2c_j3 <<= (w2c_j4 & 63);
+  w2c_j4 = 18446744073709551615ull;
+  w2c_j3 ^= w2c_j4;
+  w2c_j2 &= w2c_j3;
+  w2c_j1 |= w2c_j2;
+  w2c_j2 = w2c_p4;
+  w2c_j3 = w2c_p5;
+  w2c_f13(instance, w2c_j0, w2c_j1, w2c_j2, w2c_j3);
+  w2c_j0 = w2c_l7;
+  w2c_i0 = (u32)(w2c_j0);
+  w2c_i0 = i32_load8_u(memory, (u64)(w2c_i0));
+  w2c_i1 = 255u;
+  w2c_i0 &= w2c_i1;
+  if (w2c_i0) {goto w2c_B9;}
+  w2c_j0 = w2c_p6;
+  w2c_i0 = (u32)(w2c_j0);
+  w2c_j1 = w2c_p0;
+  step_i64_store(memory, (u64)(w2c_i0), w2c_j1);
+  w2c_i0 = 0u;
+  w2c_l10 = w2c_i0;
+  goto w2c_B1;
+  w2c_B9:;
+  w2c_j0 = w2c_l7;
+  w2c_i0 = (u32)(w2c_j0);
+  w2c_i0 = i32_load8_u(memory, (u64)(w2c_i0) + 1u);
+  w2c_i1 = 255u;
+  w2c_i0 &= w2c_i1;
+  w2c_i0 = !(w2c_i0);
+  if (w2c_i0) {goto w2c_B3;}
+  w2c_i0 = 5u;
+  w2c_l10 = w2c_i0;
+  goto w2c_B1;
+  w2c_B3:;
+  w2c_i0 = 4u;
+  w2c_l10 = w2c_i0;
+  w2c_B1:;
+  w2c_j0 = w2c_l7;
+  w2c_j1 = 8ull;
+  w2c_j0 += w2c_j1;
+  leaf_clear(memory, w2c_j0);
+  w2c_j0 = w2c_l7;
+  w2c_j1 = 304ull;
+  w2c_j0 += w2c_j1;
+  instance->w2c_g0 = w2c_j0;
+  w2c_i0 = w2c_l10;
+  goto w2c_Bfunc;
+  w2c_B0:;
+  UNREACHABLE;
+  w2c_Bfunc:;
+  return w2c_i0;
+}
+static void w2c_f33(struct instance *instance, u64 w2c_p0, u32 w2c_p1, u64 w2c_p2, u64 w2c_p3, u64 w2c_p4, u64 w2c_p5) {
+  u64 w2c_l6 = 0, w2c_l7 = 0, w2c_l8 = 0, w2c_l9 = 0;
+  const struct memory memory = instance->w2c_memory;
+  (void)memory;
+  u32 w2c_i0, w2c_i1, w2c_i2, w2c_i3;
+  u64 w2c_j0, w2c_j1, w2c_j2, w2c_j3, w2c_j4, w2c_j5, w2c_j6, w2c_j7;
+  w2c_j0 = instance->w2c_g0;
+  w2c_j1 = 32ull;
+  w2c_j0 -= w2c_j1;
+  w2c_l6 = w2c_j0;
+  instance->w2c_g0 = w2c_j0;
+  w2c_j0 = w2c_l6;
+  w2c_l7 = w2c_j0;
+  w2c_j1 = 16ull;
+  w2c_i0 = (u64)((s64)w2c_j0 < (s64)w2c_j1);
+  if (w2c_i0) {goto w2c_B0;}
+  w2c_j0 = w2c_p5;
+  w2c_i0 = !(w2c_j0);
+  if (w2c_i0) {goto w2c_B1;}
+  w2c_i0 = w2c_p1;
+  w2c_i1 = 255u;
+  w2c_i0 &= w2c_i1;
+  w2c_i0 = !(w2c_i0);
+  if (w2c_i0) {goto w2c_B2;}
+  w2c_j0 = w2c_p2;
+  w2c_j1 = 8ull;
+  w2c_j0 += w2c_j1;
+  w2c_p2 = w2c_j0;
+  w2c_L3: 
+    w2c_j0 = w2c_p2;
+    w2c_j1 = 18446744073709551608ull;
+    w2c_j0 += w2c_j1;
+    w2c_l8 = w2c_j0;
+    w2c_i0 = (u32)(w2c_j0);
+    w2c_j0 = step_i64_load(memory, (u64)(w2c_i0));
+    w2c_l6 = w2c_j0;
+    w2c_j0 = w2c_l8;
+    w2c_i0 = (u32)(w2c_j0);
+    w2c_j1 = 0ull;
+    step_i64_store(memory, (u64)(w2c_i0), w2c_j1);
+    w2c_j0 = w2c_l7;
+    w2c_i0 = (u32)(w2c_j0);
+    w2c_j1 = 0ull;
+    step_i64_store(memory, (u64)(w2c_i0) + 24, w2c_j1);
+    w2c_j0 = w2c_l7;
+    w2c_i0 = (u32)(w2c_j0);
+    w2c_j1 = w2c_p0;
+    step_i64_store(memory, (u64)(w2c_i0) + 16, w2c_j1);
+    w2c_j0 = w2c_l7;
+    w2c_j1 = 8ull;
+    w2c_j0 += w2c_j1;
+    w2c_j1 = 8ull;
+    w2c_j2 = w2c_l7;
+    w2c_j3 = 16ull;
+    w2c_j2 += w2c_j3;
+    w2c_j3 = w2c_l6;
+    w2c_j4 = 56ull;
+    w2c_j3 <<= (w2c_j4 & 63);
+    w2c_j4 = w2c_l6;
+    w2c_j5 = 65280ull;
+    w2c_j4 &= w2c_j5;
+    w2c_j5 = 40ull;
+    w2c_j4 <<= (w2c_j5 & 63);
+    w2c_j3 |= w2c_j4;
+    w2c_j4 = w2c_l6;
+    w2c_j5 = 16711680ull;
+    w2c_j4 &= w2c_j5;
+    w2c_j5 = 24ull;
+    w2c_j4 <<= (w2c_j5 & 63);
+    w2c_j5 = w2c_l6;
+    w2c_j6 = 4278190080ull;
+    w2c_j5 &= w2c_j6;
+    w2c_j6 = 8ull;
+    w2c_j5 <<= (w2c_j6 & 63);
+    w2c_j4 |= w2c_j5;
+    w2c_j3 |= w2c_j4;
+    w2c_j4 = w2c_l6;
+    w2c_j5 = 8ull;
+    w2c_j4 >>= (w2c_j5 & 63);
+    w2c_j5 = 4278190080ull;
+    w2c_j4 &= w2c_j5;
+    w2c_j5 = w2c_l6;
+    w2c_j6 = 24ull;
+    w2c_j5 >>= (w2c_j6 & 63);
+    w2c_j6 = 16711680ull;
+    w2c_j5 &= w2c_j6;
+    w2c_j4 |= w2c_j5;
+    w2c_j5 = w2c_l6;
+    w2c_j6 = 40ull;
+    w2c_j5 >>= (w2c_j6 & 63);
+    w2c_j6 = 65280ull;
+    w2c_j5 &= w2c_j6;
+    w2c_j6 = w2c_l6;
+    w2c_j7 = 56ull;
+    w2c_j6 >>= (w2c_j7 & 63);
+    w2c_j5 |= w2c_j6;
+    w2c_j4 |= w2c_j5;
+    w2c_j3 |= w2c_j4;
+    w2c_j4 = w2c_p2;
+    w2c_j5 = 8ull;
+    w2c_j2 = w2c_f12(instance, w2c_j2, w2c_j3, w2c_j4, w2c_j5);
+    w2c_l6 = w2c_j2;
+    w2c_j3 = 4294967295ull;
+    w2c_j2 &= w2c_j3;
+    w2c_l8 = w2c_j2;
+    w2c_j1 -= w2c_j2;
+    w2c_l9 = w2c_j1;
+    w2c_j2 = 3ull;
+    w2c_j1 >>= (w2c_j2 & 63);
+    w2c_j2 = w2c_l6;
+    w2c_j3 = 32ull;
+    w2c_j2 >>= (w2c_j3 & 63);
+    w2c_j3 = 2790873510ull;
+    w2c_j2 ^= w2c_j3;
+    w2c_j1 |= w2c_j2;
+    w2c_j2 = w2c_p2;
+    w2c_i2 = (u32)(w2c_j2);
+    w2c_j2 = step_i64_load(memory, (u64)(w2c_i2));
+    w2c_l6 = w2c_j2;
+    w2c_j3 = 56ull;
+    w2c_j2 <<= (w2c_j3 & 63);
+    w2c_j3 = w2c_l6;
+    w2c_j4 = 65280ull;
+    w2c_j3 &= w2c_j4;
+    w2c_j4 = 40ull;
+    w2c_j3 <<= (w2c_j4 & 63);
+    w2c_j2 |= w2c_j3;
+    w2c_j3 = w2c_l6;
+    w2c_j4 = 16711680ull;
+    w2c_j3 &= w2c_j4;
+    w2c_j4 = 24ull;
+    w2c_j3 <<= (w2c_j4 & 63);
+    w2c_j4 = w2c_l6;
+    w2c_j5 = 4278190080ull;
+    w2c_j4 &= w2c_j5;
+    w2c_j5 = 8ull;
+    w2c_j4 <<= (w2c_j5 & 63);
+    w2c_j3 |= w2c_j4;
+    w2c_j2 |= w2c_j3;
+    w2c_j3 = w2c_l6;
+    w2c_j4 = 8ull;
+    w2c_j3 >>= (w2c_j4 & 63);
+    w2c_j4 = 4278190080ull;
+    w2c_j3 &= w2c_j4;
+    w2c_j4 = w2c_l6;
+    w2c_j5 = 24ull;
+    w2c_j4 >>= (w2c_j5 & 63);
+    w2c_j5 = 16711680ull;
+    w2c_j4 &= w2c_j5;
+    w2c_j3 |= w2c_j4;
+    w2c_j4 = w2c_l6;
+    w2c_j5 = 40ull;
+    w2c_j4 >>= (w2c_j5 & 63);
+    w2c_j5 = 65280ull;
+    w2c_j4 &= w2c_j5;
+    w2c_j5 = w2c_l6;
+    w2c_j6 = 56ull;
+    w2c_j5 >>= (w2c_j6 & 63);
+    w2c_j4 |= w2c_j5;
+    w2c_j3 |= w2c_j4;
+    w2c_j2 |= w2c_j3;
+    w2c_j3 = 18446744073709551615ull;
+    w2c_j4 = w2c_l9;
+    w2c_j5 = 3ull;
+    w2c_j4 <<= (w2c_j5 & 63);
+    w2c_j3 <<= (w2c_j4 & 63);
+    w2c_j4 = 18446744073709551615ull;
+    w2c_j3 ^= w2c_j4;
+    w2c_j2 &= w2c_j3;
+    w2c_j1 |= w2c_j2;
+    w2c_j2 = w2c_p2;
+    w2c_j3 = 8ull;
+    w2c_f13(instance, w2c_j0, w2c_j1, w2c_j2, w2c_j3);
+    w2c_j0 = w2c_p4;
+    w2c_i0 = (u32)(w2c_j0);
+    w2c_i1 = 5u;
+    w2c_i2 = 4u;
+    w2c_j3 = w2c_l7;
+    w2c_i3 = (u32)(w2c_j3);
+    w2c_i3 = i32_load8_u(memory, (u64)(w2c_i3) + 9u);
+    w2c_i1 = w2c_i3 ? w2c_i1 : w2c_i2;
+    w2c_i2 = 0u;
+    w2c_j3 = w2c_l7;
+    w2c_i3 = (u32)(w2c_j3);
+    w2c_i3 = i32_load8_u(memory, (u64)(w2c_i3) + 8u);
+    w2c_p1 = w2c_i3;
+    w2c_i1 = w2c_i3 ? w2c_i1 : w2c_i2;
+    i32_store8(memory, (u64)(w2c_i0), w2c_i1);
+    w2c_j0 = w2c_p3;
+    w2c_i0 = (u32)(w2c_j0);
+    w2c_j1 = 0ull;
+    w2c_j2 = w2c_l8;
+    w2c_i3 = w2c_p1;
+    w2c_j1 = w2c_i3 ? w2c_j1 : w2c_j2;
+    step_i64_store(memory, (u64)(w2c_i0), w2c_j1);
+    w2c_j0 = w2c_p3;
+    w2c_j1 = 8ull;
+    w2c_j0 += w2c_j1;
+    w2c_p3 = w2c_j0;
+    w2c_j0 = w2c_p2;
+    w2c_j1 = 16ull;
+    w2c_j0 += w2c_j1;
+    w2c_p2 = w2c_j0;
+    w2c_j0 = w2c_p4;
+    w2c_j1 = 1ull;
+    w2c_j0 += w2c_j1;
+    w2c_p4 = w2c_j0;
+    w2c_j0 = w2c_p5;
+    w2c_j1 = 18446744073709551615ull;
+    w2c_j0 += w2c_j1;
+    w2c_p5 = w2c_j0;
+    w2c_i0 = !(w2c_j0);
+    w2c_i0 = !(w2c_i0);
+    if (w2c_i0) {goto w2c_L3;}
+    goto w2c_B1;
+  UNREACHABLE;
+  w2c_B2:;
+  w2c_j0 = w2c_p5;
+  w2c_j1 = 3ull;
+  w2c_j0 &= w2c_j1;
+  w2c_l8 = w2c_j0;
+  w2c_j0 = 0ull;
+  w2c_l9 = w2c_j0;
+  w2c_j0 = w2c_p5;
+  w2c_j1 = 4ull;
+  w2c_i0 = w2c_j0 < w2c_j1;
+  if (w2c_i0) {goto w2c_B4;}
+  w2c_j0 = w2c_p5;
+  w2c_j1 = 18446744073709551612ull;
+  w2c_j0 &= w2c_j1;
+  w2c_p5 = w2c_j0;
+  w2c_j0 = w2c_p3;
+  w2c_l6 = w2c_j0;
+  w2c_j0 = 0ull;
+  w2c_l9 = w2c_j0;
+  w2c_L5: 
+    w2c_j0 = w2c_p4;
+    w2c_j1 = w2c_l9;
+    w2c_j0 += w2c_j1;
+    w2c_p2 = w2c_j0;
+    w2c_i0 = (u32)(w2c_j0);
+    w2c_i1 = 4u;
+    i32_store8(memory, (u64)(w2c_i0), w2c_i1);
+    w2c_j0 = w2c_l6;
+    w2c_i0 = (u32)(w2c_j0);
+    w2c_j1 = 0ull;
+    step_i64_store(memory, (u64)(w2c_i0), w2c_j1);
+    w2c_j0 = w2c_p2;
+    w2c_j1 = 1ull;
+    w2c_j0 += w2c_j1;
+    w2c_i0 = (u32)(w2c_j0);
+    w2c_i1 = 4u;
+    i32_store8(memory, (u64)(w2c_i0), w2c_i1);
+    w2c_j0 = w2c_l6;
+    w2c_j1 = 8ull;
+    w2c_j0 += w2c_j1;
+    w2c_i0 = (u32)(w2c_j0);
+    w2c_j1 = 0ull;
+    step_i64_store(memory, (u64)(w2c_i0), w2c_j1);
+    w2c_j0 = w2c_p2;
+    w2c_j1 = 2ull;
+    w2c_j0 += w2c_j1;
+    w2c_i0 = (u32)(w2c_j0);
+    w2c_i1 = 4u;
+    i32_store8(memory, (u64)(w2c_i0), w2c_i1);
+    w2c_j0 = w2c_l6;
+    w2c_j1 = 16ull;
+    w2c_j0 += w2c_j1;
+    w2c_i0 = (u32)(w2c_j0);
+    w2c_j1 = 0ull;
+    step_i64_store(memory, (u64)(w2c_i0), w2c_j1);
+    w2c_j0 = w2c_p2;
+    w2c_j1 = 3ull;
+    w2c_j0 += w2c_j1;
+    w2c_i0 = (u32)(w2c_j0);
+    w2c_i1 = 4u;
+    i32_store8(memory, (u64)(w2c_i0), w2c_i1);
+    w2c_j0 = w2c_l6;
+    w2c_j1 = 24ull;
+    w2c_j0 += w2c_j1;
+    w2c_i0 = (u32)(w2c_j0);
+    w2c_j1 = 0ull;
+    step_i64_store(memory, (u64)(w2c_i0), w2c_j1);
+    w2c_j0 = w2c_l6;
+    w2c_j1 = 32ull;
+    w2c_j0 += w2c_j1;
+    w2c_l6 = w2c_j0;
+    w2c_j0 = w2c_p5;
+    w2c_j1 = w2c_l9;
+    w2c_j2 = 4ull;
+    w2c_j1 += w2c_j2;
+    w2c_l9 = w2c_j1;
+    w2c_i0 = w2c_j0 != w2c_j1;
+    if (w2c_i0) {goto w2c_L5;}
+  w2c_j0 = w2c_l8;
+  w2c_i0 = !(w2c_j0);
+  if (w2c_i0) {goto w2c_B1;}
+  w2c_B4:;
+  w2c_j0 = w2c_p4;
+  w2c_j1 = w2c_l9;
+  w2c_j0 += w2c_j1;
+  w2c_l6 = w2c_j0;
+  w2c_j0 = w2c_p3;
+  w2c_j1 = w2c_l9;
+  w2c_j2 = 3ull;
+  w2c_j1 <<= (w2c_j2 & 63);
+  w2c_j0 += w2c_j1;
+  w2c_p2 = w2c_j0;
+  w2c_L6: 
+    w2c_j0 = w2c_l6;
+    w2c_i0 = (u32)(w2c_j0);
+    w2c_i1 = 4u;
+    i32_store8(memory, (u64)(w2c_i0), w2c_i1);
+    w2c_j0 = w2c_p2;
+    w2c_i0 = (u32)(w2c_j0);
+    w2c_j1 = 0ull;
+    step_i64_store(memory, (u64)(w2c_i0), w2c_j1);
+    w2c_j0 = w2c_l6;
+    w2c_j1 = 1ull;
+    w2c_j0 += w2c_j1;
+    w2c_l6 = w2c_j0;
+    w2c_j0 = w2c_p2;
+    w2c_j1 = 8ull;
+    w2c_j0 += w2c_j1;
+    w2c_p2 = w2c_j0;
+    w2c_j0 = w2c_l8;
+    w2c_j1 = 18446744073709551615ull;
+    w2c_j0 += w2c_j1;
+    w2c_l8 = w2c_j0;
+    w2c_j1 = 0ull;
+    w2c_i0 = w2c_j0 != w2c_j1;
+    if (w2c_i0) {goto w2c_L6;}
+  w2c_B1:;
+  w2c_j0 = w2c_l7;
+  w2c_j1 = 32ull;
+  w2c_j0 += w2c_j1;
+  instance->w2c_g0 = w2c_j0;
+  goto w2c_Bfunc;
+  w2c_B0:;
+  UNREACHABLE;
+  w2c_Bfunc:;
+}
+static void w2c_f34(struct instance *instance, u64 w2c_p0, u32 w2c_p1, u64 w2c_p2, u64 w2c_p3, u64 w2c_p4, u64 w2c_p5, u64 w2c_p6) {
+  u64 w2c_l7 = 0, w2c_l8 = 0, w2c_l9 = 0, w2c_l10 = 0, w2c_l11 = 0, w2c_l12 = 0, w2c_l13 = 0, w2c_l14 = 0, 
+      w2c_l15 = 0, w2c_l16 = 0, w2c_l17 = 0, w2c_l18 = 0, w2c_l19 = 0, w2c_l20 = 0, w2c_l21 = 0, w2c_l22 = 0, 
+      w2c_l23 = 0, w2c_l24 = 0, w2c_l25 = 0;
+  const struct memory memory = instance->w2c_memory;
+  (void)memory;
+  u32 w2c_i0, w2c_i1, w2c_i2, w2c_i3, w2c_i4;
+  u64 w2c_j0, w2c_j1, w2c_j2, w2c_j3, w2c_j4, w2c_j5, w2c_j6;
+  w2c_j0 = instance->w2c_g0;
+  w2c_j1 = 784ull;
+  w2c_j0 -= w2c_j1;
+  w2c_l7 = w2c_j0;
+  instance->w2c_g0 = w2c_j0;
+  w2c_j0 = w2c_l7;
+  w2c_l8 = w2c_j0;
+  w2c_j1 = 16ull;
+  w2c_i0 = (u64)((s64)w2c_j0 < (s64)w2c_j1);
+  if (w2c_i0) {goto w2c_B0;}
+  w2c_j0 = w2c_l8;
+  w2c_j1 = 16ull;
+  w2c_j0 += w2c_j1;
+  w2c_i0 = (u32)(w2c_j0);
+  w2c_i1 = 0u;
+  w2c_j2 = 768ull;
+  w2c_i2 = (u32)(w2c_j2);
+  memory_fill(memory, w2c_i0, w2c_i1, w2c_i2);
+  w2c_j0 = w2c_p2;
+  w2c_j1 = 7ull;
+  w2c_j0 &= w2c_j1;
+  w2c_l7 = w2c_j0;
+  w2c_j0 = w2c_p2;
+  w2c_j1 = 18446744073709551608ull;
+  w2c_j0 += w2c_j1;
+  w2c_l9 = w2c_j0;
+  w2c_j0 = w2c_p6;
+  w2c_j1 = 48ull;
+  w2c_j0 = DIV_U(w2c_j0, w2c_j1);
+  w2c_l10 = w2c_j0;
+  w2c_i0 = w2c_p1;
+  w2c_i1 = 255u;
+  w2c_i0 &= w2c_i1;
+  if (w2c_i0) {goto w2c_B2;}
+  w2c_j0 = w2c_p2;
+  w2c_j1 = 18446744073709551592ull;
+  w2c_j0 += w2c_j1;
+  w2c_j1 = 1048560ull;
+  w2c_i0 = w2c_j0 > w2c_j1;
+  if (w2c_i0) {goto w2c_B4;}
+  w2c_j0 = w2c_l7;
+  w2c_i0 = !(w2c_j0);
+  if (w2c_i0) {goto w2c_B3;}
+  w2c_B4:;
+  w2c_j0 = w2c_p2;
+  w2c_j1 = 1ull;
+  w2c_j0 <<= (w2c_j1 & 63);
+  w2c_l11 = w2c_j0;
+  w2c_j0 = w2c_p2;
+  w2c_j1 = 48ull;
+  w2c_j0 *= w2c_j1;
+  w2c_l12 = w2c_j0;
+  w2c_j0 = 0ull;
+  w2c_l7 = w2c_j0;
+  w2c_j0 = 48ull;
+  w2c_l13 = w2c_j0;
+  w2c_j0 = 0ull;
+  w2c_l14 = w2c_j0;
+  w2c_j0 = w2c_p4;
+  w2c_l15 = w2c_j0;
+  w2c_j0 = w2c_p5;
+  w2c_l16 = w2c_j0;
+  w2c_j0 = w2c_p3;
+  w2c_l17 = w2c_j0;
+  w2c_L5: 
+    w2c_j0 = w2c_p0;
+    w2c_j1 = w2c_p3;
+    w2c_j2 = w2c_l7;
+    w2c_l18 = w2c_j2;
+    w2c_j3 = 48ull;
+    w2c_j2 *= w2c_j3;
+    w2c_l19 = w2c_j2;
+    w2c_j3 = w2c_p2;
+    w2c_j2 *= w2c_j3;
+    w2c_j1 += w2c_j2;
+    w2c_l20 = w2c_j1;
+    w2c_j2 = w2c_p6;
+    w2c_j3 = w2c_l19;
+    w2c_j4 = 48ull;
+    w2c_j3 += w2c_j4;
+    w2c_l7 = w2c_j3;
+    w2c_j4 = w2c_p6;
+    w2c_j5 = w2c_l7;
+    w2c_i4 = w2c_j4 < w2c_j5;
+    w2c_j2 = w2c_i4 ? w2c_j2 : w2c_j3;
+    w2c_l7 = w2c_j2;
+    w2c_j3 = w2c_l19;
+    w2c_j2 -= w2c_j3;
+    w2c_l21 = w2c_j2;
+    w2c_j3 = w2c_p2;
+    w2c_j2 *= w2c_j3;
+    w2c_j3 = w2c_p2;
+    w2c_j4 = w2c_l8;
+    w2c_j5 = 16ull;
+    w2c_j4 += w2c_j5;
+    w2c_j5 = w2c_l21;
+    w2c_j6 = 4ull;
+    w2c_j5 <<= (w2c_j6 & 63);
+    w2c_l22 = w2c_j5;
+    w2c_f16(instance, w2c_j0, w2c_j1, w2c_j2, w2c_j3, w2c_j4, w2c_j5);
+    w2c_j0 = w2c_l7;
+    w2c_j1 = w2c_l19;
+    w2c_i0 = w2c_j0 == w2c_j1;
+    if (w2c_i0) {goto w2c_B6;}
+    w2c_j0 = 0ull;
+    w2c_l9 = w2c_j0;
+    w2c_j0 = w2c_l7;
+    w2c_j1 = 1ull;
+    w2c_j2 = w2c_l18;
+    w2c_j3 = 18446744073709551568ull;
+    w2c_j2 *= w2c_j3;
+    w2c_j1 -= w2c_j2;
+    w2c_i0 = w2c_j0 == w2c_j1;
+    if (w2c_i0) {goto w2c_B8;}
+    w2c_j0 = w2c_l14;
+    w2c_j1 = w2c_p6;
+    w2c_j2 = w2c_l13;
+    w2c_j3 = w2c_p6;
+    w2c_j4 = w2c_l13;
+    w2c_i3 = w2c_j3 < w2c_j4;
+    w2c_j1 = w2c_i3 ? w2c_j1 : w2c_j2;
+    w2c_j2 = 18446744073709551614ull;
+    w2c_j1 &= w2c_j2;
+    w2c_j0 += w2c_j1;
+    w2c_l23 = w2c_j0;
+    w2c_j0 = w2c_l7;
+    w2c_j1 = 1ull;
+    w2c_j0 &= w2c_j1;
+    w2c_l24 = w2c_j0;
+    w2c_j0 = w2c_l15;
+    w2c_l7 = w2c_j0;
+    w2c_j0 = w2c_l17;
+    w2c_l21 = w2c_j0;
+    w2c_j0 = 0ull;
+    w2c_l9 = w2c_j0;
+    w2c_L9: 
+      w2c_j0 = w2c_l21;
+      w2c_i0 = (u32)(w2c_j0);
+      w2c_j1 = 0ull;
+      step_i64_store(memory, (u64)(w2c_i0), w2c_j1);
+      w2c_j0 = w2c_l16;
+      w2c_j1 = w2c_l9;
+      w2c_j0 += w2c_j1;
+      w2c_l25 = w2c_j0;
+      w2c_i0 = (u32)(w2c_j0);
+      w2c_i1 = 5u;
+      i32_store8(memory, (u64)(w2c_i0), w2c_i1);
+      w2c_j0 = w2c_l7;
+      w2c_i0 = (u32)(w2c_j0);
+      w2c_j1 = 0ull;
+      step_i64_store(memory, (u64)(w2c_i0), w2c_j1);
+      w2c_j0 = w2c_l21;
+      w2c_j1 = w2c_p2;
+      w2c_j0 += w2c_j1;
+      w2c_i0 = (u32)(w2c_j0);
+      w2c_j1 = 0ull;
+      step_i64_store(memory, (u64)(w2c_i0), w2c_j1);
+      w2c_j0 = w2c_l25;
+      w2c_j1 = 1ull;
+      w2c_j0 += w2c_j1;
+      w2c_i0 = (u32)(w2c_j0);
+      w2c_i1 = 5u;
+      i32_store8(memory, (u64)(w2c_i0), w2c_i1);
+      w2c_j0 = w2c_l7;
+      w2c_j1 = 8ull;
+      w2c_j0 += w2c_j1;
+      w2c_i0 = (u32)(w2c_j0);
+      w2c_j1 = 0ull;
+      step_i64_store(memory, (u64)(w2c_i0), w2c_j1);
+      w2c_j0 = w2c_l7;
+      w2c_j1 = 16ull;
+      w2c_j0 += w2c_j1;
+      w2c_l7 = w2c_j0;
+      w2c_j0 = w2c_l21;
+      w2c_j1 = w2c_l11;
+      w2c_j0 += w2c_j1;
+      w2c_l21 = w2c_j0;
+      w2c_j0 = w2c_l23;
+      w2c_j1 = w2c_l9;
+      w2c_j2 = 2ull;
+      w2c_j1 += w2c_j2;
+      w2c_l9 = w2c_j1;
+      w2c_i0 = w2c_j0 != w2c_j1;
+      if (w2c_i0) {goto w2c_L9;}
+    w2c_j0 = w2c_l24;
+    w2c_i0 = !(w2c_j0);
+    if (w2c_i0) {goto w2c_B7;}
+    w2c_B8:;
+    w2c_j0 = w2c_l20;
+    w2c_j1 = w2c_l9;
+    w2c_j2 = w2c_p2;
+    w2c_j1 *= w2c_j2;
+    w2c_j0 += w2c_j1;
+    w2c_i0 = (u32)(w2c_j0);
+    w2c_j1 = 0ull;
+    step_i64_store(memory, (u64)(w2c_i0), w2c_j1);
+    w2c_j0 = w2c_p5;
+    w2c_j1 = w2c_l19;
+    w2c_j0 += w2c_j1;
+    w2c_j1 = w2c_l9;
+    w2c_j0 += w2c_j1;
+    w2c_i0 = (u32)(w2c_j0);
+    w2c_i1 = 5u;
+    i32_store8(memory, (u64)(w2c_i0), w2c_i1);
+    w2c_j0 = w2c_p4;
+    w2c_j1 = w2c_l18;
+    w2c_j2 = 384ull;
+    w2c_j1 *= w2c_j2;
+    w2c_j0 += w2c_j1;
+    w2c_j1 = w2c_l9;
+    w2c_j2 = 3ull;
+    w2c_j1 <<= (w2c_j2 & 63);
+    w2c_j0 += w2c_j1;
+    w2c_i0 = (u32)(w2c_j0);
+    w2c_j1 = 0ull;
+    step_i64_store(memory, (u64)(w2c_i0), w2c_j1);
+    w2c_B7:;
+    w2c_j0 = w2c_l22;
+    w2c_i0 = !(w2c_j0);
+    if (w2c_i0) {goto w2c_B6;}
+    w2c_j0 = w2c_l22;
+    w2c_j1 = 18446744073709551615ull;
+    w2c_j0 += w2c_j1;
+    w2c_l7 = w2c_j0;
+    w2c_i0 = !(w2c_j0);
+    if (w2c_i0) {goto w2c_B10;}
+    w2c_j0 = w2c_l8;
+    w2c_j1 = 16ull;
+    w2c_j0 += w2c_j1;
+    w2c_i0 = (u32)(w2c_j0);
+    w2c_i1 = 0u;
+    w2c_j2 = w2c_l7;
+    w2c_i2 = (u32)(w2c_j2);
+    memory_fill(memory, w2c_i0, w2c_i1, w2c_i2);
+    w2c_B10:;
+    w2c_j0 = w2c_l8;
+    w2c_j1 = 16ull;
+    w2c_j0 += w2c_j1;
+    w2c_j1 = w2c_l7;
+    w2c_j0 += w2c_j1;
+    w2c_i0 = (u32)(w2c_j0);
+    w2c_i1 = 0u;
+    i32_store8(memory, (u64)(w2c_i0), w2c_i1);
+    w2c_B6:;
+    w2c_j0 = w2c_l13;
+    w2c_j1 = 48ull;
+    w2c_j0 += w2c_j1;
+    w2c_l13 = w2c_j0;
+    w2c_j0 = w2c_l14;
+    w2c_j1 = 18446744073709551568ull;
+    w2c_j0 += w2c_j1;
+    w2c_l14 = w2c_j0;
+    w2c_j0 = w2c_l15;
+    w2c_j1 = 384ull;
+    w2c_j0 += w2c_j1;
+    w2c_l15 = w2c_j0;
+    w2c_j0 = w2c_l16;
+    w2c_j1 = 48ull;
+    w2c_j0 += w2c_j1;
+    w2c_l16 = w2c_j0;
+    w2c_j0 = w2c_l17;
+    w2c_j1 = w2c_l12;
+    w2c_j0 += w2c_j1;
+    w2c_l17 = w2c_j0;
+    w2c_j0 = w2c_l18;
+    w2c_j1 = 1ull;
+    w2c_j0 += w2c_j1;
+    w2c_l7 = w2c_j0;
+    w2c_j0 = w2c_l18;
+    w2c_j1 = w2c_l10;
+    w2c_i0 = w2c_j0 != w2c_j1;
+    if (w2c_i0) {goto w2c_L5;}
+    goto w2c_B1;
+  UNREACHABLE;
+  w2c_B3:;
+  w2c_j0 = w2c_p2;
+  w2c_j1 = 48ull;
+  w2c_j0 *= w2c_j1;
+  w2c_l17 = w2c_j0;
+  w2c_j0 = 0ull;
+  w2c_l7 = w2c_j0;
+  w2c_j0 = w2c_p3;
+  w2c_l13 = w2c_j0;
+  w2c_j0 = 0ull;
+  w2c_l14 = w2c_j0;
+  w2c_j0 = 48ull;
+  w2c_l19 = w2c_j0;
+  w2c_L11: 
+    w2c_j0 = w2c_p0;
+    w2c_j1 = w2c_p3;
+    w2c_j2 = w2c_l7;
+    w2c_l18 = w2c_j2;
+    w2c_j3 = 48ull;
+    w2c_j2 *= w2c_j3;
+    w2c_l7 = w2c_j2;
+    w2c_j3 = w2c_p2;
+    w2c_j2 *= w2c_j3;
+    w2c_j1 += w2c_j2;
+    w2c_j2 = w2c_l7;
+    w2c_j3 = 48ull;
+    w2c_j2 += w2c_j3;
+    w2c_l21 = w2c_j2;
+    w2c_j3 = w2c_p6;
+    w2c_j4 = w2c_l21;
+    w2c_j5 = w2c_p6;
+    w2c_i4 = w2c_j4 < w2c_j5;
+    w2c_j2 = w2c_i4 ? w2c_j2 : w2c_j3;
+    w2c_l21 = w2c_j2;
+    w2c_j3 = w2c_l7;
+    w2c_j2 -= w2c_j3;
+    w2c_l25 = w2c_j2;
+    w2c_j3 = w2c_p2;
+    w2c_j2 *= w2c_j3;
+    w2c_j3 = w2c_p2;
+    w2c_j4 = w2c_l8;
+    w2c_j5 = 16ull;
+    w2c_j4 += w2c_j5;
+    w2c_j5 = w2c_l25;
+    w2c_j6 = 4ull;
+    w2c_j5 <<= (w2c_j6 & 63);
+    w2c_l15 = w2c_j5;
+    w2c_f16(instance, w2c_j0, w2c_j1, w2c_j2, w2c_j3, w2c_j4, w2c_j5);
+    w2c_j0 = w2c_l21;
+    w2c_j1 = w2c_l7;
+    w2c_i0 = w2c_j0 == w2c_j1;
+    if (w2c_i0) {goto w2c_B12;}
+    w2c_j0 = w2c_p6;
+    w2c_j1 = w2c_l19;
+    w2c_j2 = w2c_p6;
+    w2c_j3 = w2c_l19;
+    w2c_i2 = w2c_j2 < w2c_j3;
+    w2c_j0 = w2c_i2 ? w2c_j0 : w2c_j1;
+    w2c_j1 = w2c_l14;
+    w2c_j0 += w2c_j1;
+    w2c_l11 = w2c_j0;
+    w2c_j0 = w2c_l8;
+    w2c_j1 = 16ull;
+    w2c_j0 += w2c_j1;
+    w2c_l25 = w2c_j0;
+    w2c_j0 = w2c_l13;
+    w2c_l21 = w2c_j0;
+    w2c_j0 = w2c_p5;
+    w2c_l16 = w2c_j0;
+    w2c_j0 = w2c_p4;
+    w2c_l23 = w2c_j0;
+    w2c_L13: 
+      w2c_j0 = w2c_l21;
+      w2c_i0 = (u32)(w2c_j0);
+      w2c_j1 = 0ull;
+      step_i64_store(memory, (u64)(w2c_i0), w2c_j1);
+      w2c_j0 = w2c_l8;
+      w2c_j1 = w2c_l25;
+      w2c_i1 = (u32)(w2c_j1);
+      w2c_j1 = step_i64_load(memory, (u64)(w2c_i1));
+      w2c_j2 = 12008468691120727718ull;
+      w2c_j1 ^= w2c_j2;
+      w2c_l7 = w2c_j1;
+      w2c_j2 = 56ull;
+      w2c_j1 <<= (w2c_j2 & 63);
+      w2c_j2 = w2c_l7;
+      w2c_j3 = 65280ull;
+      w2c_j2 &= w2c_j3;
+      w2c_j3 = 40ull;
+      w2c_j2 <<= (w2c_j3 & 63);
+      w2c_j1 |= w2c_j2;
+      w2c_j2 = w2c_l7;
+      w2c_j3 = 16711680ull;
+      w2c_j2 &= w2c_j3;
+      w2c_j3 = 24ull;
+      w2c_j2 <<= (w2c_j3 & 63);
+      w2c_j3 = w2c_l7;
+      w2c_j4 = 4278190080ull;
+      w2c_j3 &= w2c_j4;
+      w2c_j4 = 8ull;
+      w2c_j3 <<= (w2c_j4 & 63);
+      w2c_j2 |= w2c_j3;
+      w2c_j1 |= w2c_j2;
+      w2c_j2 = w2c_l7;
+      w2c_j3 = 8ull;
+      w2c_j2 >>= (w2c_j3 & 63);
+      w2c_j3 = 4278190080ull;
+      w2c_j2 &= w2c_j3;
+      w2c_j3 = w2c_l7;
+      w2c_j4 = 24ull;
+      w2c_j3 >>= (w2c_j4 & 63);
+      w2c_j4 = 16711680ull;
+      w2c_j3 &= w2c_j4;
+      w2c_j2 |= w2c_j3;
+      w2c_j3 = w2c_l7;
+      w2c_j4 = 40ull;
+      w2c_j3 >>= (w2c_j4 & 63);
+      w2c_j4 = 65280ull;
+      w2c_j3 &= w2c_j4;
+      w2c_j4 = w2c_l7;
+      w2c_j5 = 56ull;
+      w2c_j4 >>= (w2c_j5 & 63);
+      w2c_j3 |= w2c_j4;
+      w2c_j2 |= w2c_j3;
+      w2c_j1 |= w2c_j2;
+      w2c_j2 = w2c_l21;
+      w2c_j3 = 8ull;
+      w2c_j2 += w2c_j3;
+      w2c_j3 = w2c_l9;
+      w2c_f13(instance, w2c_j0, w2c_j1, w2c_j2, w2c_j3);
+      w2c_j0 = w2c_l16;
+      w2c_i0 = (u32)(w2c_j0);
+      w2c_i1 = 5u;
+      w2c_i2 = 0u;
+      w2c_j3 = w2c_l8;
+      w2c_i3 = (u32)(w2c_j3);
+      w2c_i3 = i32_load8_u(memory, (u64)(w2c_i3));
+      w2c_i4 = 255u;
+      w2c_i3 &= w2c_i4;
+      w2c_p1 = w2c_i3;
+      w2c_i1 = w2c_i3 ? w2c_i1 : w2c_i2;
+      i32_store8(memory, (u64)(w2c_i0), w2c_i1);
+      w2c_j0 = w2c_l23;
+      w2c_i0 = (u32)(w2c_j0);
+      w2c_j1 = 0ull;
+      w2c_j2 = w2c_l9;
+      w2c_i3 = w2c_p1;
+      w2c_j1 = w2c_i3 ? w2c_j1 : w2c_j2;
+      step_i64_store(memory, (u64)(w2c_i0), w2c_j1);
+      w2c_j0 = w2c_l21;
+      w2c_j1 = w2c_p2;
+      w2c_j0 += w2c_j1;
+      w2c_l21 = w2c_j0;
+      w2c_j0 = w2c_l25;
+      w2c_j1 = 16ull;
+      w2c_j0 += w2c_j1;
+      w2c_l25 = w2c_j0;
+      w2c_j0 = w2c_l16;
+      w2c_j1 = 1ull;
+      w2c_j0 += w2c_j1;
+      w2c_l16 = w2c_j0;
+      w2c_j0 = w2c_l23;
+      w2c_j1 = 8ull;
+      w2c_j0 += w2c_j1;
+      w2c_l23 = w2c_j0;
+      w2c_j0 = w2c_l11;
+      w2c_j1 = 18446744073709551615ull;
+      w2c_j0 += w2c_j1;
+      w2c_l11 = w2c_j0;
+      w2c_i0 = !(w2c_j0);
+      w2c_i0 = !(w2c_i0);
+      if (w2c_i0) {goto w2c_L13;}
+    w2c_j0 = w2c_l15;
+    w2c_i0 = !(w2c_j0);
+    if (w2c_i0) {goto w2c_B12;}
+    w2c_j0 = w2c_l15;
+    w2c_j1 = 18446744073709551615ull;
+    w2c_j0 += w2c_j1;
+    w2c_l7 = w2c_j0;
+    w2c_i0 = !(w2c_j0);
+    if (w2c_i0) {goto w2c_B14;}
+    w2c_j0 = w2c_l8;
+    w2c_j1 = 16ull;
+    w2c_j0 += w2c_j1;
+    w2c_i0 = (u32)(w2c_j0);
+    w2c_i1 = 0u;
+    w2c_j2 = w2c_l7;
+    w2c_i2 = (u32)(w2c_j2);
+    memory_fill(memory, w2c_i0, w2c_i1, w2c_i2);
+    w2c_B14:;
+    w2c_j0 = w2c_l8;
+    w2c_j1 = 16ull;
+    w2c_j0 += w2c_j1;
+    w2c_j1 = w2c_l7;
+    w2c_j0 += w2c_j1;
+    w2c_i0 = (u32)(w2c_j0);
+    w2c_i1 = 0u;
+    i32_store8(memory, (u64)(w2c_i0), w2c_i1);
+    w2c_B12:;
+    w2c_j0 = w2c_l13;
+    w2c_j1 = w2c_l17;
+    w2c_j0 += w2c_j1;
+    w2c_l13 = w2c_j0;
+    w2c_j0 = w2c_p5;
+    w2c_j1 = 48ull;
+    w2c_j0 += w2c_j1;
+    w2c_p5 = w2c_j0;
+    w2c_j0 = w2c_p4;
+    w2c_j1 = 384ull;
+    w2c_j0 += w2c_j1;
+    w2c_p4 = w2c_j0;
+    w2c_j0 = w2c_l14;
+    w2c_j1 = 18446744073709551568ull;
+    w2c_j0 += w2c_j1;
+    w2c_l14 = w2c_j0;
+    w2c_j0 = w2c_l19;
+    w2c_j1 = 48ull;
+    w2c_j0 += w2c_j1;
+    w2c_l19 = w2c_j0;
+    w2c_j0 = w2c_l18;
+    w2c_j1 = 1ull;
+    w2c_j0 += w2c_j1;
+    w2c_l7 = w2c_j0;
+    w2c_j0 = w2c_l18;
+    w2c_j1 = w2c_l10;
+    w2c_i0 = w2c_j0 != w2c_j1;
+    if (w2c_i0) {goto w2c_L11;}
+    goto w2c_B1;
+  UNREACHABLE;
+  w2c_B2:;
+  w2c_j0 = w2c_p2;
+  w2c_j1 = 18446744073709551600ull;
+  w2c_j0 += w2c_j1;
+  w2c_j1 = 1048568ull;
+  w2c_i0 = w2c_j0 > w2c_j1;
+  if (w2c_i0) {goto w2c_B16;}
+  w2c_j0 = w2c_l7;
+  w2c_i0 = !(w2c_j0);
+  if (w2c_i0) {goto w2c_B15;}
+  w2c_B16:;
+  w2c_j0 = w2c_p2;
+  w2c_j1 = 1ull;
+  w2c_j0 <<= (w2c_j1 & 63);
+  w2c_l11 = w2c_j0;
+  w2c_j0 = w2c_p2;
+  w2c_j1 = 48ull;
+  w2c_j0 *= w2c_j1;
+  w2c_l12 = w2c_j0;
+  w2c_j0 = 0ull;
+  w2c_l7 = w2c_j0;
+  w2c_j0 = 48ull;
+  w2c_l13 = w2c_j0;
+  w2c_j0 = 0ull;
+  w2c_l14 = w2c_j0;
+  w2c_j0 = w2c_p4;
+  w2c_l15 = w2c_j0;
+  w2c_j0 = w2c_p5;
+  w2c_l16 = w2c_j0;
+  w2c_j0 = w2c_p3;
+  w2c_l17 = w2c_j0;
+  w2c_L17: 
+    w2c_j0 = w2c_p0;
+    w2c_j1 = w2c_p3;
+    w2c_j2 = w2c_l7;
+    w2c_l18 = w2c_j2;
+    w2c_j3 = 48ull;
+    w2c_j2 *= w2c_j3;
+    w2c_l19 = w2c_j2;
+    w2c_j3 = w2c_p2;
+    w2c_j2 *= w2c_j3;
+    w2c_j1 += w2c_j2;
+    w2c_l20 = w2c_j1;
+    w2c_j2 = w2c_p6;
+    w2c_j3 = w2c_l19;
+    w2c_j4 = 48ull;
+    w2c_j3 += w2c_j4;
+    w2c_l7 = w2c_j3;
+    w2c_j4 = w2c_p6;
+    w2c_j5 = w2c_l7;
+    w2c_i4 = w2c_j4 < w2c_j5;
+    w2c_j2 = w2c_i4 ? w2c_j2 : w2c_j3;
+    w2c_l7 = w2c_j2;
+    w2c_j3 = w2c_l19;
+    w2c_j2 -= w2c_j3;
+    w2c_l21 = w2c_j2;
+    w2c_j3 = w2c_p2;
+    w2c_j2 *= w2c_j3;
+    w2c_j3 = w2c_p2;
+    w2c_j4 = w2c_l8;
+    w2c_j5 = 16ull;
+    w2c_j4 += w2c_j5;
+    w2c_j5 = w2c_l21;
+    w2c_j6 = 4ull;
+    w2c_j5 <<= (w2c_j6 & 63);
+    w2c_l22 = w2c_j5;
+    w2c_f16(instance, w2c_j0, w2c_j1, w2c_j2, w2c_j3, w2c_j4, w2c_j5);
+    w2c_j0 = w2c_l7;
+    w2c_j1 = w2c_l19;
+    w2c_i0 = w2c_j0 == w2c_j1;
+    if (w2c_i0) {goto w2c_B18;}
+    w2c_j0 = 0ull;
+    w2c_l9 = w2c_j0;
+    w2c_j0 = w2c_l7;
+    w2c_j1 = 1ull;
+    w2c_j2 = w2c_l18;
+    w2c_j3 = 18446744073709551568ull;
+    w2c_j2 *= w2c_j3;
+    w2c_j1 -= w2c_j2;
+    w2c_i0 = w2c_j0 == w2c_j1;
+    if (w2c_i0) {goto w2c_B20;}
+    w2c_j0 = w2c_l14;
+    w2c_j1 = w2c_p6;
+    w2c_j2 = w2c_l13;
+    w2c_j3 = w2c_p6;
+    w2c_j4 = w2c_l13;
+    w2c_i3 = w2c_j3 < w2c_j4;
+    w2c_j1 = w2c_i3 ? w2c_j1 : w2c_j2;
+    w2c_j2 = 18446744073709551614ull;
+    w2c_j1 &= w2c_j2;
+    w2c_j0 += w2c_j1;
+    w2c_l23 = w2c_j0;
+    w2c_j0 = w2c_l7;
+    w2c_j1 = 1ull;
+    w2c_j0 &= w2c_j1;
+    w2c_l24 = w2c_j0;
+    w2c_j0 = w2c_l15;
+    w2c_l7 = w2c_j0;
+    w2c_j0 = w2c_l17;
+    w2c_l21 = w2c_j0;
+    w2c_j0 = 0ull;
+    w2c_l9 = w2c_j0;
+    w2c_L21: 
+      w2c_j0 = w2c_l21;
+      w2c_i0 = (u32)(w2c_j0);
+      w2c_j1 = 0ull;
+      step_i64_store(memory, (u64)(w2c_i0), w2c_j1);
+      w2c_j0 = w2c_l16;
+      w2c_j1 = w2c_l9;
+      w2c_j0 += w2c_j1;
+      w2c_l25 = w2c_j0;
+      w2c_i0 = (u32)(w2c_j0);
+      w2c_i1 = 5u;
+      i32_store8(memory, (u64)(w2c_i0), w2c_i1);
+      w2c_j0 = w2c_l7;
+      w2c_i0 = (u32)(w2c_j0);
+      w2c_j1 = 0ull;
+      step_i64_store(memory, (u64)(w2c_i0), w2c_j1);
+      w2c_j0 = w2c_l21;
+      w2c_j1 = w2c_p2;
+      w2c_j0 += w2c_j1;
+      w2c_i0 = (u32)(w2c_j0);
+      w2c_j1 = 0ull;
+      step_i64_store(memory, (u64)(w2c_i0), w2c_j1);
+      w2c_j0 = w2c_l25;
+      w2c_j1 = 1ull;
+      w2c_j0 += w2c_j1;
+      w2c_i0 = (u32)(w2c_j0);
+      w2c_i1 = 5u;
+      i32_store8(memory, (u64)(w2c_i0), w2c_i1);
+      w2c_j0 = w2c_l7;
+      w2c_j1 = 8ull;
+      w2c_j0 += w2c_j1;
+      w2c_i0 = (u32)(w2c_j0);
+      w2c_j1 = 0ull;
+      step_i64_store(memory, (u64)(w2c_i0), w2c_j1);
+      w2c_j0 = w2c_l7;
+      w2c_j1 = 16ull;
+      w2c_j0 += w2c_j1;
+      w2c_l7 = w2c_j0;
+      w2c_j0 = w2c_l21;
+      w2c_j1 = w2c_l11;
+      w2c_j0 += w2c_j1;
+      w2c_l21 = w2c_j0;
+      w2c_j0 = w2c_l23;
+      w2c_j1 = w2c_l9;
+      w2c_j2 = 2ull;
+      w2c_j1 += w2c_j2;
+      w2c_l9 = w2c_j1;
+      w2c_i0 = w2c_j0 != w2c_j1;
+      if (w2c_i0) {goto w2c_L21;}
+    w2c_j0 = w2c_l24;
+    w2c_i0 = !(w2c_j0);
+    if (w2c_i0) {goto w2c_B19;}
+    w2c_B20:;
+    w2c_j0 = w2c_l20;
+    w2c_j1 = w2c_l9;
+    w2c_j2 = w2c_p2;
+    w2c_j1 *= w2c_j2;
+    w2c_j0 += w2c_j1;
+    w2c_i0 = (u32)(w2c_j0);
+    w2c_j1 = 0ull;
+    step_i64_store(memory, (u64)(w2c_i0), w2c_j1);
+    w2c_j0 = w2c_p5;
+    w2c_j1 = w2c_l19;
+    w2c_j0 += w2c_j1;
+    w2c_j1 = w2c_l9;
+    w2c_j0 += w2c_j1;
+    w2c_i0 = (u32)(w2c_j0);
+    w2c_i1 = 5u;
+    i32_store8(memory, (u64)(w2c_i0), w2c_i1);
+    w2c_j0 = w2c_p4;
+    w2c_j1 = w2c_l18;
+    w2c_j2 = 384ull;
+    w2c_j1 *= w2c_j2;
+    w2c_j0 += w2c_j1;
+    w2c_j1 = w2c_l9;
+    w2c_j2 = 3ull;
+    w2c_j1 <<= (w2c_j2 & 63);
+    w2c_j0 += w2c_j1;
+    w2c_i0 = (u32)(w2c_j0);
+    w2c_j1 = 0ull;
+    step_i64_store(memory, (u64)(w2c_i0), w2c_j1);
+    w2c_B19:;
+    w2c_j0 = w2c_l22;
+    w2c_i0 = !(w2c_j0);
+    if (w2c_i0) {goto w2c_B18;}
+    w2c_j0 = w2c_l22;
+    w2c_j1 = 18446744073709551615ull;
+    w2c_j0 += w2c_j1;
+    w2c_l7 = w2c_j0;
+    w2c_i0 = !(w2c_j0);
+    if (w2c_i0) {goto w2c_B22;}
+    w2c_j0 = w2c_l8;
+    w2c_j1 = 16ull;
+    w2c_j0 += w2c_j1;
+    w2c_i0 = (u32)(w2c_j0);
+    w2c_i1 = 0u;
+    w2c_j2 = w2c_l7;
+    w2c_i2 = (u32)(w2c_j2);
+    memory_fill(memory, w2c_i0, w2c_i1, w2c_i2);
+    w2c_B22:;
+    w2c_j0 = w2c_l8;
+    w2c_j1 = 16ull;
+    w2c_j0 += w2c_j1;
+    w2c_j1 = w2c_l7;
+    w2c_j0 += w2c_j1;
+    w2c_i0 = (u32)(w2c_j0);
+    w2c_i1 = 0u;
+    i32_store8(memory, (u64)(w2c_i0), w2c_i1);
+    w2c_B18:;
+    w2c_j0 = w2c_l13;
+    w2c_j1 = 48ull;
+    w2c_j0 += w2c_j1;
+    w2c_l13 = w2c_j0;
+    w2c_j0 = w2c_l14;
+    w2c_j1 = 18446744073709551568ull;
+    w2c_j0 += w2c_j1;
+    w2c_l14 = w2c_j0;
+    w2c_j0 = w2c_l15;
+    w2c_j1 = 384ull;
+    w2c_j0 += w2c_j1;
+    w2c_l15 = w2c_j0;
+    w2c_j0 = w2c_l16;
+    w2c_j1 = 48ull;
+    w2c_j0 += w2c_j1;
+    w2c_l16 = w2c_j0;
+    w2c_j0 = w2c_l17;
+    w2c_j1 = w2c_l12;
+    w2c_j0 += w2c_j1;
+    w2c_l17 = w2c_j0;
+    w2c_j0 = w2c_l18;
+    w2c_j1 = 1ull;
+    w2c_j0 += w2c_j1;
+    w2c_l7 = w2c_j0;
+    w2c_j0 = w2c_l18;
+    w2c_j1 = w2c_l10;
+    w2c_i0 = w2c_j0 != w2c_j1;
+    if (w2c_i0) {goto w2c_L17;}
+    goto w2c_B1;
+  UNREACHABLE;
+  w2c_B15:;
+  w2c_j0 = w2c_p2;
+  w2c_j1 = 48ull;
+  w2c_j0 *= w2c_j1;
+  w2c_l20 = w2c_j0;
+  w2c_j0 = 0ull;
+  w2c_l7 = w2c_j0;
+  w2c_j0 = w2c_p3;
+  w2c_l15 = w2c_j0;
+  w2c_j0 = 0ull;
+  w2c_l17 = w2c_j0;
+  w2c_j0 = 48ull;
+  w2c_l13 = w2c_j0;
+  w2c_L23: 
+    w2c_j0 = w2c_p0;
+    w2c_j1 = w2c_p3;
+    w2c_j2 = w2c_l7;
+    w2c_l14 = w2c_j2;
+    w2c_j3 = 48ull;
+    w2c_j2 *= w2c_j3;
+    w2c_l7 = w2c_j2;
+    w2c_j3 = w2c_p2;
+    w2c_j2 *= w2c_j3;
+    w2c_j1 += w2c_j2;
+    w2c_j2 = w2c_l7;
+    w2c_j3 = 48ull;
+    w2c_j2 += w2c_j3;
+    w2c_l21 = w2c_j2;
+    w2c_j3 = w2c_p6;
+    w2c_j4 = w2c_l21;
+    w2c_j5 = w2c_p6;
+    w2c_i4 = w2c_j4 < w2c_j5;
+    w2c_j2 = w2c_i4 ? w2c_j2 : w2c_j3;
+    w2c_l21 = w2c_j2;
+    w2c_j3 = w2c_l7;
+    w2c_j2 -= w2c_j3;
+    w2c_l25 = w2c_j2;
+    w2c_j3 = w2c_p2;
+    w2c_j2 *= w2c_j3;
+    w2c_j3 = w2c_p2;
+    w2c_j4 = w2c_l8;
+    w2c_j5 = 16ull;
+    w2c_j4 += w2c_j5;
+    w2c_j5 = w2c_l25;
+    w2c_j6 = 4ull;
+    w2c_j5 <<= (w2c_j6 & 63);
+    w2c_l22 = w2c_j5;
+    w2c_f16(instance, w2c_j0, w2c_j1, w2c_j2, w2c_j3, w2c_j4, w2c_j5);
+    w2c_j0 = w2c_l21;
+    w2c_j1 = w2c_l7;
+    w2c_i0 = w2c_j0 == w2c_j1;
+    if (w2c_i0) {goto w2c_B24;}
+    w2c_j0 = w2c_p6;
+    w2c_j1 = w2c_l13;
+    w2c_j2 = w2c_p6;
+    w2c_j3 = w2c_l13;
+    w2c_i2 = w2c_j2 < w2c_j3;
+    w2c_j0 = w2c_i2 ? w2c_j0 : w2c_j1;
+    w2c_j1 = w2c_l17;
+    w2c_j0 += w2c_j1;
+    w2c_l11 = w2c_j0;
+    w2c_j0 = w2c_l8;
+    w2c_j1 = 16ull;
+    w2c_j0 += w2c_j1;
+    w2c_l25 = w2c_j0;
+    w2c_j0 = w2c_l15;
+    w2c_l21 = w2c_j0;
+    w2c_j0 = w2c_p5;
+    w2c_l16 = w2c_j0;
+    w2c_j0 = w2c_p4;
+    w2c_l23 = w2c_j0;
+    w2c_L25: 
+      w2c_j0 = w2c_l21;
+      w2c_i0 = (u32)(w2c_j0);
+      w2c_j1 = 0ull;
+      step_i64_store(memory, (u64)(w2c_i0), w2c_j1);
+      w2c_j0 = w2c_l8;
+      w2c_j1 = 8ull;
+      w2c_j0 += w2c_j1;
+      w2c_j1 = w2c_l9;
+      w2c_j2 = w2c_l25;
+      w2c_i2 = (u32)(w2c_j2);
+      w2c_j2 = step_i64_load(memory, (u64)(w2c_i2));
+      w2c_l7 = w2c_j2;
+      w2c_j3 = 8ull;
+      w2c_j2 >>= (w2c_j3 & 63);
+      w2c_j3 = 4278190080ull;
+      w2c_j2 &= w2c_j3;
+      w2c_j3 = w2c_l7;
+      w2c_j4 = 24ull;
+      w2c_j3 >>= (w2c_j4 & 63);
+      w2c_j4 = 16711680ull;
+      w2c_j3 &= w2c_j4;
+      w2c_j2 |= w2c_j3;
+      w2c_j3 = w2c_l7;
+      w2c_j4 = 40ull;
+      w2c_j3 >>= (w2c_j4 & 63);
+      w2c_j4 = 65280ull;
+      w2c_j3 &= w2c_j4;
+      w2c_j4 = w2c_l7;
+      w2c_j5 = 56ull;
+      w2c_j4 >>= (w2c_j5 & 63);
+      w2c_j3 |= w2c_j4;
+      w2c_j2 |= w2c_j3;
+      w2c_l19 = w2c_j2;
+      w2c_j1 -= w2c_j2;
+      w2c_l18 = w2c_j1;
+      w2c_j2 = 3ull;
+      w2c_j1 >>= (w2c_j2 & 63);
+      w2c_j2 = w2c_l7;
+      w2c_j3 = 56ull;
+      w2c_j2 <<= (w2c_j3 & 63);
+      w2c_j3 = w2c_l7;
+      w2c_j4 = 65280ull;
+      w2c_j3 &= w2c_j4;
+      w2c_j4 = 40ull;
+      w2c_j3 <<= (w2c_j4 & 63);
+      w2c_j2 |= w2c_j3;
+      w2c_j3 = w2c_l7;
+      w2c_j4 = 16711680ull;
+      w2c_j3 &= w2c_j4;
+      w2c_j4 = 24ull;
+      w2c_j3 <<= (w2c_j4 & 63);
+      w2c_j4 = w2c_l7;
+      w2c_j5 = 4278190080ull;
+      w2c_j4 &= w2c_j5;
+      w2c_j5 = 8ull;
+      w2c_j4 <<= (w2c_j5 & 63);
+      w2c_j3 |= w2c_j4;
+      w2c_j2 |= w2c_j3;
+      w2c_j3 = 32ull;
+      w2c_j2 >>= (w2c_j3 & 63);
+      w2c_j3 = 2790873510ull;
+      w2c_j2 ^= w2c_j3;
+      w2c_j1 |= w2c_j2;
+      w2c_j2 = w2c_l21;
+      w2c_j3 = w2c_l9;
+      w2c_j2 += w2c_j3;
+      w2c_i2 = (u32)(w2c_j2);
+      w2c_j2 = step_i64_load(memory, (u64)(w2c_i2));
+      w2c_l7 = w2c_j2;
+      w2c_j3 = 56ull;
+      w2c_j2 <<= (w2c_j3 & 63);
+      w2c_j3 = w2c_l7;
+      w2c_j4 = 65280ull;
+      w2c_j3 &= w2c_j4;
+      w2c_j4 = 40ull;
+      w2c_j3 <<= (w2c_j4 & 63);
+      w2c_j2 |= w2c_j3;
+      w2c_j3 = w2c_l7;
+      w2c_j4 = 16711680ull;
+      w2c_j3 &= w2c_j4;
+      w2c_j4 = 24ull;
+      w2c_j3 <<= (w2c_j4 & 63);
+      w2c_j4 = w2c_l7;
+      w2c_j5 = 4278190080ull;
+      w2c_j4 &= w2c_j5;
+      w2c_j5 = 8ull;
+      w2c_j4 <<= (w2c_j5 & 63);
+      w2c_j3 |= w2c_j4;
+      w2c_j2 |= w2c_j3;
+      w2c_j3 = w2c_l7;
+      w2c_j4 = 8ull;
+      w2c_j3 >>= (w2c_j4 & 63);
+      w2c_j4 = 4278190080ull;
+      w2c_j3 &= w2c_j4;
+      w2c_j4 = w2c_l7;
+      w2c_j5 = 24ull;
+      w2c_j4 >>= (w2c_j5 & 63);
+      w2c_j5 = 16711680ull;
+      w2c_j4 &= w2c_j5;
+      w2c_j3 |= w2c_j4;
+      w2c_j4 = w2c_l7;
+      w2c_j5 = 40ull;
+      w2c_j4 >>= (w2c_j5 & 63);
+      w2c_j5 = 65280ull;
+      w2c_j4 &= w2c_j5;
+      w2c_j5 = w2c_l7;
+      w2c_j6 = 56ull;
+      w2c_j5 >>= (w2c_j6 & 63);
+      w2c_j4 |= w2c_j5;
+      w2c_j3 |= w2c_j4;
+      w2c_j2 |= w2c_j3;
+      w2c_j3 = 18446744073709551615ull;
+      w2c_j4 = w2c_l18;
+      w2c_j5 = 3ull;
+      w2c_j4 <<= (w2c_j5 & 63);
+      w2c_j3 <<= (w2c_j4 & 63);
+      w2c_j4 = 18446744073709551615ull;
+      w2c_j3 ^= w2c_j4;
+      w2c_j2 &= w2c_j3;
+      w2c_j1 |= w2c_j2;
+      w2c_j2 = w2c_l21;
+      w2c_j3 = 8ull;
+      w2c_j2 += w2c_j3;
+      w2c_j3 = w2c_l9;
+      w2c_f13(instance, w2c_j0, w2c_j1, w2c_j2, w2c_j3);
+      w2c_j0 = w2c_l16;
+      w2c_i0 = (u32)(w2c_j0);
+      w2c_i1 = 5u;
+      w2c_i2 = 0u;
+      w2c_j3 = w2c_l8;
+      w2c_i3 = (u32)(w2c_j3);
+      w2c_i3 = i32_load8_u(memory, (u64)(w2c_i3) + 8u);
+      w2c_i4 = 255u;
+      w2c_i3 &= w2c_i4;
+      w2c_p1 = w2c_i3;
+      w2c_i1 = w2c_i3 ? w2c_i1 : w2c_i2;
+      i32_store8(memory, (u64)(w2c_i0), w2c_i1);
+      w2c_j0 = w2c_l23;
+      w2c_i0 = (u32)(w2c_j0);
+      w2c_j1 = 0ull;
+      w2c_j2 = w2c_l19;
+      w2c_i3 = w2c_p1;
+      w2c_j1 = w2c_i3 ? w2c_j1 : w2c_j2;
+      step_i64_store(memory, (u64)(w2c_i0), w2c_j1);
+      w2c_j0 = w2c_l21;
+      w2c_j1 = w2c_p2;
+      w2c_j0 += w2c_j1;
+      w2c_l21 = w2c_j0;
+      w2c_j0 = w2c_l25;
+      w2c_j1 = 16ull;
+      w2c_j0 += w2c_j1;
+      w2c_l25 = w2c_j0;
+      w2c_j0 = w2c_l16;
+      w2c_j1 = 1ull;
+      w2c_j0 += w2c_j1;
+      w2c_l16 = w2c_j0;
+      w2c_j0 = w2c_l23;
+      w2c_j1 = 8ull;
+      w2c_j0 += w2c_j1;
+      w2c_l23 = w2c_j0;
+      w2c_j0 = w2c_l11;
+      w2c_j1 = 18446744073709551615ull;
+      w2c_j0 += w2c_j1;
+      w2c_l11 = w2c_j0;
+      w2c_i0 = !(w2c_j0);
+      w2c_i0 = !(w2c_i0);
+      if (w2c_i0) {goto w2c_L25;}
+    w2c_j0 = w2c_l22;
+    w2c_i0 = !(w2c_j0);
+    if (w2c_i0) {goto w2c_B24;}
+    w2c_j0 = w2c_l22;
+    w2c_j1 = 18446744073709551615ull;
+    w2c_j0 += w2c_j1;
+    w2c_l7 = w2c_j0;
+    w2c_i0 = !(w2c_j0);
+    if (w2c_i0) {goto w2c_B26;}
+    w2c_j0 = w2c_l8;
+    w2c_j1 = 16ull;
+    w2c_j0 += w2c_j1;
+    w2c_i0 = (u32)(w2c_j0);
+    w2c_i1 = 0u;
+    w2c_j2 = w2c_l7;
+    w2c_i2 = (u32)(w2c_j2);
+    memory_fill(memory, w2c_i0, w2c_i1, w2c_i2);
+    w2c_B26:;
+    w2c_j0 = w2c_l8;
+    w2c_j1 = 16ull;
+    w2c_j0 += w2c_j1;
+    w2c_j1 = w2c_l7;
+    w2c_j0 += w2c_j1;
+    w2c_i0 = (u32)(w2c_j0);
+    w2c_i1 = 0u;
+    i32_store8(memory, (u64)(w2c_i0), w2c_i1);
+    w2c_B24:;
+    w2c_j0 = w2c_l15;
+    w2c_j1 = w2c_l20;
+    w2c_j0 += w2c_j1;
+    w2c_l15 = w2c_j0;
+    w2c_j0 = w2c_p5;
+    w2c_j1 = 48ull;
+    w2c_j0 += w2c_j1;
+    w2c_p5 = w2c_j0;
+    w2c_j0 = w2c_p4;
+    w2c_j1 = 384ull;
+    w2c_j0 += w2c_j1;
+    w2c_p4 = w2c_j0;
+    w2c_j0 = w2c_l17;
+    w2c_j1 = 18446744073709551568ull;
+    w2c_j0 += w2c_j1;
+    w2c_l17 = w2c_j0;
+    w2c_j0 = w2c_l13;
+    w2c_j1 = 48ull;
+    w2c_j0 += w2c_j1;
+    w2c_l13 = w2c_j0;
+    w2c_j0 = w2c_l14;
+    w2c_j1 = 1ull;
+    w2c_j0 += w2c_j1;
+    w2c_l7 = w2c_j0;
+    w2c_j0 = w2c_l14;
+    w2c_j1 = w2c_l10;
+    w2c_i0 = w2c_j0 != w2c_j1;
+    if (w2c_i0) {goto w2c_L23;}
+  w2c_B1:;
+  w2c_j0 = w2c_l8;
+  w2c_j1 = 784ull;
+  w2c_j0 += w2c_j1;
+  instance->w2c_g0 = w2c_j0;
+  goto w2c_Bfunc;
+  w2c_B0:;
+  UNREACHABLE;
+  w2c_Bfunc:;
+}
+static void w2c_f35(struct instance *instance, u64 w2c_p0, u32 w2c_p1, u64 w2c_p2, u64 w2c_p3, u64 w2c_p4, u64 w2c_p5) {
+  u32 w2c_l11 = 0;
+  u64 w2c_l6 = 0, w2c_l7 = 0, w2c_l8 = 0, w2c_l9 = 0, w2c_l10 = 0;
+  const struct memory memory = instance->w2c_memory;
+  (void)memory;
+  u32 w2c_i0, w2c_i1, w2c_i2;
+  u64 w2c_j0, w2c_j1, w2c_j2, w2c_j3, w2c_j4;
+  w2c_j0 = instance->w2c_g0;
+  w2c_j1 = 16ull;
+  w2c_j0 -= w2c_j1;
+  w2c_l6 = w2c_j0;
+  instance->w2c_g0 = w2c_j0;
+  w2c_j0 = w2c_l6;
+  w2c_l6 = w2c_j0;
+  w2c_j1 = 16ull;
+  w2c_i0 = (u64)((s64)w2c_j0 < (s64)w2c_j1);
+  if (w2c_i0) {goto w2c_B2;}
+  w2c_j0 = w2c_p5;
+  w2c_i0 = !(w2c_j0);
+  w2c_l11 = w2c_i0;
+  if (w2c_i0) {goto w2c_B0;}
+  w2c_i0 = w2c_p1;
+  w2c_i1 = 255u;
+  w2c_i0 &= w2c_i1;
+  w2c_i0 = !(w2c_i0);
+  if (w2c_i0) {goto w2c_B4;}
+  w2c_j0 = w2c_p2;
+  w2c_j1 = 18446744073709551615ull;
+  w2c_j0 += w2c_j1;
+  w2c_j1 = 1048576ull;
+  w2c_i0 = w2c_j0 < w2c_j1;
+  if (w2c_i0) {goto w2c_B3;}
+  w2c_B4:;
+  w2c_i0 = w2c_l11;
+  if (w2c_i0) {goto w2c_B0;}
+  w2c_j0 = w2c_p4;
+  w2c_i0 = (u32)(w2c_j0);
+  w2c_i1 = 4u;
+  w2c_j2 = w2c_p5;
+  w2c_i2 = (u32)(w2c_j2);
+  memory_fill(memory, w2c_i0, w2c_i1, w2c_i2);
+  goto w2c_B0;
+  w2c_B3:;
+  w2c_j0 = w2c_p2;
+  w2c_j1 = 15ull;
+  w2c_j0 += w2c_j1;
+  w2c_j1 = 4194296ull;
+  w2c_j0 &= w2c_j1;
+  w2c_j1 = 16ull;
+  w2c_i0 = w2c_j0 == w2c_j1;
+  if (w2c_i0) {goto w2c_B5;}
+  w2c_i0 = w2c_l11;
+  if (w2c_i0) {goto w2c_B0;}
+  w2c_j0 = w2c_p4;
+  w2c_i0 = (u32)(w2c_j0);
+  w2c_i1 = 4u;
+  w2c_j2 = w2c_p5;
+  w2c_i2 = (u32)(w2c_j2);
+  memory_fill(memory, w2c_i0, w2c_i1, w2c_i2);
+  goto w2c_B0;
+  w2c_B5:;
+  w2c_j0 = w2c_p2;
+  w2c_j1 = 56ull;
+  w2c_j0 <<= (w2c_j1 & 63);
+  w2c_j1 = w2c_p2;
+  w2c_j2 = 65280ull;
+  w2c_j1 &= w2c_j2;
+  w2c_j2 = 40ull;
+  w2c_j1 <<= (w2c_j2 & 63);
+  w2c_j0 |= w2c_j1;
+  w2c_j1 = w2c_p2;
+  w2c_j2 = 11986710452722728960ull;
+  w2c_j1 |= w2c_j2;
+  w2c_l7 = w2c_j1;
+  w2c_j2 = 16711680ull;
+  w2c_j1 &= w2c_j2;
+  w2c_j2 = 24ull;
+  w2c_j1 <<= (w2c_j2 & 63);
+  w2c_j2 = w2c_l7;
+  w2c_j3 = 4278190080ull;
+  w2c_j2 &= w2c_j3;
+  w2c_j3 = 8ull;
+  w2c_j2 <<= (w2c_j3 & 63);
+  w2c_j1 |= w2c_j2;
+  w2c_j0 |= w2c_j1;
+  w2c_j1 = w2c_l7;
+  w2c_j2 = 8ull;
+  w2c_j1 >>= (w2c_j2 & 63);
+  w2c_j2 = 4278190080ull;
+  w2c_j1 &= w2c_j2;
+  w2c_j2 = w2c_l7;
+  w2c_j3 = 24ull;
+  w2c_j2 >>= (w2c_j3 & 63);
+  w2c_j3 = 16711680ull;
+  w2c_j2 &= w2c_j3;
+  w2c_j1 |= w2c_j2;
+  w2c_j2 = w2c_l7;
+  w2c_j3 = 40ull;
+  w2c_j2 >>= (w2c_j3 & 63);
+  w2c_j3 = 65280ull;
+  w2c_j2 &= w2c_j3;
+  w2c_j3 = w2c_l7;
+  w2c_j4 = 56ull;
+  w2c_j3 >>= (w2c_j4 & 63);
+  w2c_j2 |= w2c_j3;
+  w2c_j1 |= w2c_j2;
+  w2c_j0 |= w2c_j1;
+  w2c_l7 = w2c_j0;
+  w2c_j0 = w2c_p2;
+  w2c_j1 = 8ull;
+  w2c_j0 += w2c_j1;
+  w2c_l8 = w2c_j0;
+  w2c_j1 = 16ull;
+  w2c_i0 = w2c_j0 != w2c_j1;
+  if (w2c_i0) {goto w2c_B6;}
+  w2c_L7: 
+    w2c_j0 = w2c_l6;
+    w2c_i0 = (u32)(w2c_j0);
+    w2c_j1 = w2c_p3;
+    w2c_j2 = 8ull;
+    w2c_j1 += w2c_j2;
+    w2c_p2 = w2c_j1;
+    w2c_i1 = (u32)(w2c_j1);
+    w2c_j1 = step_i64_load(memory, (u64)(w2c_i1));
+    step_i64_store(memory, (u64)(w2c_i0) + 8, w2c_j1);
+    w2c_j0 = w2c_l6;
+    w2c_i0 = (u32)(w2c_j0);
+    w2c_j1 = w2c_l7;
+    step_i64_store(memory, (u64)(w2c_i0), w2c_j1);
+    w2c_j0 = w2c_p0;
+    w2c_i0 = (u32)(w2c_j0);
+    w2c_j0 = step_i64_load(memory, (u64)(w2c_i0));
+    w2c_j1 = w2c_p0;
+    w2c_i1 = (u32)(w2c_j1);
+    w2c_j1 = step_i64_load(memory, (u64)(w2c_i1) + 8u);
+    w2c_j2 = w2c_l6;
+    leaf_encrypt(memory, w2c_j0, w2c_j1, w2c_j2);
+    w2c_j0 = w2c_l6;
+    w2c_i0 = (u32)(w2c_j0);
+    w2c_j0 = step_i64_load(memory, (u64)(w2c_i0) + 8u);
+    w2c_l9 = w2c_j0;
+    w2c_j0 = w2c_p3;
+    w2c_i0 = (u32)(w2c_j0);
+    w2c_j1 = w2c_l6;
+    w2c_i1 = (u32)(w2c_j1);
+    w2c_j1 = step_i64_load(memory, (u64)(w2c_i1));
+    step_i64_store(memory, (u64)(w2c_i0), w2c_j1);
+    w2c_j0 = w2c_p2;
+    w2c_i0 = (u32)(w2c_j0);
+    w2c_j1 = w2c_l9;
+    step_i64_store(memory, (u64)(w2c_i0), w2c_j1);
+    w2c_j0 = w2c_p4;
+    w2c_i0 = (u32)(w2c_j0);
+    w2c_i1 = 0u;
+    i32_store8(memory, (u64)(w2c_i0), w2c_i1);
+    w2c_j0 = w2c_p3;
+    w2c_j1 = 16ull;
+    w2c_j0 += w2c_j1;
+    w2c_p3 = w2c_j0;
+    w2c_j0 = w2c_p4;
+    w2c_j1 = 1ull;
+    w2c_j0 += w2c_j1;
+    w2c_p4 = w2c_j0;
+    w2c_j0 = w2c_p5;
+    w2c_j1 = 18446744073709551615ull;
+    w2c_j0 += w2c_j1;
+    w2c_p5 = w2c_j0;
+    w2c_i0 = !(w2c_j0);
+    w2c_i0 = !(w2c_i0);
+    if (w2c_i0) {goto w2c_L7;}
+    goto w2c_B0;
+  UNREACHABLE;
+  w2c_B6:;
+  w2c_j0 = w2c_p2;
+  w2c_j1 = 7ull;
+  w2c_i0 = w2c_j0 == w2c_j1;
+  if (w2c_i0) {goto w2c_B1;}
+  w2c_j0 = 7ull;
+  w2c_j1 = w2c_p2;
+  w2c_j0 -= w2c_j1;
+  w2c_l10 = w2c_j0;
+  w2c_L8: 
+    w2c_j0 = w2c_l10;
+    w2c_i0 = !(w2c_j0);
+    if (w2c_i0) {goto w2c_B9;}
+    w2c_j0 = w2c_p3;
+    w2c_j1 = w2c_l8;
+    w2c_j0 += w2c_j1;
+    w2c_i0 = (u32)(w2c_j0);
+    w2c_i1 = 0u;
+    w2c_j2 = w2c_l10;
+    w2c_i2 = (u32)(w2c_j2);
+    memory_fill(memory, w2c_i0, w2c_i1, w2c_i2);
+    w2c_B9:;
+    w2c_j0 = w2c_p3;
+    w2c_j1 = 15ull;
+    w2c_j0 += w2c_j1;
+    w2c_i0 = (u32)(w2c_j0);
+    w2c_i1 = 0u;
+    i32_store8(memory, (u64)(w2c_i0), w2c_i1);
+    w2c_j0 = w2c_l6;
+    w2c_i0 = (u32)(w2c_j0);
+    w2c_j1 = w2c_p3;
+    w2c_j2 = 8ull;
+    w2c_j1 += w2c_j2;
+    w2c_p2 = w2c_j1;
+    w2c_i1 = (u32)(w2c_j1);
+    w2c_j1 = step_i64_load(memory, (u64)(w2c_i1));
+    step_i64_store(memory, (u64)(w2c_i0) + 8, w2c_j1);
+    w2c_j0 = w2c_l6;
+    w2c_i0 = (u32)(w2c_j0);
+    w2c_j1 = w2c_l7;
+    step_i64_store(memory, (u64)(w2c_i0), w2c_j1);
+    w2c_j0 = w2c_p0;
+    w2c_i0 = (u32)(w2c_j0);
+    w2c_j0 = step_i64_load(memory, (u64)(w2c_i0));
+    w2c_j1 = w2c_p0;
+    w2c_i1 = (u32)(w2c_j1);
+    w2c_j1 = step_i64_load(memory, (u64)(w2c_i1) + 8u);
+    w2c_j2 = w2c_l6;
+    leaf_encrypt(memory, w2c_j0, w2c_j1, w2c_j2);
+    w2c_j0 = w2c_l6;
+    w2c_i0 = (u32)(w2c_j0);
+    w2c_j0 = step_i64_load(memory, (u64)(w2c_i0) + 8u);
+    w2c_l9 = w2c_j0;
+    w2c_j0 = w2c_p3;
+    w2c_i0 = (u32)(w2c_j0);
+    w2c_j1 = w2c_l6;
+    w2c_i1 = (u32)(w2c_j1);
+    w2c_j1 = step_i64_load(memory, (u64)(w2c_i1));
+    step_i64_store(memory, (u64)(w2c_i0), w2c_j1);
+    w2c_j0 = w2c_p2;
+    w2c_i0 = (u32)(w2c_j0);
+    w2c_j1 = w2c_l9;
+    step_i64_store(memory, (u64)(w2c_i0), w2c_j1);
+    w2c_j0 = w2c_p4;
+    w2c_i0 = (u32)(w2c_j0);
+    w2c_i1 = 0u;
+    i32_store8(memory, (u64)(w2c_i0), w2c_i1);
+    w2c_j0 = w2c_p3;
+    w2c_j1 = 16ull;
+    w2c_j0 += w2c_j1;
+    w2c_p3 = w2c_j0;
+    w2c_j0 = w2c_p4;
+    w2c_j1 = 1ull;
+    w2c_j0 += w2c_j1;
+    w2c_p4 = w2c_j0;
+    w2c_j0 = w2c_p5;
+    w2c_j1 = 18446744073709551615ull;
+    w2c_j0 += w2c_j1;
+    w2c_p5 = w2c_j0;
+    w2c_j1 = 0ull;
+    w2c_i0 = w2c_j0 != w2c_j1;
+    if (w2c_i0) {goto w2c_L8;}
+    goto w2c_B0;
+  UNREACHABLE;
+  w2c_B2:;
+  UNREACHABLE;
+  w2c_B1:;
+  w2c_L10: 
+    w2c_j0 = w2c_p3;
+    w2c_j1 = 15ull;
+    w2c_j0 += w2c_j1;
+    w2c_i0 = (u32)(w2c_j0);
+    w2c_i1 = 0u;
+    i32_store8(memory, (u64)(w2c_i0), w2c_i1);
+    w2c_j0 = w2c_l6;
+    w2c_i0 = (u32)(w2c_j0);
+    w2c_j1 = w2c_p3;
+    w2c_j2 = 8ull;
+    w2c_j1 += w2c_j2;
+    w2c_p2 = w2c_j1;
+    w2c_i1 = (u32)(w2c_j1);
+    w2c_j1 = step_i64_load(memory, (u64)(w2c_i1));
+    step_i64_store(memory, (u64)(w2c_i0) + 8, w2c_j1);
+    w2c_j0 = w2c_l6;
+    w2c_i0 = (u32)(w2c_j0);
+    w2c_j1 = w2c_l7;
+    step_i64_store(memory, (u64)(w2c_i0), w2c_j1);
+    w2c_j0 = w2c_p0;
+    w2c_i0 = (u32)(w2c_j0);
+    w2c_j0 = step_i64_load(memory, (u64)(w2c_i0));
+    w2c_j1 = w2c_p0;
+    w2c_i1 = (u32)(w2c_j1);
+    w2c_j1 = step_i64_load(memory, (u64)(w2c_i1) + 8u);
+    w2c_j2 = w2c_l6;
+    leaf_encrypt(memory, w2c_j0, w2c_j1, w2c_j2);
+    w2c_j0 = w2c_l6;
+    w2c_i0 = (u32)(w2c_j0);
+    w2c_j0 = step_i64_load(memory, (u64)(w2c_i0) + 8u);
+    w2c_l9 = w2c_j0;
+    w2c_j0 = w2c_p3;
+    w2c_i0 = (u32)(w2c_j0);
+    w2c_j1 = w2c_l6;
+    w2c_i1 = (u32)(w2c_j1);
+    w2c_j1 = step_i64_load(memory, (u64)(w2c_i1));
+    step_i64_store(memory, (u64)(w2c_i0), w2c_j1);
+    w2c_j0 = w2c_p2;
+    w2c_i0 = (u32)(w2c_j0);
+    w2c_j1 = w2c_l9;
+    step_i64_store(memory, (u64)(w2c_i0), w2c_j1);
+    w2c_j0 = w2c_p4;
+    w2c_i0 = (u32)(w2c_j0);
+    w2c_i1 = 0u;
+    i32_store8(memory, (u64)(w2c_i0), w2c_i1);
+    w2c_j0 = w2c_p3;
+    w2c_j1 = 16ull;
+    w2c_j0 += w2c_j1;
+    w2c_p3 = w2c_j0;
+    w2c_j0 = w2c_p4;
+    w2c_j1 = 1ull;
+    w2c_j0 += w2c_j1;
+    w2c_p4 = w2c_j0;
+    w2c_j0 = w2c_p5;
+    w2c_j1 = 18446744073709551615ull;
+    w2c_j0 += w2c_j1;
+    w2c_p5 = w2c_j0;
+    w2c_i0 = !(w2c_j0);
+    w2c_i0 = !(w2c_i0);
+    if (w2c_i0) {goto w2c_L10;}
+  w2c_B0:;
+  w2c_j0 = w2c_l6;
+  w2c_j1 = 16ull;
+  w2c_j0 += w2c_j1;
+  instance->w2c_g0 = w2c_j0;
+}
+static void w2c_f36(struct instance *instance, u64 w2c_p0, u32 w2c_p1, u64 w2c_p2, u64 w2c_p3, u64 w2c_p4, u64 w2c_p5, u64 w2c_p6) {
+  u32 w2c_l36 = 0, w2c_l37 = 0;
+  u64 w2c_l7 = 0, w2c_l8 = 0, w2c_l9 = 0, w2c_l10 = 0, w2c_l11 = 0, w2c_l12 = 0, w2c_l13 = 0, w2c_l14 = 0, 
+      w2c_l15 = 0, w2c_l16 = 0, w2c_l17 = 0, w2c_l18 = 0, w2c_l19 = 0, w2c_l20 = 0, w2c_l21 = 0, w2c_l22 = 0, 
+      w2c_l23 = 0, w2c_l24 = 0, w2c_l25 = 0, w2c_l26 = 0, w2c_l27 = 0, w2c_l28 = 0, w2c_l29 = 0, w2c_l30 = 0, 
+      w2c_l31 = 0, w2c_l32 = 0, w2c_l33 = 0, w2c_l34 = 0, w2c_l35 = 0;
+  const struct memory memory = instance->w2c_memory;
+  (void)memory;
+  u32 w2c_i0, w2c_i1, w2c_i2, w2c_i3, w2c_i4;
+  u64 w2c_j0, w2c_j1, w2c_j2, w2c_j3, w2c_j4, w2c_j5, w2c_j6;
+  w2c_j0 = instance->w2c_g0;
+  w2c_j1 = 800ull;
+  w2c_j0 -= w2c_j1;
+  w2c_l7 = w2c_j0;
+  instance->w2c_g0 = w2c_j0;
+  w2c_j0 = w2c_l7;
+  w2c_l8 = w2c_j0;
+  w2c_j1 = 16ull;
+  w2c_i0 = (u64)((s64)w2c_j0 < (s64)w2c_j1);
+  if (w2c_i0) {goto w2c_B2;}
+  w2c_j0 = w2c_l8;
+  w2c_j1 = 32ull;
+  w2c_j0 += w2c_j1;
+  w2c_i0 = (u32)(w2c_j0);
+  w2c_i1 = 0u;
+  w2c_j2 = 768ull;
+  w2c_i2 = (u32)(w2c_j2);
+  memory_fill(memory, w2c_i0, w2c_i1, w2c_i2);
+  w2c_j0 = w2c_p3;
+  w2c_j1 = 18446744073709551592ull;
+  w2c_j0 += w2c_j1;
+  w2c_j1 = 1048561ull;
+  w2c_i0 = w2c_j0 < w2c_j1;
+  w2c_j1 = w2c_p3;
+  w2c_j2 = 7ull;
+  w2c_j1 &= w2c_j2;
+  w2c_i1 = !(w2c_j1);
+  w2c_i0 &= w2c_i1;
+  w2c_l36 = w2c_i0;
+  w2c_j0 = 48ull;
+  w2c_l9 = w2c_j0;
+  w2c_j0 = w2c_p6;
+  w2c_j1 = 48ull;
+  w2c_j0 = DIV_U(w2c_j0, w2c_j1);
+  w2c_l10 = w2c_j0;
+  w2c_i0 = w2c_p1;
+  w2c_i1 = 255u;
+  w2c_i0 &= w2c_i1;
+  w2c_i0 = !(w2c_i0);
+  if (w2c_i0) {goto w2c_B1;}
+  w2c_j0 = w2c_p2;
+  w2c_j1 = 56ull;
+  w2c_j0 <<= (w2c_j1 & 63);
+  w2c_j1 = w2c_p2;
+  w2c_j2 = 65280ull;
+  w2c_j1 &= w2c_j2;
+  w2c_j2 = 40ull;
+  w2c_j1 <<= (w2c_j2 & 63);
+  w2c_j0 |= w2c_j1;
+  w2c_j1 = w2c_p2;
+  w2c_j2 = 11986710452722728960ull;
+  w2c_j1 |= w2c_j2;
+  w2c_l7 = w2c_j1;
+  w2c_j2 = 16711680ull;
+  w2c_j1 &= w2c_j2;
+  w2c_j2 = 24ull;
+  w2c_j1 <<= (w2c_j2 & 63);
+  w2c_j2 = w2c_l7;
+  w2c_j3 = 4278190080ull;
+  w2c_j2 &= w2c_j3;
+  w2c_j3 = 8ull;
+  w2c_j2 <<= (w2c_j3 & 63);
+  w2c_j1 |= w2c_j2;
+  w2c_j0 |= w2c_j1;
+  w2c_j1 = w2c_l7;
+  w2c_j2 = 8ull;
+  w2c_j1 >>= (w2c_j2 & 63);
+  w2c_j2 = 4278190080ull;
+  w2c_j1 &= w2c_j2;
+  w2c_j2 = w2c_l7;
+  w2c_j3 = 24ull;
+  w2c_j2 >>= (w2c_j3 & 63);
+  w2c_j3 = 16711680ull;
+  w2c_j2 &= w2c_j3;
+  w2c_j1 |= w2c_j2;
+  w2c_j2 = w2c_l7;
+  w2c_j3 = 40ull;
+  w2c_j2 >>= (w2c_j3 & 63);
+  w2c_j3 = 65280ull;
+  w2c_j2 &= w2c_j3;
+  w2c_j3 = w2c_l7;
+  w2c_j4 = 56ull;
+  w2c_j3 >>= (w2c_j4 & 63);
+  w2c_j2 |= w2c_j3;
+  w2c_j1 |= w2c_j2;
+  w2c_j0 |= w2c_j1;
+  w2c_l11 = w2c_j0;
+  w2c_j0 = w2c_p3;
+  w2c_j1 = 18446744073709551608ull;
+  w2c_j0 += w2c_j1;
+  w2c_l12 = w2c_j0;
+  w2c_j1 = w2c_p2;
+  w2c_j2 = 18446744073709551615ull;
+  w2c_j1 ^= w2c_j2;
+  w2c_j0 += w2c_j1;
+  w2c_l13 = w2c_j0;
+  w2c_j0 = w2c_p2;
+  w2c_j1 = 18446744073709551615ull;
+  w2c_j0 += w2c_j1;
+  w2c_l14 = w2c_j0;
+  w2c_j0 = w2c_p2;
+  w2c_j1 = 15ull;
+  w2c_j0 += w2c_j1;
+  w2c_j1 = 4194296ull;
+  w2c_j0 &= w2c_j1;
+  w2c_l15 = w2c_j0;
+  w2c_j0 = w2c_p4;
+  w2c_j1 = 8ull;
+  w2c_j0 += w2c_j1;
+  w2c_l16 = w2c_j0;
+  w2c_j0 = w2c_p2;
+  w2c_j1 = 8ull;
+  w2c_j0 += w2c_j1;
+  w2c_l17 = w2c_j0;
+  w2c_j0 = w2c_p3;
+  w2c_j1 = 48ull;
+  w2c_j0 *= w2c_j1;
+  w2c_l18 = w2c_j0;
+  w2c_j0 = w2c_p3;
+  w2c_j1 = 8ull;
+  w2c_j0 += w2c_j1;
+  w2c_l19 = w2c_j0;
+  w2c_j1 = w2c_p2;
+  w2c_j0 += w2c_j1;
+  w2c_l20 = w2c_j0;
+  w2c_j0 = w2c_p3;
+  w2c_j1 = 1ull;
+  w2c_j0 <<= (w2c_j1 & 63);
+  w2c_l21 = w2c_j0;
+  w2c_j1 = 18446744073709551615ull;
+  w2c_j0 += w2c_j1;
+  w2c_l22 = w2c_j0;
+  w2c_j0 = 0ull;
+  w2c_l7 = w2c_j0;
+  w2c_j0 = 0ull;
+  w2c_l23 = w2c_j0;
+  w2c_j0 = w2c_p4;
+  w2c_l24 = w2c_j0;
+  w2c_L3: 
+    w2c_j0 = w2c_l23;
+    w2c_j1 = w2c_p6;
+    w2c_j2 = w2c_l9;
+    w2c_j3 = w2c_p6;
+    w2c_j4 = w2c_l9;
+    w2c_i3 = w2c_j3 < w2c_j4;
+    w2c_j1 = w2c_i3 ? w2c_j1 : w2c_j2;
+    w2c_l25 = w2c_j1;
+    w2c_j0 += w2c_j1;
+    w2c_j1 = 1152921504606846975ull;
+    w2c_j0 &= w2c_j1;
+    w2c_l26 = w2c_j0;
+    w2c_j0 = w2c_p6;
+    w2c_j1 = w2c_l7;
+    w2c_l27 = w2c_j1;
+    w2c_j2 = 48ull;
+    w2c_j1 *= w2c_j2;
+    w2c_l7 = w2c_j1;
+    w2c_j2 = 48ull;
+    w2c_j1 += w2c_j2;
+    w2c_l28 = w2c_j1;
+    w2c_j2 = w2c_p6;
+    w2c_j3 = w2c_l28;
+    w2c_i2 = w2c_j2 < w2c_j3;
+    w2c_j0 = w2c_i2 ? w2c_j0 : w2c_j1;
+    w2c_l29 = w2c_j0;
+    w2c_j1 = w2c_l7;
+    w2c_j0 -= w2c_j1;
+    w2c_l28 = w2c_j0;
+    w2c_j1 = 4ull;
+    w2c_j0 <<= (w2c_j1 & 63);
+    w2c_l30 = w2c_j0;
+    w2c_j0 = w2c_l28;
+    w2c_j1 = w2c_p3;
+    w2c_j0 *= w2c_j1;
+    w2c_l31 = w2c_j0;
+    w2c_j0 = w2c_p4;
+    w2c_j1 = w2c_l7;
+    w2c_j2 = w2c_p3;
+    w2c_j1 *= w2c_j2;
+    w2c_j0 += w2c_j1;
+    w2c_l32 = w2c_j0;
+    w2c_j0 = w2c_l28;
+    w2c_j1 = 1152921504606846975ull;
+    w2c_j0 &= w2c_j1;
+    w2c_l33 = w2c_j0;
+    w2c_i0 = !(w2c_j0);
+    w2c_l37 = w2c_i0;
+    if (w2c_i0) {goto w2c_B4;}
+    w2c_j0 = w2c_l14;
+    w2c_j1 = 1048576ull;
+    w2c_i0 = w2c_j0 < w2c_j1;
+    if (w2c_i0) {goto w2c_B5;}
+    w2c_j0 = w2c_l30;
+    w2c_i0 = !(w2c_j0);
+    if (w2c_i0) {goto w2c_B4;}
+    w2c_j0 = w2c_l8;
+    w2c_j1 = 32ull;
+    w2c_j0 += w2c_j1;
+    w2c_i0 = (u32)(w2c_j0);
+    w2c_i1 = 0u;
+    w2c_j2 = w2c_l30;
+    w2c_i2 = (u32)(w2c_j2);
+    memory_fill(memory, w2c_i0, w2c_i1, w2c_i2);
+    goto w2c_B4;
+    w2c_B5:;
+    w2c_j0 = w2c_p3;
+    w2c_j1 = w2c_l15;
+    w2c_i0 = w2c_j0 == w2c_j1;
+    if (w2c_i0) {goto w2c_B6;}
+    w2c_j0 = w2c_l30;
+    w2c_i0 = !(w2c_j0);
+    if (w2c_i0) {goto w2c_B4;}
+    w2c_j0 = w2c_l8;
+    w2c_j1 = 32ull;
+    w2c_j0 += w2c_j1;
+    w2c_i0 = (u32)(w2c_j0);
+    w2c_i1 = 0u;
+    w2c_j2 = w2c_l30;
+    w2c_i2 = (u32)(w2c_j2);
+    memory_fill(memory, w2c_i0, w2c_i1, w2c_i2);
+    goto w2c_B4;
+    w2c_B6:;
+    w2c_j0 = w2c_l26;
+    w2c_j1 = w2c_l25;
+    w2c_j2 = 1ull;
+    w2c_j1 &= w2c_j2;
+    w2c_j0 -= w2c_j1;
+    w2c_l34 = w2c_j0;
+    w2c_j0 = w2c_l27;
+    w2c_j1 = 1152921504606846928ull;
+    w2c_j0 *= w2c_j1;
+    w2c_j1 = w2c_l29;
+    w2c_j0 += w2c_j1;
+    w2c_j1 = 1152921504606846975ull;
+    w2c_j0 &= w2c_j1;
+    w2c_l7 = w2c_j0;
+    w2c_j0 = w2c_l12;
+    w2c_j1 = w2c_p2;
+    w2c_i0 = w2c_j0 != w2c_j1;
+    if (w2c_i0) {goto w2c_B7;}
+    w2c_j0 = 0ull;
+    w2c_l25 = w2c_j0;
+    w2c_j0 = w2c_l7;
+    w2c_j1 = 1ull;
+    w2c_i0 = w2c_j0 == w2c_j1;
+    if (w2c_i0) {goto w2c_B8;}
+    w2c_j0 = w2c_l29;
+    w2c_j1 = 1ull;
+    w2c_j0 &= w2c_j1;
+    w2c_l29 = w2c_j0;
+    w2c_j0 = 0ull;
+    w2c_l25 = w2c_j0;
+    w2c_j0 = w2c_l8;
+    w2c_j1 = 32ull;
+    w2c_j0 += w2c_j1;
+    w2c_l7 = w2c_j0;
+    w2c_j0 = w2c_l16;
+    w2c_l28 = w2c_j0;
+    w2c_L9: 
+      w2c_j0 = w2c_l7;
+      w2c_i0 = (u32)(w2c_j0);
+      w2c_j1 = w2c_l11;
+      step_i64_store(memory, (u64)(w2c_i0), w2c_j1);
+      w2c_j0 = w2c_l7;
+      w2c_j1 = 8ull;
+      w2c_j0 += w2c_j1;
+      w2c_i0 = (u32)(w2c_j0);
+      w2c_j1 = w2c_l28;
+      w2c_i1 = (u32)(w2c_j1);
+      w2c_j1 = step_i64_load(memory, (u64)(w2c_i1));
+      step_i64_store(memory, (u64)(w2c_i0), w2c_j1);
+      w2c_j0 = w2c_l7;
+      w2c_j1 = 16ull;
+      w2c_j0 += w2c_j1;
+      w2c_i0 = (u32)(w2c_j0);
+      w2c_j1 = w2c_l11;
+      step_i64_store(memory, (u64)(w2c_i0), w2c_j1);
+      w2c_j0 = w2c_l7;
+      w2c_j1 = 24ull;
+      w2c_j0 += w2c_j1;
+      w2c_i0 = (u32)(w2c_j0);
+      w2c_j1 = w2c_l28;
+      w2c_j2 = w2c_p3;
+      w2c_j1 += w2c_j2;
+      w2c_i1 = (u32)(w2c_j1);
+      w2c_j1 = step_i64_load(memory, (u64)(w2c_i1));
+      step_i64_store(memory, (u64)(w2c_i0), w2c_j1);
+      w2c_j0 = w2c_l7;
+      w2c_j1 = 32ull;
+      w2c_j0 += w2c_j1;
+      w2c_l7 = w2c_j0;
+      w2c_j0 = w2c_l28;
+      w2c_j1 = w2c_l21;
+      w2c_j0 += w2c_j1;
+      w2c_l28 = w2c_j0;
+      w2c_j0 = w2c_l34;
+      w2c_j1 = w2c_l25;
+      w2c_j2 = 2ull;
+      w2c_j1 += w2c_j2;
+      w2c_l25 = w2c_j1;
+      w2c_i0 = w2c_j0 != w2c_j1;
+      if (w2c_i0) {goto w2c_L9;}
+    w2c_j0 = w2c_l29;
+    w2c_i0 = !(w2c_j0);
+    if (w2c_i0) {goto w2c_B4;}
+    w2c_B8:;
+    w2c_j0 = w2c_l8;
+    w2c_j1 = 32ull;
+    w2c_j0 += w2c_j1;
+    w2c_j1 = w2c_l25;
+    w2c_j2 = 4ull;
+    w2c_j1 <<= (w2c_j2 & 63);
+    w2c_j0 += w2c_j1;
+    w2c_l7 = w2c_j0;
+    w2c_i0 = (u32)(w2c_j0);
+    w2c_j1 = w2c_l11;
+    step_i64_store(memory, (u64)(w2c_i0), w2c_j1);
+    w2c_j0 = w2c_l7;
+    w2c_i0 = (u32)(w2c_j0);
+    w2c_j1 = w2c_l32;
+    w2c_j2 = w2c_l25;
+    w2c_j3 = w2c_p3;
+    w2c_j2 *= w2c_j3;
+    w2c_j1 += w2c_j2;
+    w2c_j2 = 8ull;
+    w2c_j1 += w2c_j2;
+    w2c_i1 = (u32)(w2c_j1);
+    w2c_j1 = step_i64_load(memory, (u64)(w2c_i1));
+    step_i64_store(memory, (u64)(w2c_i0) + 8, w2c_j1);
+    goto w2c_B4;
+    w2c_B7:;
+    w2c_j0 = w2c_l13;
+    w2c_i0 = !(w2c_j0);
+    w2c_p1 = w2c_i0;
+    if (w2c_i0) {goto w2c_B10;}
+    w2c_j0 = 0ull;
+    w2c_l25 = w2c_j0;
+    w2c_j0 = w2c_l7;
+    w2c_j1 = 1ull;
+    w2c_i0 = w2c_j0 == w2c_j1;
+    if (w2c_i0) {goto w2c_B11;}
+    w2c_j0 = w2c_l29;
+    w2c_j1 = 1ull;
+    w2c_j0 &= w2c_j1;
+    w2c_l35 = w2c_j0;
+    w2c_j0 = 0ull;
+    w2c_l25 = w2c_j0;
+    w2c_j0 = w2c_l8;
+    w2c_j1 = 32ull;
+    w2c_j0 += w2c_j1;
+    w2c_l7 = w2c_j0;
+    w2c_j0 = w2c_l24;
+    w2c_l28 = w2c_j0;
+    w2c_L12: 
+      w2c_i0 = w2c_p1;
+      if (w2c_i0) {goto w2c_B13;}
+      w2c_j0 = w2c_l28;
+      w2c_j1 = w2c_l17;
+      w2c_j0 += w2c_j1;
+      w2c_i0 = (u32)(w2c_j0);
+      w2c_i1 = 0u;
+      w2c_j2 = w2c_l13;
+      w2c_i2 = (u32)(w2c_j2);
+      memory_fill(memory, w2c_i0, w2c_i1, w2c_i2);
+      w2c_B13:;
+      w2c_j0 = w2c_l28;
+      w2c_j1 = w2c_p3;
+      w2c_j0 += w2c_j1;
+      w2c_l29 = w2c_j0;
+      w2c_j1 = 18446744073709551615ull;
+      w2c_j0 += w2c_j1;
+      w2c_i0 = (u32)(w2c_j0);
+      w2c_i1 = 0u;
+      i32_store8(memory, (u64)(w2c_i0), w2c_i1);
+      w2c_j0 = w2c_l7;
+      w2c_i0 = (u32)(w2c_j0);
+      w2c_j1 = w2c_l11;
+      step_i64_store(memory, (u64)(w2c_i0), w2c_j1);
+      w2c_j0 = w2c_l7;
+      w2c_j1 = 8ull;
+      w2c_j0 += w2c_j1;
+      w2c_i0 = (u32)(w2c_j0);
+      w2c_j1 = w2c_l28;
+      w2c_j2 = 8ull;
+      w2c_j1 += w2c_j2;
+      w2c_i1 = (u32)(w2c_j1);
+      w2c_j1 = step_i64_load(memory, (u64)(w2c_i1));
+      step_i64_store(memory, (u64)(w2c_i0), w2c_j1);
+      w2c_i0 = w2c_p1;
+      if (w2c_i0) {goto w2c_B14;}
+      w2c_j0 = w2c_l28;
+      w2c_j1 = w2c_l20;
+      w2c_j0 += w2c_j1;
+      w2c_i0 = (u32)(w2c_j0);
+      w2c_i1 = 0u;
+      w2c_j2 = w2c_l13;
+      w2c_i2 = (u32)(w2c_j2);
+      memory_fill(memory, w2c_i0, w2c_i1, w2c_i2);
+      w2c_B14:;
+      w2c_j0 = w2c_l28;
+      w2c_j1 = w2c_l22;
+      w2c_j0 += w2c_j1;
+      w2c_i0 = (u32)(w2c_j0);
+      w2c_i1 = 0u;
+      i32_store8(memory, (u64)(w2c_i0), w2c_i1);
+      w2c_j0 = w2c_l7;
+      w2c_j1 = 16ull;
+      w2c_j0 += w2c_j1;
+      w2c_i0 = (u32)(w2c_j0);
+      w2c_j1 = w2c_l11;
+      step_i64_store(memory, (u64)(w2c_i0), w2c_j1);
+      w2c_j0 = w2c_l7;
+      w2c_j1 = 24ull;
+      w2c_j0 += w2c_j1;
+      w2c_i0 = (u32)(w2c_j0);
+      w2c_j1 = w2c_l29;
+      w2c_j2 = 8ull;
+      w2c_j1 += w2c_j2;
+      w2c_i1 = (u32)(w2c_j1);
+      w2c_j1 = step_i64_load(memory, (u64)(w2c_i1));
+      step_i64_store(memory, (u64)(w2c_i0), w2c_j1);
+      w2c_j0 = w2c_l7;
+      w2c_j1 = 32ull;
+      w2c_j0 += w2c_j1;
+      w2c_l7 = w2c_j0;
+      w2c_j0 = w2c_l28;
+      w2c_j1 = w2c_l21;
+      w2c_j0 += w2c_j1;
+      w2c_l28 = w2c_j0;
+      w2c_j0 = w2c_l34;
+      w2c_j1 = w2c_l25;
+      w2c_j2 = 2ull;
+      w2c_j1 += w2c_j2;
+      w2c_l25 = w2c_j1;
+      w2c_i0 = w2c_j0 != w2c_j1;
+      if (w2c_i0) {goto w2c_L12;}
+    w2c_j0 = w2c_l35;
+    w2c_i0 = !(w2c_j0);
+    if (w2c_i0) {goto w2c_B4;}
+    w2c_B11:;
+    w2c_j0 = w2c_l32;
+    w2c_j1 = w2c_l25;
+    w2c_j2 = w2c_p3;
+    w2c_j1 *= w2c_j2;
+    w2c_j0 += w2c_j1;
+    w2c_j1 = 8ull;
+    w2c_j0 += w2c_j1;
+    w2c_l28 = w2c_j0;
+    w2c_j1 = w2c_p2;
+    w2c_j0 += w2c_j1;
+    w2c_l7 = w2c_j0;
+    w2c_i0 = w2c_p1;
+    if (w2c_i0) {goto w2c_B15;}
+    w2c_j0 = w2c_l7;
+    w2c_i0 = (u32)(w2c_j0);
+    w2c_i1 = 0u;
+    w2c_j2 = w2c_l13;
+    w2c_i2 = (u32)(w2c_j2);
+    memory_fill(memory, w2c_i0, w2c_i1, w2c_i2);
+    w2c_B15:;
+    w2c_j0 = w2c_l7;
+    w2c_j1 = w2c_l13;
+    w2c_j0 += w2c_j1;
+    w2c_i0 = (u32)(w2c_j0);
+    w2c_i1 = 0u;
+    i32_store8(memory, (u64)(w2c_i0), w2c_i1);
+    w2c_j0 = w2c_l8;
+    w2c_j1 = 32ull;
+    w2c_j0 += w2c_j1;
+    w2c_j1 = w2c_l25;
+    w2c_j2 = 4ull;
+    w2c_j1 <<= (w2c_j2 & 63);
+    w2c_j0 += w2c_j1;
+    w2c_l7 = w2c_j0;
+    w2c_i0 = (u32)(w2c_j0);
+    w2c_j1 = w2c_l11;
+    step_i64_store(memory, (u64)(w2c_i0), w2c_j1);
+    w2c_j0 = w2c_l7;
+    w2c_i0 = (u32)(w2c_j0);
+    w2c_j1 = w2c_l28;
+    w2c_i1 = (u32)(w2c_j1);
+    w2c_j1 = step_i64_load(memory, (u64)(w2c_i1));
+    step_i64_store(memory, (u64)(w2c_i0) + 8, w2c_j1);
+    goto w2c_B4;
+    w2c_B10:;
+    w2c_j0 = 0ull;
+    w2c_l25 = w2c_j0;
+    w2c_j0 = w2c_l7;
+    w2c_j1 = 1ull;
+    w2c_i0 = w2c_j0 == w2c_j1;
+    if (w2c_i0) {goto w2c_B16;}
+    w2c_j0 = w2c_l29;
+    w2c_j1 = 1ull;
+    w2c_j0 &= w2c_j1;
+    w2c_l35 = w2c_j0;
+    w2c_j0 = 0ull;
+    w2c_l25 = w2c_j0;
+    w2c_j0 = w2c_l8;
+    w2c_j1 = 32ull;
+    w2c_j0 += w2c_j1;
+    w2c_l7 = w2c_j0;
+    w2c_j0 = w2c_l24;
+    w2c_l28 = w2c_j0;
+    w2c_L17: 
+      w2c_j0 = w2c_l28;
+      w2c_j1 = w2c_l17;
+      w2c_j0 += w2c_j1;
+      w2c_i0 = (u32)(w2c_j0);
+      w2c_i1 = 0u;
+      i32_store8(memory, (u64)(w2c_i0), w2c_i1);
+      w2c_j0 = w2c_l28;
+      w2c_j1 = 8ull;
+      w2c_j0 += w2c_j1;
+      w2c_i0 = (u32)(w2c_j0);
+      w2c_j0 = step_i64_load(memory, (u64)(w2c_i0));
+      w2c_l29 = w2c_j0;
+      w2c_j0 = w2c_l28;
+      w2c_j1 = w2c_l20;
+      w2c_j0 += w2c_j1;
+      w2c_i0 = (u32)(w2c_j0);
+      w2c_i1 = 0u;
+      i32_store8(memory, (u64)(w2c_i0), w2c_i1);
+      w2c_j0 = w2c_l7;
+      w2c_i0 = (u32)(w2c_j0);
+      w2c_j1 = w2c_l11;
+      step_i64_store(memory, (u64)(w2c_i0), w2c_j1);
+      w2c_j0 = w2c_l7;
+      w2c_j1 = 16ull;
+      w2c_j0 += w2c_j1;
+      w2c_i0 = (u32)(w2c_j0);
+      w2c_j1 = w2c_l11;
+      step_i64_store(memory, (u64)(w2c_i0), w2c_j1);
+      w2c_j0 = w2c_l7;
+      w2c_j1 = 8ull;
+      w2c_j0 += w2c_j1;
+      w2c_i0 = (u32)(w2c_j0);
+      w2c_j1 = w2c_l29;
+      step_i64_store(memory, (u64)(w2c_i0), w2c_j1);
+      w2c_j0 = w2c_l7;
+      w2c_j1 = 24ull;
+      w2c_j0 += w2c_j1;
+      w2c_i0 = (u32)(w2c_j0);
+      w2c_j1 = w2c_l28;
+      w2c_j2 = w2c_l19;
+      w2c_j1 += w2c_j2;
+      w2c_i1 = (u32)(w2c_j1);
+      w2c_j1 = step_i64_load(memory, (u64)(w2c_i1));
+      step_i64_store(memory, (u64)(w2c_i0), w2c_j1);
+      w2c_j0 = w2c_l7;
+      w2c_j1 = 32ull;
+      w2c_j0 += w2c_j1;
+      w2c_l7 = w2c_j0;
+      w2c_j0 = w2c_l28;
+      w2c_j1 = w2c_l21;
+      w2c_j0 += w2c_j1;
+      w2c_l28 = w2c_j0;
+      w2c_j0 = w2c_l34;
+      w2c_j1 = w2c_l25;
+      w2c_j2 = 2ull;
+      w2c_j1 += w2c_j2;
+      w2c_l25 = w2c_j1;
+      w2c_i0 = w2c_j0 != w2c_j1;
+      if (w2c_i0) {goto w2c_L17;}
+    w2c_j0 = w2c_l35;
+    w2c_i0 = !(w2c_j0);
+    if (w2c_i0) {goto w2c_B4;}
+    w2c_B16:;
+    w2c_j0 = w2c_l32;
+    w2c_j1 = w2c_l25;
+    w2c_j2 = w2c_p3;
+    w2c_j1 *= w2c_j2;
+    w2c_j0 += w2c_j1;
+    w2c_j1 = 8ull;
+    w2c_j0 += w2c_j1;
+    w2c_l7 = w2c_j0;
+    w2c_j1 = w2c_p2;
+    w2c_j0 += w2c_j1;
+    w2c_i0 = (u32)(w2c_j0);
+    w2c_i1 = 0u;
+    i32_store8(memory, (u64)(w2c_i0), w2c_i1);
+    w2c_j0 = w2c_l8;
+    w2c_j1 = 32ull;
+    w2c_j0 += w2c_j1;
+    w2c_j1 = w2c_l25;
+    w2c_j2 = 4ull;
+    w2c_j1 <<= (w2c_j2 & 63);
+    w2c_j0 += w2c_j1;
+    w2c_l28 = w2c_j0;
+    w2c_i0 = (u32)(w2c_j0);
+    w2c_j1 = w2c_l11;
+    step_i64_store(memory, (u64)(w2c_i0), w2c_j1);
+    w2c_j0 = w2c_l28;
+    w2c_i0 = (u32)(w2c_j0);
+    w2c_j1 = w2c_l7;
+    w2c_i1 = (u32)(w2c_j1);
+    w2c_j1 = step_i64_load(memory, (u64)(w2c_i1));
+    step_i64_store(memory, (u64)(w2c_i0) + 8, w2c_j1);
+    w2c_B4:;
+    w2c_j0 = w2c_p0;
+    w2c_j1 = w2c_l32;
+    w2c_j2 = w2c_l31;
+    w2c_j3 = w2c_p3;
+    w2c_j4 = w2c_l8;
+    w2c_j5 = 32ull;
+    w2c_j4 += w2c_j5;
+    w2c_j5 = w2c_l30;
+    w2c_f23(instance, w2c_j0, w2c_j1, w2c_j2, w2c_j3, w2c_j4, w2c_j5);
+    w2c_i0 = w2c_l36;
+    w2c_i0 = !(w2c_i0);
+    if (w2c_i0) {goto w2c_B18;}
+    w2c_j0 = w2c_l8;
+    w2c_j1 = 16ull;
+    w2c_j0 += w2c_j1;
+    w2c_j1 = w2c_l33;
+    w2c_j2 = 0ull;
+    w2c_j3 = w2c_p3;
+    w2c_j4 = 0ull;
+    w2c_f9(instance, w2c_j0, w2c_j1, w2c_j2, w2c_j3, w2c_j4);
+    w2c_i0 = w2c_l37;
+    if (w2c_i0) {goto w2c_B18;}
+    w2c_j0 = w2c_l8;
+    w2c_i0 = (u32)(w2c_j0);
+    w2c_j0 = step_i64_load(memory, (u64)(w2c_i0) + 24u);
+    w2c_j1 = 0ull;
+    w2c_i0 = w2c_j0 != w2c_j1;
+    w2c_p1 = w2c_i0;
+    if (w2c_i0) {goto w2c_B18;}
+    w2c_j0 = 0ull;
+    w2c_j1 = w2c_l33;
+    w2c_j2 = w2c_p3;
+    w2c_j1 *= w2c_j2;
+    w2c_i2 = w2c_p1;
+    w2c_j0 = w2c_i2 ? w2c_j0 : w2c_j1;
+    w2c_j1 = w2c_l31;
+    w2c_i0 = w2c_j0 != w2c_j1;
+    if (w2c_i0) {goto w2c_B18;}
+    w2c_j0 = w2c_l8;
+    w2c_j1 = 32ull;
+    w2c_j0 += w2c_j1;
+    w2c_l7 = w2c_j0;
+    w2c_j0 = w2c_l24;
+    w2c_l28 = w2c_j0;
+    w2c_L19: 
+      w2c_j0 = w2c_l28;
+      w2c_j1 = w2c_l7;
+      w2c_j0 -= w2c_j1;
+      w2c_j1 = 7ull;
+      w2c_i0 = w2c_j0 > w2c_j1;
+      if (w2c_i0) {goto w2c_B21;}
+      w2c_j0 = w2c_l28;
+      w2c_i0 = (u32)(w2c_j0);
+      w2c_j1 = w2c_l7;
+      w2c_i1 = (u32)(w2c_j1);
+      w2c_j1 = step_i64_load(memory, (u64)(w2c_i1));
+      step_i64_store(memory, (u64)(w2c_i0), w2c_j1);
+      goto w2c_B20;
+      w2c_B21:;
+      w2c_j0 = w2c_l28;
+      w2c_i0 = (u32)(w2c_j0);
+      w2c_j1 = w2c_l7;
+      w2c_i1 = (u32)(w2c_j1);
+      w2c_j1 = step_i64_load(memory, (u64)(w2c_i1));
+      step_i64_store(memory, (u64)(w2c_i0), w2c_j1);
+      w2c_B20:;
+      w2c_j0 = w2c_l28;
+      w2c_j1 = w2c_p3;
+      w2c_j0 += w2c_j1;
+      w2c_l28 = w2c_j0;
+      w2c_j0 = w2c_l7;
+      w2c_j1 = 16ull;
+      w2c_j0 += w2c_j1;
+      w2c_l7 = w2c_j0;
+      w2c_j0 = w2c_l26;
+      w2c_j1 = 18446744073709551615ull;
+      w2c_j0 += w2c_j1;
+      w2c_l26 = w2c_j0;
+      w2c_j1 = 0ull;
+      w2c_i0 = w2c_j0 != w2c_j1;
+      if (w2c_i0) {goto w2c_L19;}
+    w2c_B18:;
+    w2c_j0 = w2c_l16;
+    w2c_j1 = w2c_l18;
+    w2c_j0 += w2c_j1;
+    w2c_l16 = w2c_j0;
+    w2c_j0 = w2c_l9;
+    w2c_j1 = 48ull;
+    w2c_j0 += w2c_j1;
+    w2c_l9 = w2c_j0;
+    w2c_j0 = w2c_l23;
+    w2c_j1 = 1152921504606846928ull;
+    w2c_j0 += w2c_j1;
+    w2c_l23 = w2c_j0;
+    w2c_j0 = w2c_l24;
+    w2c_j1 = w2c_l18;
+    w2c_j0 += w2c_j1;
+    w2c_l24 = w2c_j0;
+    w2c_j0 = w2c_l27;
+    w2c_j1 = 1ull;
+    w2c_j0 += w2c_j1;
+    w2c_l7 = w2c_j0;
+    w2c_j0 = w2c_l27;
+    w2c_j1 = w2c_l10;
+    w2c_i0 = w2c_j0 != w2c_j1;
+    if (w2c_i0) {goto w2c_L3;}
+    goto w2c_B0;
+  UNREACHABLE;
+  w2c_B2:;
+  UNREACHABLE;
+  w2c_B1:;
+  w2c_i0 = w2c_l36;
+  if (w2c_i0) {goto w2c_B22;}
+  w2c_j0 = w2c_p3;
+  w2c_j1 = 48ull;
+  w2c_j0 *= w2c_j1;
+  w2c_l9 = w2c_j0;
+  w2c_j0 = w2c_l10;
+  w2c_j1 = 1ull;
+  w2c_j0 += w2c_j1;
+  w2c_l26 = w2c_j0;
+  w2c_j0 = 0ull;
+  w2c_l28 = w2c_j0;
+  w2c_j0 = 48ull;
+  w2c_l7 = w2c_j0;
+  w2c_L23: 
+    w2c_j0 = w2c_p0;
+    w2c_j1 = w2c_p4;
+    w2c_j2 = w2c_p6;
+    w2c_j3 = w2c_l7;
+    w2c_j4 = w2c_p6;
+    w2c_j5 = w2c_l7;
+    w2c_i4 = w2c_j4 < w2c_j5;
+    w2c_j2 = w2c_i4 ? w2c_j2 : w2c_j3;
+    w2c_j3 = w2c_l28;
+    w2c_j2 += w2c_j3;
+    w2c_l11 = w2c_j2;
+    w2c_j3 = w2c_p3;
+    w2c_j2 *= w2c_j3;
+    w2c_j3 = w2c_p3;
+    w2c_j4 = w2c_l8;
+    w2c_j5 = 32ull;
+    w2c_j4 += w2c_j5;
+    w2c_j5 = w2c_l11;
+    w2c_j6 = 4ull;
+    w2c_j5 <<= (w2c_j6 & 63);
+    w2c_f23(instance, w2c_j0, w2c_j1, w2c_j2, w2c_j3, w2c_j4, w2c_j5);
+    w2c_j0 = w2c_p4;
+    w2c_j1 = w2c_l9;
+    w2c_j0 += w2c_j1;
+    w2c_p4 = w2c_j0;
+    w2c_j0 = w2c_l28;
+    w2c_j1 = 18446744073709551568ull;
+    w2c_j0 += w2c_j1;
+    w2c_l28 = w2c_j0;
+    w2c_j0 = w2c_l7;
+    w2c_j1 = 48ull;
+    w2c_j0 += w2c_j1;
+    w2c_l7 = w2c_j0;
+    w2c_j0 = w2c_l26;
+    w2c_j1 = 18446744073709551615ull;
+    w2c_j0 += w2c_j1;
+    w2c_l26 = w2c_j0;
+    w2c_i0 = !(w2c_j0);
+    w2c_i0 = !(w2c_i0);
+    if (w2c_i0) {goto w2c_L23;}
+    goto w2c_B0;
+  UNREACHABLE;
+  w2c_B22:;
+  w2c_j0 = w2c_p3;
+  w2c_j1 = 1ull;
+  w2c_j0 <<= (w2c_j1 & 63);
+  w2c_l27 = w2c_j0;
+  w2c_j0 = w2c_p3;
+  w2c_j1 = 48ull;
+  w2c_j0 *= w2c_j1;
+  w2c_l32 = w2c_j0;
+  w2c_j0 = w2c_p4;
+  w2c_j1 = 8ull;
+  w2c_j0 += w2c_j1;
+  w2c_l31 = w2c_j0;
+  w2c_j0 = w2c_p4;
+  w2c_l34 = w2c_j0;
+  w2c_j0 = 48ull;
+  w2c_l25 = w2c_j0;
+  w2c_j0 = 0ull;
+  w2c_l21 = w2c_j0;
+  w2c_j0 = 0ull;
+  w2c_l23 = w2c_j0;
+  w2c_L24: 
+    w2c_j0 = w2c_l8;
+    w2c_j1 = w2c_p6;
+    w2c_j2 = w2c_l23;
+    w2c_j3 = 48ull;
+    w2c_j2 *= w2c_j3;
+    w2c_l7 = w2c_j2;
+    w2c_j3 = 48ull;
+    w2c_j2 += w2c_j3;
+    w2c_l28 = w2c_j2;
+    w2c_j3 = w2c_p6;
+    w2c_j4 = w2c_l28;
+    w2c_i3 = w2c_j3 < w2c_j4;
+    w2c_j1 = w2c_i3 ? w2c_j1 : w2c_j2;
+    w2c_l18 = w2c_j1;
+    w2c_j2 = w2c_l7;
+    w2c_j1 -= w2c_j2;
+    w2c_l28 = w2c_j1;
+    w2c_j2 = 1152921504606846975ull;
+    w2c_j1 &= w2c_j2;
+    w2c_l26 = w2c_j1;
+    w2c_j2 = 0ull;
+    w2c_j3 = w2c_p3;
+    w2c_j4 = 0ull;
+    w2c_f9(instance, w2c_j0, w2c_j1, w2c_j2, w2c_j3, w2c_j4);
+    w2c_j0 = w2c_l28;
+    w2c_j1 = 4ull;
+    w2c_j0 <<= (w2c_j1 & 63);
+    w2c_l16 = w2c_j0;
+    w2c_j0 = w2c_l28;
+    w2c_j1 = w2c_p3;
+    w2c_j0 *= w2c_j1;
+    w2c_l30 = w2c_j0;
+    w2c_j0 = w2c_p4;
+    w2c_j1 = w2c_l7;
+    w2c_j2 = w2c_p3;
+    w2c_j1 *= w2c_j2;
+    w2c_j0 += w2c_j1;
+    w2c_l24 = w2c_j0;
+    w2c_j0 = w2c_l8;
+    w2c_i0 = (u32)(w2c_j0);
+    w2c_j0 = step_i64_load(memory, (u64)(w2c_i0) + 8u);
+    w2c_j1 = 0ull;
+    w2c_i0 = w2c_j0 != w2c_j1;
+    w2c_p1 = w2c_i0;
+    if (w2c_i0) {goto w2c_B26;}
+    w2c_j0 = w2c_l26;
+    w2c_i0 = !(w2c_j0);
+    if (w2c_i0) {goto w2c_B26;}
+    w2c_j0 = 0ull;
+    w2c_j1 = w2c_l26;
+    w2c_j2 = w2c_p3;
+    w2c_j1 *= w2c_j2;
+    w2c_i2 = w2c_p1;
+    w2c_j0 = w2c_i2 ? w2c_j0 : w2c_j1;
+    w2c_j1 = w2c_l30;
+    w2c_i0 = w2c_j0 != w2c_j1;
+    if (w2c_i0) {goto w2c_B26;}
+    w2c_j0 = w2c_l21;
+    w2c_j1 = w2c_p6;
+    w2c_j2 = w2c_l25;
+    w2c_j3 = w2c_p6;
+    w2c_j4 = w2c_l25;
+    w2c_i3 = w2c_j3 < w2c_j4;
+    w2c_j1 = w2c_i3 ? w2c_j1 : w2c_j2;
+    w2c_l7 = w2c_j1;
+    w2c_j0 += w2c_j1;
+    w2c_j1 = 1152921504606846975ull;
+    w2c_j0 &= w2c_j1;
+    w2c_l26 = w2c_j0;
+    w2c_j0 = 0ull;
+    w2c_l11 = w2c_j0;
+    w2c_j0 = w2c_l23;
+    w2c_j1 = 1152921504606846928ull;
+    w2c_j0 *= w2c_j1;
+    w2c_j1 = w2c_l18;
+    w2c_j0 += w2c_j1;
+    w2c_j1 = 1152921504606846975ull;
+    w2c_j0 &= w2c_j1;
+    w2c_j1 = 1ull;
+    w2c_i0 = w2c_j0 == w2c_j1;
+    if (w2c_i0) {goto w2c_B28;}
+    w2c_j0 = w2c_l26;
+    w2c_j1 = w2c_l7;
+    w2c_j2 = 1ull;
+    w2c_j1 &= w2c_j2;
+    w2c_j0 -= w2c_j1;
+    w2c_l9 = w2c_j0;
+    w2c_j0 = w2c_l18;
+    w2c_j1 = 1ull;
+    w2c_j0 &= w2c_j1;
+    w2c_l18 = w2c_j0;
+    w2c_j0 = 0ull;
+    w2c_l11 = w2c_j0;
+    w2c_j0 = w2c_l8;
+    w2c_j1 = 32ull;
+    w2c_j0 += w2c_j1;
+    w2c_l7 = w2c_j0;
+    w2c_j0 = w2c_l31;
+    w2c_l28 = w2c_j0;
+    w2c_L29: 
+      w2c_j0 = w2c_l7;
+      w2c_i0 = (u32)(w2c_j0);
+      w2c_j1 = 12008468691120727718ull;
+      step_i64_store(memory, (u64)(w2c_i0), w2c_j1);
+      w2c_j0 = w2c_l7;
+      w2c_j1 = 8ull;
+      w2c_j0 += w2c_j1;
+      w2c_i0 = (u32)(w2c_j0);
+      w2c_j1 = w2c_l28;
+      w2c_i1 = (u32)(w2c_j1);
+      w2c_j1 = step_i64_load(memory, (u64)(w2c_i1));
+      step_i64_store(memory, (u64)(w2c_i0), w2c_j1);
+      w2c_j0 = w2c_l7;
+      w2c_j1 = 16ull;
+      w2c_j0 += w2c_j1;
+      w2c_i0 = (u32)(w2c_j0);
+      w2c_j1 = 12008468691120727718ull;
+      step_i64_store(memory, (u64)(w2c_i0), w2c_j1);
+      w2c_j0 = w2c_l7;
+      w2c_j1 = 24ull;
+      w2c_j0 += w2c_j1;
+      w2c_i0 = (u32)(w2c_j0);
+      w2c_j1 = w2c_l28;
+      w2c_j2 = w2c_p3;
+      w2c_j1 += w2c_j2;
+      w2c_i1 = (u32)(w2c_j1);
+      w2c_j1 = step_i64_load(memory, (u64)(w2c_i1));
+      step_i64_store(memory, (u64)(w2c_i0), w2c_j1);
+      w2c_j0 = w2c_l28;
+      w2c_j1 = w2c_l27;
+      w2c_j0 += w2c_j1;
+      w2c_l28 = w2c_j0;
+      w2c_j0 = w2c_l7;
+      w2c_j1 = 32ull;
+      w2c_j0 += w2c_j1;
+      w2c_l7 = w2c_j0;
+      w2c_j0 = w2c_l9;
+      w2c_j1 = w2c_l11;
+      w2c_j2 = 2ull;
+      w2c_j1 += w2c_j2;
+      w2c_l11 = w2c_j1;
+      w2c_i0 = w2c_j0 != w2c_j1;
+      if (w2c_i0) {goto w2c_L29;}
+    w2c_j0 = w2c_l18;
+    w2c_i0 = !(w2c_j0);
+    if (w2c_i0) {goto w2c_B27;}
+    w2c_B28:;
+    w2c_j0 = w2c_l8;
+    w2c_j1 = 32ull;
+    w2c_j0 += w2c_j1;
+    w2c_j1 = w2c_l11;
+    w2c_j2 = 4ull;
+    w2c_j1 <<= (w2c_j2 & 63);
+    w2c_j0 += w2c_j1;
+    w2c_l7 = w2c_j0;
+    w2c_i0 = (u32)(w2c_j0);
+    w2c_j1 = 12008468691120727718ull;
+    step_i64_store(memory, (u64)(w2c_i0), w2c_j1);
+    w2c_j0 = w2c_l7;
+    w2c_i0 = (u32)(w2c_j0);
+    w2c_j1 = w2c_l24;
+    w2c_j2 = w2c_l11;
+    w2c_j3 = w2c_p3;
+    w2c_j2 *= w2c_j3;
+    w2c_j1 += w2c_j2;
+    w2c_j2 = 8ull;
+    w2c_j1 += w2c_j2;
+    w2c_i1 = (u32)(w2c_j1);
+    w2c_j1 = step_i64_load(memory, (u64)(w2c_i1));
+    step_i64_store(memory, (u64)(w2c_i0) + 8, w2c_j1);
+    w2c_B27:;
+    w2c_j0 = w2c_p0;
+    w2c_j1 = w2c_l24;
+    w2c_j2 = w2c_l30;
+    w2c_j3 = w2c_p3;
+    w2c_j4 = w2c_l8;
+    w2c_j5 = 32ull;
+    w2c_j4 += w2c_j5;
+    w2c_j5 = w2c_l16;
+    w2c_f23(instance, w2c_j0, w2c_j1, w2c_j2, w2c_j3, w2c_j4, w2c_j5);
+    w2c_j0 = w2c_l8;
+    w2c_j1 = 32ull;
+    w2c_j0 += w2c_j1;
+    w2c_l7 = w2c_j0;
+    w2c_j0 = w2c_l34;
+    w2c_l28 = w2c_j0;
+    w2c_L30: 
+      w2c_j0 = w2c_l28;
+      w2c_j1 = w2c_l7;
+      w2c_j0 -= w2c_j1;
+      w2c_j1 = 8ull;
+      w2c_i0 = w2c_j0 < w2c_j1;
+      if (w2c_i0) {goto w2c_B32;}
+      w2c_j0 = w2c_l28;
+      w2c_i0 = (u32)(w2c_j0);
+      w2c_j1 = w2c_l7;
+      w2c_i1 = (u32)(w2c_j1);
+      w2c_j1 = step_i64_load(memory, (u64)(w2c_i1));
+      step_i64_store(memory, (u64)(w2c_i0), w2c_j1);
+      goto w2c_B31;
+      w2c_B32:;
+      w2c_j0 = w2c_l28;
+      w2c_i0 = (u32)(w2c_j0);
+      w2c_j1 = w2c_l7;
+      w2c_i1 = (u32)(w2c_j1);
+      w2c_j1 = step_i64_load(memory, (u64)(w2c_i1));
+      step_i64_store(memory, (u64)(w2c_i0), w2c_j1);
+      w2c_B31:;
+      w2c_j0 = w2c_l28;
+      w2c_j1 = w2c_p3;
+      w2c_j0 += w2c_j1;
+      w2c_l28 = w2c_j0;
+      w2c_j0 = w2c_l7;
+      w2c_j1 = 16ull;
+      w2c_j0 += w2c_j1;
+      w2c_l7 = w2c_j0;
+      w2c_j0 = w2c_l26;
+      w2c_j1 = 18446744073709551615ull;
+      w2c_j0 += w2c_j1;
+      w2c_l26 = w2c_j0;
+      w2c_i0 = !(w2c_j0);
+      w2c_i0 = !(w2c_i0);
+      if (w2c_i0) {goto w2c_L30;}
+      goto w2c_B25;
+    UNREACHABLE;
+    w2c_B26:;
+    w2c_j0 = w2c_p0;
+    w2c_j1 = w2c_l24;
+    w2c_j2 = w2c_l30;
+    w2c_j3 = w2c_p3;
+    w2c_j4 = w2c_l8;
+    w2c_j5 = 32ull;
+    w2c_j4 += w2c_j5;
+    w2c_j5 = w2c_l16;
+    w2c_f23(instance, w2c_j0, w2c_j1, w2c_j2, w2c_j3, w2c_j4, w2c_j5);
+    w2c_B25:;
+    w2c_j0 = w2c_l34;
+    w2c_j1 = w2c_l32;
+    w2c_j0 += w2c_j1;
+    w2c_l34 = w2c_j0;
+    w2c_j0 = w2c_l25;
+    w2c_j1 = 48ull;
+    w2c_j0 += w2c_j1;
+    w2c_l25 = w2c_j0;
+    w2c_j0 = w2c_l21;
+    w2c_j1 = 1152921504606846928ull;
+    w2c_j0 += w2c_j1;
+    w2c_l21 = w2c_j0;
+    w2c_j0 = w2c_l31;
+    w2c_j1 = w2c_l32;
+    w2c_j0 += w2c_j1;
+    w2c_l31 = w2c_j0;
+    w2c_j0 = w2c_l23;
+    w2c_j1 = w2c_l10;
+    w2c_i0 = w2c_j0 == w2c_j1;
+    w2c_p1 = w2c_i0;
+    w2c_j0 = w2c_l23;
+    w2c_j1 = 1ull;
+    w2c_j0 += w2c_j1;
+    w2c_l23 = w2c_j0;
+    w2c_i0 = w2c_p1;
+    w2c_i0 = !(w2c_i0);
+    if (w2c_i0) {goto w2c_L24;}
+  w2c_B0:;
+  w2c_j0 = w2c_p6;
+  w2c_i0 = !(w2c_j0);
+  if (w2c_i0) {goto w2c_B33;}
+  w2c_j0 = w2c_p6;
+  w2c_j1 = 18446744073709551615ull;
+  w2c_j0 += w2c_j1;
+  w2c_l7 = w2c_j0;
+  w2c_i0 = !(w2c_j0);
+  w2c_p1 = w2c_i0;
+  if (w2c_i0) {goto w2c_B34;}
+  w2c_i0 = w2c_p1;
+  if (w2c_i0) {goto w2c_B34;}
+  w2c_j0 = w2c_p5;
+  w2c_i0 = (u32)(w2c_j0);
+  w2c_i1 = 0u;
+  w2c_j2 = w2c_l7;
+  w2c_i2 = (u32)(w2c_j2);
+  memory_fill(memory, w2c_i0, w2c_i1, w2c_i2);
+  w2c_B34:;
+  w2c_j0 = w2c_p5;
+  w2c_j1 = w2c_l7;
+  w2c_j0 += w2c_j1;
+  w2c_i0 = (u32)(w2c_j0);
+  w2c_i1 = 0u;
+  i32_store8(memory, (u64)(w2c_i0), w2c_i1);
+  w2c_B33:;
+  w2c_j0 = w2c_l8;
+  w2c_j1 = 800ull;
+  w2c_j0 += w2c_j1;
+  instance->w2c_g0 = w2c_j0;
+}
+#endif
+#ifndef KEYWRAP_STEPS_ONLY
+static void w2c_f37(struct instance *instance, u64 w2c_p0, u64 w2c_p1, u64 w2c_p2) {
+  u32 w2c_l11 = 0, w2c_l12 = 0;
+  u64 w2c_l3 = 0, w2c_l4 = 0, w2c_l5 = 0, w2c_l6 = 0, w2c_l7 = 0, w2c_l8 = 0, w2c_l9 = 0, w2c_l10 = 0;
+  const struct memory memory = instance->w2c_memory;
+  (void)memory;
+  u32 w2c_i0, w2c_i1, w2c_i2, w2c_i3;
+  u64 w2c_j0, w2c_j1, w2c_j2;
+  w2c_j0 = instance->w2c_g0;
+  w2c_j1 = 976ull;
+  w2c_j0 -= w2c_j1;
+  w2c_l3 = w2c_j0;
+  instance->w2c_g0 = w2c_j0;
+  w2c_j0 = w2c_l3;
+  w2c_l4 = w2c_j0;
+  w2c_j1 = 16ull;
+  w2c_i0 = (u64)((s64)w2c_j0 < (s64)w2c_j1);
+  if (w2c_i0) {goto w2c_B3;}
+  w2c_j0 = w2c_l4;
+  w2c_j1 = 12ull;
+  w2c_j0 += w2c_j1;
+  w2c_i0 = (u32)(w2c_j0);
+  w2c_i1 = 0u;
+  w2c_j2 = 240ull;
+  w2c_i2 = (u32)(w2c_j2);
+  memory_fill(memory, w2c_i0, w2c_i1, w2c_i2);
+  w2c_j0 = w2c_l4;
+  w2c_i0 = (u32)(w2c_j0);
+  w2c_i1 = 0u;
+  i32_store8(memory, (u64)(w2c_i0) + 10, w2c_i1);
+  w2c_j0 = w2c_l4;
+  w2c_i0 = (u32)(w2c_j0);
+  w2c_i1 = 0u;
+  i32_store16(memory, (u64)(w2c_i0) + 8, w2c_i1);
+  w2c_j0 = w2c_p2;
+  w2c_j1 = 184ull;
+  w2c_i0 = w2c_j0 == w2c_j1;
+  if (w2c_i0) {goto w2c_B5;}
+  w2c_j0 = w2c_p2;
+  w2c_j1 = 248ull;
+  w2c_i0 = w2c_j0 == w2c_j1;
+  if (w2c_i0) {goto w2c_B5;}
+  w2c_j0 = w2c_p2;
+  w2c_j1 = 216ull;
+  w2c_i0 = w2c_j0 != w2c_j1;
+  if (w2c_i0) {goto w2c_B4;}
+  w2c_B5:;
+  w2c_j0 = w2c_p1;
+  w2c_i0 = (u32)(w2c_j0);
+  w2c_j0 = i64_load(memory, (u64)(w2c_i0));
+  w2c_j1 = 5423823929002190187ull;
+  w2c_i0 = w2c_j0 != w2c_j1;
+  if (w2c_i0) {goto w2c_B4;}
+  w2c_i0 = 0u;
+  w2c_l11 = w2c_i0;
+  w2c_j0 = w2c_l4;
+  w2c_j1 = 496ull;
+  w2c_j0 += w2c_j1;
+  w2c_i0 = (u32)(w2c_j0);
+  w2c_i1 = 0u;
+  w2c_j2 = 240ull;
+  w2c_i2 = (u32)(w2c_j2);
+  memory_fill(memory, w2c_i0, w2c_i1, w2c_i2);
+  w2c_j0 = w2c_l4;
+  w2c_i0 = (u32)(w2c_j0);
+  w2c_i1 = 0u;
+  i32_store8(memory, (u64)(w2c_i0) + 494, w2c_i1);
+  w2c_j0 = w2c_l4;
+  w2c_i0 = (u32)(w2c_j0);
+  w2c_i1 = 0u;
+  i32_store16(memory, (u64)(w2c_i0) + 492, w2c_i1);
+  w2c_j0 = w2c_l4;
+  w2c_j1 = 736ull;
+  w2c_j0 += w2c_j1;
+  w2c_i0 = (u32)(w2c_j0);
+  w2c_i1 = 0u;
+  w2c_j2 = 240ull;
+  w2c_i2 = (u32)(w2c_j2);
+  memory_fill(memory, w2c_i0, w2c_i1, w2c_i2);
+  w2c_j0 = w2c_p2;
+  w2c_j1 = 184ull;
+  w2c_i0 = w2c_j0 != w2c_j1;
+  if (w2c_i0) {goto w2c_B8;}
+  w2c_i0 = 10u;
+  w2c_l12 = w2c_i0;
+  goto w2c_B7;
+  w2c_B8:;
+  w2c_j0 = w2c_p2;
+  w2c_j1 = 248ull;
+  w2c_i0 = w2c_j0 == w2c_j1;
+  if (w2c_i0) {goto w2c_B9;}
+  w2c_i0 = 0u;
+  w2c_l12 = w2c_i0;
+  w2c_j0 = w2c_p2;
+  w2c_j1 = 216ull;
+  w2c_i0 = w2c_j0 != w2c_j1;
+  if (w2c_i0) {goto w2c_B6;}
+  w2c_i0 = 12u;
+  w2c_l12 = w2c_i0;
+  goto w2c_B7;
+  w2c_B9:;
+  w2c_i0 = 14u;
+  w2c_l12 = w2c_i0;
+  w2c_B7:;
+  w2c_i0 = w2c_l12;
+  w2c_j0 = (u64)(w2c_i0);
+  w2c_j1 = 4ull;
+  w2c_j0 <<= (w2c_j1 & 63);
+  w2c_l5 = w2c_j0;
+  w2c_j0 = 18446744073709551600ull;
+  w2c_l3 = w2c_j0;
+  w2c_L10: 
+    w2c_j0 = w2c_l4;
+    w2c_j1 = 736ull;
+    w2c_j0 += w2c_j1;
+    w2c_j1 = w2c_l3;
+    w2c_j0 += w2c_j1;
+    w2c_l6 = w2c_j0;
+    w2c_j1 = 16ull;
+    w2c_j0 += w2c_j1;
+    w2c_i0 = (u32)(w2c_j0);
+    w2c_j1 = w2c_p1;
+    w2c_j2 = w2c_l3;
+    w2c_j1 += w2c_j2;
+    w2c_l7 = w2c_j1;
+    w2c_j2 = 24ull;
+    w2c_j1 += w2c_j2;
+    w2c_i1 = (u32)(w2c_j1);
+    w2c_i1 = i32_load(memory, (u64)(w2c_i1));
+    w2c_l11 = w2c_i1;
+    w2c_i2 = 16711935u;
+    w2c_i1 &= w2c_i2;
+    w2c_i2 = 8u;
+    w2c_i1 = I32_ROTR(w2c_i1, w2c_i2);
+    w2c_i2 = w2c_l11;
+    w2c_i3 = 24u;
+    w2c_i2 = I32_ROTR(w2c_i2, w2c_i3);
+    w2c_i3 = 16711935u;
+    w2c_i2 &= w2c_i3;
+    w2c_i1 |= w2c_i2;
+    i32_store(memory, (u64)(w2c_i0), w2c_i1);
+    w2c_j0 = w2c_l6;
+    w2c_j1 = 20ull;
+    w2c_j0 += w2c_j1;
+    w2c_i0 = (u32)(w2c_j0);
+    w2c_j1 = w2c_l7;
+    w2c_j2 = 28ull;
+    w2c_j1 += w2c_j2;
+    w2c_i1 = (u32)(w2c_j1);
+    w2c_i1 = i32_load(memory, (u64)(w2c_i1));
+    w2c_l11 = w2c_i1;
+    w2c_i2 = 16711935u;
+    w2c_i1 &= w2c_i2;
+    w2c_i2 = 8u;
+    w2c_i1 = I32_ROTR(w2c_i1, w2c_i2);
+    w2c_i2 = w2c_l11;
+    w2c_i3 = 24u;
+    w2c_i2 = I32_ROTR(w2c_i2, w2c_i3);
+    w2c_i3 = 16711935u;
+    w2c_i2 &= w2c_i3;
+    w2c_i1 |= w2c_i2;
+    i32_store(memory, (u64)(w2c_i0), w2c_i1);
+    w2c_j0 = w2c_l6;
+    w2c_j1 = 24ull;
+    w2c_j0 += w2c_j1;
+    w2c_i0 = (u32)(w2c_j0);
+    w2c_j1 = w2c_l7;
+    w2c_j2 = 32ull;
+    w2c_j1 += w2c_j2;
+    w2c_i1 = (u32)(w2c_j1);
+    w2c_i1 = i32_load(memory, (u64)(w2c_i1));
+    w2c_l11 = w2c_i1;
+    w2c_i2 = 16711935u;
+    w2c_i1 &= w2c_i2;
+    w2c_i2 = 8u;
+    w2c_i1 = I32_ROTR(w2c_i1, w2c_i2);
+    w2c_i2 = w2c_l11;
+    w2c_i3 = 24u;
+    w2c_i2 = I32_ROTR(w2c_i2, w2c_i3);
+    w2c_i3 = 16711935u;
+    w2c_i2 &= w2c_i3;
+    w2c_i1 |= w2c_i2;
+    i32_store(memory, (u64)(w2c_i0), w2c_i1);
+    w2c_j0 = w2c_l6;
+    w2c_j1 = 28ull;
+    w2c_j0 += w2c_j1;
+    w2c_i0 = (u32)(w2c_j0);
+    w2c_j1 = w2c_l7;
+    w2c_j2 = 36ull;
+    w2c_j1 += w2c_j2;
+    w2c_i1 = (u32)(w2c_j1);
+    w2c_i1 = i32_load(memory, (u64)(w2c_i1));
+    w2c_l11 = w2c_i1;
+    w2c_i2 = 16711935u;
+    w2c_i1 &= w2c_i2;
+    w2c_i2 = 8u;
+    w2c_i1 = I32_ROTR(w2c_i1, w2c_i2);
+    w2c_i2 = w2c_l11;
+    w2c_i3 = 24u;
+    w2c_i2 = I32_ROTR(w2c_i2, w2c_i3);
+    w2c_i3 = 16711935u;
+    w2c_i2 &= w2c_i3;
+    w2c_i1 |= w2c_i2;
+    i32_store(memory, (u64)(w2c_i0), w2c_i1);
+    w2c_j0 = w2c_l5;
+    w2c_j1 = w2c_l3;
+    w2c_j2 = 16ull;
+    w2c_j1 += w2c_j2;
+    w2c_l3 = w2c_j1;
+    w2c_i0 = w2c_j0 != w2c_j1;
+    if (w2c_i0) {goto w2c_L10;}
+  w2c_j0 = w2c_l4;
+  w2c_j1 = 496ull;
+  w2c_j0 += w2c_j1;
+  w2c_i0 = (u32)(w2c_j0);
+  w2c_j1 = w2c_l4;
+  w2c_j2 = 736ull;
+  w2c_j1 += w2c_j2;
+  w2c_i1 = (u32)(w2c_j1);
+  w2c_j2 = 240ull;
+  w2c_i2 = (u32)(w2c_j2);
+  memory_copy(memory, memory, w2c_i0, w2c_i1, w2c_i2);
+  w2c_j0 = w2c_l4;
+  w2c_i0 = (u32)(w2c_j0);
+  w2c_i1 = 0u;
+  i32_store8(memory, (u64)(w2c_i0) + 494, w2c_i1);
+  w2c_j0 = w2c_l4;
+  w2c_i0 = (u32)(w2c_j0);
+  w2c_i1 = 0u;
+  i32_store16(memory, (u64)(w2c_i0) + 492, w2c_i1);
+  w2c_i0 = 1u;
+  w2c_l11 = w2c_i0;
+  w2c_B6:;
+  w2c_j0 = w2c_p0;
+  w2c_i0 = (u32)(w2c_j0);
+  w2c_i1 = w2c_l11;
+  i32_store(memory, (u64)(w2c_i0), w2c_i1);
+  w2c_j0 = w2c_p0;
+  w2c_j1 = 4ull;
+  w2c_j0 += w2c_j1;
+  w2c_i0 = (u32)(w2c_j0);
+  w2c_j1 = w2c_l4;
+  w2c_j2 = 496ull;
+  w2c_j1 += w2c_j2;
+  w2c_i1 = (u32)(w2c_j1);
+  w2c_j2 = 240ull;
+  w2c_i2 = (u32)(w2c_j2);
+  memory_copy(memory, memory, w2c_i0, w2c_i1, w2c_i2);
+  w2c_j0 = w2c_p0;
+  w2c_j1 = 244ull;
+  w2c_j0 += w2c_j1;
+  w2c_i0 = (u32)(w2c_j0);
+  w2c_i1 = w2c_l12;
+  i32_store8(memory, (u64)(w2c_i0), w2c_i1);
+  w2c_j0 = w2c_p0;
+  w2c_j1 = 245ull;
+  w2c_j0 += w2c_j1;
+  w2c_i0 = (u32)(w2c_j0);
+  w2c_j1 = w2c_l4;
+  w2c_i1 = (u32)(w2c_j1);
+  w2c_i1 = i32_load16_u(memory, (u64)(w2c_i1) + 492u);
+  i32_store16(memory, (u64)(w2c_i0), w2c_i1);
+  w2c_j0 = w2c_p0;
+  w2c_j1 = 247ull;
+  w2c_j0 += w2c_j1;
+  w2c_i0 = (u32)(w2c_j0);
+  w2c_j1 = w2c_l4;
+  w2c_i1 = (u32)(w2c_j1);
+  w2c_i1 = i32_load8_u(memory, (u64)(w2c_i1) + 494u);
+  i32_store8(memory, (u64)(w2c_i0), w2c_i1);
+  goto w2c_B0;
+  w2c_B4:;
+  w2c_j0 = w2c_p2;
+  w2c_j1 = 18446744073709551600ull;
+  w2c_j0 += w2c_j1;
+  w2c_l3 = w2c_j0;
+  w2c_j1 = 16ull;
+  w2c_i0 = w2c_j0 > w2c_j1;
+  if (w2c_i0) {goto w2c_B2;}
+  w2c_i0 = 10u;
+  w2c_l12 = w2c_i0;
+  w2c_j0 = w2c_l3;
+  w2c_i0 = (u32)(w2c_j0);
+  switch (w2c_i0) {
+    case 0: goto w2c_B11;
+    case 1: goto w2c_B2;
+    case 2: goto w2c_B2;
+    case 3: goto w2c_B2;
+    case 4: goto w2c_B2;
+    case 5: goto w2c_B2;
+    case 6: goto w2c_B2;
+    case 7: goto w2c_B2;
+    case 8: goto w2c_B13;
+    case 9: goto w2c_B2;
+    case 10: goto w2c_B2;
+    case 11: goto w2c_B2;
+    case 12: goto w2c_B2;
+    case 13: goto w2c_B2;
+    case 14: goto w2c_B2;
+    case 15: goto w2c_B2;
+    case 16: goto w2c_B12;
+    default: goto w2c_B11;
+  }
+  w2c_B13:;
+  w2c_i0 = 12u;
+  w2c_l12 = w2c_i0;
+  goto w2c_B11;
+  w2c_B12:;
+  w2c_i0 = 14u;
+  w2c_l12 = w2c_i0;
+  w2c_B11:;
+  w2c_j0 = w2c_l4;
+  w2c_j1 = 736ull;
+  w2c_j0 += w2c_j1;
+  w2c_i0 = (u32)(w2c_j0);
+  w2c_i1 = 0u;
+  w2c_j2 = 240ull;
+  w2c_i2 = (u32)(w2c_j2);
+  memory_fill(memory, w2c_i0, w2c_i1, w2c_i2);
+  w2c_j0 = w2c_p2;
+  w2c_j1 = 2ull;
+  w2c_j0 >>= (w2c_j1 & 63);
+  w2c_l7 = w2c_j0;
+  w2c_j1 = 3ull;
+  w2c_j0 &= w2c_j1;
+  w2c_l8 = w2c_j0;
+  w2c_j0 = 0ull;
+  w2c_l9 = w2c_j0;
+  w2c_j0 = w2c_l7;
+  w2c_j1 = 18446744073709551615ull;
+  w2c_j0 += w2c_j1;
+  w2c_j1 = 3ull;
+  w2c_i0 = w2c_j0 < w2c_j1;
+  if (w2c_i0) {goto w2c_B15;}
+  w2c_j0 = w2c_l7;
+  w2c_j1 = 4611686018427387900ull;
+  w2c_j0 &= w2c_j1;
+  w2c_l10 = w2c_j0;
+  w2c_j0 = 0ull;
+  w2c_l3 = w2c_j0;
+  w2c_j0 = 0ull;
+  w2c_l9 = w2c_j0;
+  w2c_L16: 
+    w2c_j0 = w2c_l4;
+    w2c_j1 = 736ull;
+    w2c_j0 += w2c_j1;
+    w2c_j1 = w2c_l3;
+    w2c_j0 += w2c_j1;
+    w2c_l6 = w2c_j0;
+    w2c_i0 = (u32)(w2c_j0);
+    w2c_j1 = w2c_p1;
+    w2c_j2 = w2c_l3;
+    w2c_j1 += w2c_j2;
+    w2c_l5 = w2c_j1;
+    w2c_i1 = (u32)(w2c_j1);
+    w2c_i1 = i32_load(memory, (u64)(w2c_i1));
+    w2c_l11 = w2c_i1;
+    w2c_i2 = 16711935u;
+    w2c_i1 &= w2c_i2;
+    w2c_i2 = 8u;
+    w2c_i1 = I32_ROTR(w2c_i1, w2c_i2);
+    w2c_i2 = w2c_l11;
+    w2c_i3 = 24u;
+    w2c_i2 = I32_ROTR(w2c_i2, w2c_i3);
+    w2c_i3 = 16711935u;
+    w2c_i2 &= w2c_i3;
+    w2c_i1 |= w2c_i2;
+    i32_store(memory, (u64)(w2c_i0), w2c_i1);
+    w2c_j0 = w2c_l6;
+    w2c_j1 = 4ull;
+    w2c_j0 += w2c_j1;
+    w2c_i0 = (u32)(w2c_j0);
+    w2c_j1 = w2c_l5;
+    w2c_j2 = 4ull;
+    w2c_j1 += w2c_j2;
+    w2c_i1 = (u32)(w2c_j1);
+    w2c_i1 = i32_load(memory, (u64)(w2c_i1));
+    w2c_l11 = w2c_i1;
+    w2c_i2 = 16711935u;
+    w2c_i1 &= w2c_i2;
+    w2c_i2 = 8u;
+    w2c_i1 = I32_ROTR(w2c_i1, w2c_i2);
+    w2c_i2 = w2c_l11;
+    w2c_i3 = 24u;
+    w2c_i2 = I32_ROTR(w2c_i2, w2c_i3);
+    w2c_i3 = 16711935u;
+    w2c_i2 &= w2c_i3;
+    w2c_i1 |= w2c_i2;
+    i32_store(memory, (u64)(w2c_i0), w2c_i1);
+    w2c_j0 = w2c_l6;
+    w2c_j1 = 8ull;
+    w2c_j0 += w2c_j1;
+    w2c_i0 = (u32)(w2c_j0);
+    w2c_j1 = w2c_l5;
+    w2c_j2 = 8ull;
+    w2c_j1 += w2c_j2;
+    w2c_i1 = (u32)(w2c_j1);
+    w2c_i1 = i32_load(memory, (u64)(w2c_i1));
+    w2c_l11 = w2c_i1;
+    w2c_i2 = 16711935u;
+    w2c_i1 &= w2c_i2;
+    w2c_i2 = 8u;
+    w2c_i1 = I32_ROTR(w2c_i1, w2c_i2);
+    w2c_i2 = w2c_l11;
+    w2c_i3 = 24u;
+    w2c_i2 = I32_ROTR(w2c_i2, w2c_i3);
+    w2c_i3 = 16711935u;
+    w2c_i2 &= w2c_i3;
+    w2c_i1 |= w2c_i2;
+    i32_store(memory, (u64)(w2c_i0), w2c_i1);
+    w2c_j0 = w2c_l6;
+    w2c_j1 = 12ull;
+    w2c_j0 += w2c_j1;
+    w2c_i0 = (u32)(w2c_j0);
+    w2c_j1 = w2c_l5;
+    w2c_j2 = 12ull;
+    w2c_j1 += w2c_j2;
+    w2c_i1 = (u32)(w2c_j1);
+    w2c_i1 = i32_load(memory, (u64)(w2c_i1));
+    w2c_l11 = w2c_i1;
+    w2c_i2 = 16711935u;
+    w2c_i1 &= w2c_i2;
+    w2c_i2 = 8u;
+    w2c_i1 = I32_ROTR(w2c_i1, w2c_i2);
+    w2c_i2 = w2c_l11;
+    w2c_i3 = 24u;
+    w2c_i2 = I32_ROTR(w2c_i2, w2c_i3);
+    w2c_i3 = 16711935u;
+    w2c_i2 &= w2c_i3;
+    w2c_i1 |= w2c_i2;
+    i32_store(memory, (u64)(w2c_i0), w2c_i1);
+    w2c_j0 = w2c_l3;
+    w2c_j1 = 16ull;
+    w2c_j0 += w2c_j1;
+    w2c_l3 = w2c_j0;
+    w2c_j0 = w2c_l10;
+    w2c_j1 = w2c_l9;
+    w2c_j2 = 4ull;
+    w2c_j1 += w2c_j2;
+    w2c_l9 = w2c_j1;
+    w2c_i0 = w2c_j0 != w2c_j1;
+    if (w2c_i0) {goto w2c_L16;}
+  w2c_j0 = w2c_l8;
+  w2c_i0 = !(w2c_j0);
+  if (w2c_i0) {goto w2c_B14;}
+  w2c_B15:;
+  w2c_j0 = w2c_p1;
+  w2c_j1 = w2c_l9;
+  w2c_j2 = 2ull;
+  w2c_j1 <<= (w2c_j2 & 63);
+  w2c_l6 = w2c_j1;
+  w2c_j0 += w2c_j1;
+  w2c_l3 = w2c_j0;
+  w2c_j0 = w2c_l4;
+  w2c_j1 = 736ull;
+  w2c_j0 += w2c_j1;
+  w2c_j1 = w2c_l6;
+  w2c_j0 += w2c_j1;
+  w2c_l6 = w2c_j0;
+  w2c_L17: 
+    w2c_j0 = w2c_l6;
+    w2c_i0 = (u32)(w2c_j0);
+    w2c_j1 = w2c_l3;
+    w2c_i1 = (u32)(w2c_j1);
+    w2c_i1 = i32_load(memory, (u64)(w2c_i1));
+    w2c_l11 = w2c_i1;
+    w2c_i2 = 16711935u;
+    w2c_i1 &= w2c_i2;
+    w2c_i2 = 8u;
+    w2c_i1 = I32_ROTR(w2c_i1, w2c_i2);
+    w2c_i2 = w2c_l11;
+    w2c_i3 = 24u;
+    w2c_i2 = I32_ROTR(w2c_i2, w2c_i3);
+    w2c_i3 = 16711935u;
+    w2c_i2 &= w2c_i3;
+    w2c_i1 |= w2c_i2;
+    i32_store(memory, (u64)(w2c_i0), w2c_i1);
+    w2c_j0 = w2c_l3;
+    w2c_j1 = 4ull;
+    w2c_j0 += w2c_j1;
+    w2c_l3 = w2c_j0;
+    w2c_j0 = w2c_l6;
+    w2c_j1 = 4ull;
+    w2c_j0 += w2c_j1;
+    w2c_l6 = w2c_j0;
+    w2c_j0 = w2c_l8;
+    w2c_j1 = 18446744073709551615ull;
+    w2c_j0 += w2c_j1;
+    w2c_l8 = w2c_j0;
+    w2c_j1 = 0ull;
+    w2c_i0 = w2c_j0 != w2c_j1;
+    if (w2c_i0) {goto w2c_L17;}
+  w2c_B14:;
+  w2c_j0 = w2c_l7;
+  w2c_j1 = 2ull;
+  w2c_j0 <<= (w2c_j1 & 63);
+  w2c_l8 = w2c_j0;
+  w2c_j0 = w2c_p2;
+  w2c_j1 = 28ull;
+  w2c_j0 += w2c_j1;
+  w2c_p1 = w2c_j0;
+  w2c_j0 = w2c_l4;
+  w2c_j1 = 736ull;
+  w2c_j0 += w2c_j1;
+  w2c_j1 = w2c_p2;
+  w2c_j2 = 18446744073709551612ull;
+  w2c_j1 &= w2c_j2;
+  w2c_j0 += w2c_j1;
+  w2c_j1 = 18446744073709551612ull;
+  w2c_j0 += w2c_j1;
+  w2c_i0 = (u32)(w2c_j0);
+  w2c_i0 = i32_load(memory, (u64)(w2c_i0));
+  w2c_l11 = w2c_i0;
+  w2c_j0 = w2c_l4;
+  w2c_j1 = 736ull;
+  w2c_j0 += w2c_j1;
+  w2c_l6 = w2c_j0;
+  w2c_j0 = w2c_l7;
+  w2c_l3 = w2c_j0;
+  w2c_L18: 
+    w2c_j0 = w2c_l3;
+    w2c_j1 = w2c_l3;
+    w2c_j2 = w2c_l7;
+    w2c_j1 = DIV_U(w2c_j1, w2c_j2);
+    w2c_l5 = w2c_j1;
+    w2c_j2 = w2c_l7;
+    w2c_j1 *= w2c_j2;
+    w2c_j0 -= w2c_j1;
+    w2c_j1 = 0ull;
+    w2c_i0 = w2c_j0 != w2c_j1;
+    if (w2c_i0) {goto w2c_B20;}
+    w2c_i0 = w2c_l11;
+    w2c_i1 = 8u;
+    w2c_i0 = I32_ROTL(w2c_i0, w2c_i1);
+    w2c_l11 = w2c_i0;
+    w2c_i1 = 16u;
+    w2c_i0 >>= (w2c_i1 & 31);
+    w2c_j0 = (u64)(w2c_i0);
+    w2c_j1 = 255ull;
+    w2c_j0 &= w2c_j1;
+    w2c_j1 = 66019ull;
+    w2c_j0 += w2c_j1;
+    w2c_i0 = (u32)(w2c_j0);
+    w2c_i0 = constant_i32_load8_u((u64)(w2c_i0));
+    w2c_i1 = 8u;
+    w2c_i0 <<= (w2c_i1 & 31);
+    w2c_i1 = w2c_l11;
+    w2c_j1 = (u64)(w2c_i1);
+    w2c_l9 = w2c_j1;
+    w2c_j2 = 24ull;
+    w2c_j1 >>= (w2c_j2 & 63);
+    w2c_i1 = (u32)(w2c_j1);
+    w2c_i1 = constant_i32_load8_u((u64)(w2c_i1) + 66019u);
+    w2c_i0 |= w2c_i1;
+    w2c_i1 = w2c_l11;
+    w2c_i2 = 8u;
+    w2c_i1 >>= (w2c_i2 & 31);
+    w2c_j1 = (u64)(w2c_i1);
+    w2c_j2 = 255ull;
+    w2c_j1 &= w2c_j2;
+    w2c_j2 = 66019ull;
+    w2c_j1 += w2c_j2;
+    w2c_i1 = (u32)(w2c_j1);
+    w2c_i1 = constant_i32_load8_u((u64)(w2c_i1));
+    w2c_i2 = 16u;
+    w2c_i1 <<= (w2c_i2 & 31);
+    w2c_i0 |= w2c_i1;
+    w2c_j1 = w2c_l9;
+    w2c_j2 = 255ull;
+    w2c_j1 &= w2c_j2;
+    w2c_i1 = (u32)(w2c_j1);
+    w2c_i1 = constant_i32_load8_u((u64)(w2c_i1) + 66019u);
+    w2c_i2 = 24u;
+    w2c_i1 <<= (w2c_i2 & 31);
+    w2c_i0 |= w2c_i1;
+    w2c_l11 = w2c_i0;
+    w2c_i1 = 16711935u;
+    w2c_i0 &= w2c_i1;
+    w2c_i1 = 8u;
+    w2c_i0 = I32_ROTR(w2c_i0, w2c_i1);
+    w2c_i1 = w2c_l11;
+    w2c_i2 = 24u;
+    w2c_i1 = I32_ROTR(w2c_i1, w2c_i2);
+    w2c_i2 = 16711935u;
+    w2c_i1 &= w2c_i2;
+    w2c_i0 |= w2c_i1;
+    w2c_j1 = w2c_l5;
+    w2c_j2 = 2ull;
+    w2c_j1 <<= (w2c_j2 & 63);
+    w2c_j2 = 65532ull;
+    w2c_j1 += w2c_j2;
+    w2c_i1 = (u32)(w2c_j1);
+    w2c_i1 = i32_load(memory, (u64)(w2c_i1));
+    w2c_i0 ^= w2c_i1;
+    w2c_l11 = w2c_i0;
+    goto w2c_B19;
+    w2c_B20:;
+    w2c_j0 = w2c_l7;
+    w2c_j1 = 8ull;
+    w2c_i0 = w2c_j0 != w2c_j1;
+    if (w2c_i0) {goto w2c_B19;}
+    w2c_j0 = w2c_l3;
+    w2c_j1 = 7ull;
+    w2c_j0 &= w2c_j1;
+    w2c_j1 = 4ull;
+    w2c_i0 = w2c_j0 != w2c_j1;
+    if (w2c_i0) {goto w2c_B19;}
+    w2c_i0 = w2c_l11;
+    w2c_i1 = 16u;
+    w2c_i0 >>= (w2c_i1 & 31);
+    w2c_j0 = (u64)(w2c_i0);
+    w2c_j1 = 255ull;
+    w2c_j0 &= w2c_j1;
+    w2c_j1 = 66019ull;
+    w2c_j0 += w2c_j1;
+    w2c_i0 = (u32)(w2c_j0);
+    w2c_i0 = constant_i32_load8_u((u64)(w2c_i0));
+    w2c_i1 = 8u;
+    w2c_i0 <<= (w2c_i1 & 31);
+    w2c_i1 = w2c_l11;
+    w2c_j1 = (u64)(w2c_i1);
+    w2c_l5 = w2c_j1;
+    w2c_j2 = 24ull;
+    w2c_j1 >>= (w2c_j2 & 63);
+    w2c_i1 = (u32)(w2c_j1);
+    w2c_i1 = constant_i32_load8_u((u64)(w2c_i1) + 66019u);
+    w2c_i0 |= w2c_i1;
+    w2c_i1 = w2c_l11;
+    w2c_i2 = 8u;
+    w2c_i1 >>= (w2c_i2 & 31);
+    w2c_j1 = (u64)(w2c_i1);
+    w2c_j2 = 255ull;
+    w2c_j1 &= w2c_j2;
+    w2c_j2 = 66019ull;
+    w2c_j1 += w2c_j2;
+    w2c_i1 = (u32)(w2c_j1);
+    w2c_i1 = constant_i32_load8_u((u64)(w2c_i1));
+    w2c_i2 = 16u;
+    w2c_i1 <<= (w2c_i2 & 31);
+    w2c_i0 |= w2c_i1;
+    w2c_j1 = w2c_l5;
+    w2c_j2 = 255ull;
+    w2c_j1 &= w2c_j2;
+    w2c_i1 = (u32)(w2c_j1);
+    w2c_i1 = constant_i32_load8_u((u64)(w2c_i1) + 66019u);
+    w2c_i2 = 24u;
+    w2c_i1 <<= (w2c_i2 & 31);
+    w2c_i0 |= w2c_i1;
+    w2c_l11 = w2c_i0;
+    w2c_i1 = 16711935u;
+    w2c_i0 &= w2c_i1;
+    w2c_i1 = 8u;
+    w2c_i0 = I32_ROTR(w2c_i0, w2c_i1);
+    w2c_i1 = w2c_l11;
+    w2c_i2 = 24u;
+    w2c_i1 = I32_ROTR(w2c_i1, w2c_i2);
+    w2c_i2 = 16711935u;
+    w2c_i1 &= w2c_i2;
+    w2c_i0 |= w2c_i1;
+    w2c_l11 = w2c_i0;
+    w2c_B19:;
+    w2c_j0 = w2c_l6;
+    w2c_j1 = w2c_l8;
+    w2c_j0 += w2c_j1;
+    w2c_i0 = (u32)(w2c_j0);
+    w2c_i1 = w2c_l11;
+    w2c_j2 = w2c_l6;
+    w2c_i2 = (u32)(w2c_j2);
+    w2c_i2 = i32_load(memory, (u64)(w2c_i2));
+    w2c_i1 ^= w2c_i2;
+    w2c_l11 = w2c_i1;
+    i32_store(memory, (u64)(w2c_i0), w2c_i1);
+    w2c_j0 = w2c_l6;
+    w2c_j1 = 4ull;
+    w2c_j0 += w2c_j1;
+    w2c_l6 = w2c_j0;
+    w2c_j0 = w2c_p1;
+    w2c_j1 = w2c_l3;
+    w2c_j2 = 1ull;
+    w2c_j1 += w2c_j2;
+    w2c_l3 = w2c_j1;
+    w2c_i0 = w2c_j0 != w2c_j1;
+    if (w2c_i0) {goto w2c_L18;}
+  w2c_j0 = w2c_l4;
+  w2c_j1 = 252ull;
+  w2c_j0 += w2c_j1;
+  w2c_i0 = (u32)(w2c_j0);
+  w2c_j1 = w2c_l4;
+  w2c_j2 = 736ull;
+  w2c_j1 += w2c_j2;
+  w2c_i1 = (u32)(w2c_j1);
+  w2c_j2 = 240ull;
+  w2c_i2 = (u32)(w2c_j2);
+  memory_copy(memory, memory, w2c_i0, w2c_i1, w2c_i2);
+  w2c_j0 = w2c_l4;
+  w2c_j1 = 12ull;
+  w2c_j0 += w2c_j1;
+  w2c_i0 = (u32)(w2c_j0);
+  w2c_j1 = w2c_l4;
+  w2c_j2 = 252ull;
+  w2c_j1 += w2c_j2;
+  w2c_i1 = (u32)(w2c_j1);
+  w2c_j2 = 240ull;
+  w2c_i2 = (u32)(w2c_j2);
+  memory_copy(memory, memory, w2c_i0, w2c_i1, w2c_i2);
+  w2c_j0 = w2c_l4;
+  w2c_i0 = (u32)(w2c_j0);
+  w2c_i1 = 0u;
+  i32_store8(memory, (u64)(w2c_i0) + 10, w2c_i1);
+  w2c_j0 = w2c_l4;
+  w2c_i0 = (u32)(w2c_j0);
+  w2c_i1 = 0u;
+  i32_store16(memory, (u64)(w2c_i0) + 8, w2c_i1);
+  w2c_i0 = 1u;
+  w2c_l11 = w2c_i0;
+  goto w2c_B1;
+  w2c_B3:;
+  UNREACHABLE;
+  w2c_B2:;
+  w2c_i0 = 0u;
+  w2c_l12 = w2c_i0;
+  w2c_i0 = 0u;
+  w2c_l11 = w2c_i0;
+  w2c_B1:;
+  w2c_j0 = w2c_p0;
+  w2c_i0 = (u32)(w2c_j0);
+  w2c_i1 = w2c_l11;
+  i32_store(memory, (u64)(w2c_i0), w2c_i1);
+  w2c_j0 = w2c_p0;
+  w2c_j1 = 4ull;
+  w2c_j0 += w2c_j1;
+  w2c_i0 = (u32)(w2c_j0);
+  w2c_j1 = w2c_l4;
+  w2c_j2 = 12ull;
+  w2c_j1 += w2c_j2;
+  w2c_i1 = (u32)(w2c_j1);
+  w2c_j2 = 240ull;
+  w2c_i2 = (u32)(w2c_j2);
+  memory_copy(memory, memory, w2c_i0, w2c_i1, w2c_i2);
+  w2c_j0 = w2c_p0;
+  w2c_j1 = 244ull;
+  w2c_j0 += w2c_j1;
+  w2c_i0 = (u32)(w2c_j0);
+  w2c_i1 = w2c_l12;
+  i32_store8(memory, (u64)(w2c_i0), w2c_i1);
+  w2c_j0 = w2c_p0;
+  w2c_j1 = 245ull;
+  w2c_j0 += w2c_j1;
+  w2c_i0 = (u32)(w2c_j0);
+  w2c_j1 = w2c_l4;
+  w2c_i1 = (u32)(w2c_j1);
+  w2c_i1 = i32_load16_u(memory, (u64)(w2c_i1) + 8u);
+  i32_store16(memory, (u64)(w2c_i0), w2c_i1);
+  w2c_j0 = w2c_p0;
+  w2c_j1 = 247ull;
+  w2c_j0 += w2c_j1;
+  w2c_i0 = (u32)(w2c_j0);
+  w2c_j1 = w2c_l4;
+  w2c_i1 = (u32)(w2c_j1);
+  w2c_i1 = i32_load8_u(memory, (u64)(w2c_i1) + 10u);
+  i32_store8(memory, (u64)(w2c_i0), w2c_i1);
+  w2c_B0:;
+  w2c_j0 = w2c_l4;
+  w2c_j1 = 976ull;
+  w2c_j0 += w2c_j1;
+  instance->w2c_g0 = w2c_j0;
+}
+static void w2c_f38(struct instance *instance, u64 w2c_p0, u64 w2c_p1, u64 w2c_p2, u64 w2c_p3, u64 w2c_p4, u64 w2c_p5, u64 w2c_p6) {
+  u32 w2c_l12 = 0, w2c_l13 = 0, w2c_l14 = 0;
+  u64 w2c_l7 = 0, w2c_l8 = 0, w2c_l9 = 0, w2c_l10 = 0, w2c_l11 = 0;
+  const struct memory memory = instance->w2c_memory;
+  (void)memory;
+  u32 w2c_i0, w2c_i1, w2c_i2, w2c_i3, w2c_i4;
+  u64 w2c_j0, w2c_j1, w2c_j2, w2c_j3, w2c_j4, w2c_j5, w2c_j6, w2c_j7, 
+      w2c_j8;
+  w2c_j0 = instance->w2c_g0;
+  w2c_j1 = 32ull;
+  w2c_j0 -= w2c_j1;
+  w2c_l7 = w2c_j0;
+  instance->w2c_g0 = w2c_j0;
+  w2c_j0 = w2c_l7;
+  w2c_l8 = w2c_j0;
+  w2c_j1 = 16ull;
+  w2c_i0 = (u64)((s64)w2c_j0 < (s64)w2c_j1);
+  if (w2c_i0) {goto w2c_B1;}
+  w2c_j0 = w2c_p4;
+  w2c_j1 = 7ull;
+  w2c_j0 &= w2c_j1;
+  w2c_j1 = 0ull;
+  w2c_i0 = w2c_j0 != w2c_j1;
+  if (w2c_i0) {goto w2c_B3;}
+  w2c_j0 = w2c_p4;
+  w2c_j1 = 18446744073709551600ull;
+  w2c_j0 += w2c_j1;
+  w2c_j1 = 1048568ull;
+  w2c_i0 = w2c_j0 > w2c_j1;
+  if (w2c_i0) {goto w2c_B3;}
+  w2c_j0 = w2c_p6;
+  w2c_j1 = w2c_p4;
+  w2c_j2 = 18446744073709551608ull;
+  w2c_j1 += w2c_j2;
+  w2c_i0 = w2c_j0 == w2c_j1;
+  if (w2c_i0) {goto w2c_B2;}
+  w2c_B3:;
+  w2c_j0 = w2c_p0;
+  w2c_i0 = (u32)(w2c_j0);
+  w2c_i1 = 1u;
+  i32_store16(memory, (u64)(w2c_i0), w2c_i1);
+  w2c_j0 = w2c_p0;
+  w2c_j1 = 8ull;
+  w2c_j0 += w2c_j1;
+  w2c_i0 = (u32)(w2c_j0);
+  w2c_j1 = 0ull;
+  i64_store(memory, (u64)(w2c_i0), w2c_j1);
+  w2c_j0 = w2c_p0;
+  w2c_j1 = 16ull;
+  w2c_j0 += w2c_j1;
+  w2c_i0 = (u32)(w2c_j0);
+  w2c_j1 = 0ull;
+  i64_store(memory, (u64)(w2c_i0), w2c_j1);
+  goto w2c_B0;
+  w2c_B2:;
+  w2c_j0 = w2c_p5;
+  w2c_j1 = w2c_p3;
+  w2c_j2 = 8ull;
+  w2c_j1 += w2c_j2;
+  w2c_p4 = w2c_j1;
+  w2c_j0 -= w2c_j1;
+  w2c_j1 = w2c_p6;
+  w2c_i0 = w2c_j0 >= w2c_j1;
+  if (w2c_i0) {goto w2c_B5;}
+  w2c_j0 = w2c_p6;
+  w2c_j1 = 3ull;
+  w2c_j0 &= w2c_j1;
+  w2c_l9 = w2c_j0;
+  w2c_j0 = 0ull;
+  w2c_l7 = w2c_j0;
+  w2c_j0 = w2c_p6;
+  w2c_j1 = 4ull;
+  w2c_i0 = w2c_j0 < w2c_j1;
+  if (w2c_i0) {goto w2c_B6;}
+  w2c_j0 = w2c_p6;
+  w2c_j1 = 18446744073709551612ull;
+  w2c_j0 &= w2c_j1;
+  w2c_l10 = w2c_j0;
+  w2c_j0 = 0ull;
+  w2c_l7 = w2c_j0;
+  w2c_L7: 
+    w2c_j0 = w2c_p5;
+    w2c_j1 = w2c_l7;
+    w2c_j0 += w2c_j1;
+    w2c_p4 = w2c_j0;
+    w2c_i0 = (u32)(w2c_j0);
+    w2c_j1 = w2c_p3;
+    w2c_j2 = w2c_l7;
+    w2c_j1 += w2c_j2;
+    w2c_l11 = w2c_j1;
+    w2c_j2 = 8ull;
+    w2c_j1 += w2c_j2;
+    w2c_i1 = (u32)(w2c_j1);
+    w2c_i1 = i32_load8_u(memory, (u64)(w2c_i1));
+    i32_store8(memory, (u64)(w2c_i0), w2c_i1);
+    w2c_j0 = w2c_p4;
+    w2c_j1 = 1ull;
+    w2c_j0 += w2c_j1;
+    w2c_i0 = (u32)(w2c_j0);
+    w2c_j1 = w2c_l11;
+    w2c_j2 = 9ull;
+    w2c_j1 += w2c_j2;
+    w2c_i1 = (u32)(w2c_j1);
+    w2c_i1 = i32_load8_u(memory, (u64)(w2c_i1));
+    i32_store8(memory, (u64)(w2c_i0), w2c_i1);
+    w2c_j0 = w2c_p4;
+    w2c_j1 = 2ull;
+    w2c_j0 += w2c_j1;
+    w2c_i0 = (u32)(w2c_j0);
+    w2c_j1 = w2c_l11;
+    w2c_j2 = 10ull;
+    w2c_j1 += w2c_j2;
+    w2c_i1 = (u32)(w2c_j1);
+    w2c_i1 = i32_load8_u(memory, (u64)(w2c_i1));
+    i32_store8(memory, (u64)(w2c_i0), w2c_i1);
+    w2c_j0 = w2c_p4;
+    w2c_j1 = 3ull;
+    w2c_j0 += w2c_j1;
+    w2c_i0 = (u32)(w2c_j0);
+    w2c_j1 = w2c_l11;
+    w2c_j2 = 11ull;
+    w2c_j1 += w2c_j2;
+    w2c_i1 = (u32)(w2c_j1);
+    w2c_i1 = i32_load8_u(memory, (u64)(w2c_i1));
+    i32_store8(memory, (u64)(w2c_i0), w2c_i1);
+    w2c_j0 = w2c_l10;
+    w2c_j1 = w2c_l7;
+    w2c_j2 = 4ull;
+    w2c_j1 += w2c_j2;
+    w2c_l7 = w2c_j1;
+    w2c_i0 = w2c_j0 != w2c_j1;
+    if (w2c_i0) {goto w2c_L7;}
+  w2c_j0 = w2c_l9;
+  w2c_i0 = !(w2c_j0);
+  if (w2c_i0) {goto w2c_B4;}
+  w2c_B6:;
+  w2c_j0 = w2c_p5;
+  w2c_j1 = w2c_l7;
+  w2c_j0 += w2c_j1;
+  w2c_p4 = w2c_j0;
+  w2c_j0 = w2c_l7;
+  w2c_j1 = w2c_p3;
+  w2c_j0 += w2c_j1;
+  w2c_j1 = 8ull;
+  w2c_j0 += w2c_j1;
+  w2c_l7 = w2c_j0;
+  w2c_L8: 
+    w2c_j0 = w2c_p4;
+    w2c_i0 = (u32)(w2c_j0);
+    w2c_j1 = w2c_l7;
+    w2c_i1 = (u32)(w2c_j1);
+    w2c_i1 = i32_load8_u(memory, (u64)(w2c_i1));
+    i32_store8(memory, (u64)(w2c_i0), w2c_i1);
+    w2c_j0 = w2c_p4;
+    w2c_j1 = 1ull;
+    w2c_j0 += w2c_j1;
+    w2c_p4 = w2c_j0;
+    w2c_j0 = w2c_l7;
+    w2c_j1 = 1ull;
+    w2c_j0 += w2c_j1;
+    w2c_l7 = w2c_j0;
+    w2c_j0 = w2c_l9;
+    w2c_j1 = 18446744073709551615ull;
+    w2c_j0 += w2c_j1;
+    w2c_l9 = w2c_j0;
+    w2c_j1 = 0ull;
+    w2c_i0 = w2c_j0 != w2c_j1;
+    if (w2c_i0) {goto w2c_L8;}
+    goto w2c_B4;
+  UNREACHABLE;
+  w2c_B5:;
+  w2c_j0 = w2c_p6;
+  w2c_i0 = !(w2c_j0);
+  if (w2c_i0) {goto w2c_B4;}
+  w2c_j0 = w2c_p5;
+  w2c_i0 = (u32)(w2c_j0);
+  w2c_j1 = w2c_p4;
+  w2c_i1 = (u32)(w2c_j1);
+  w2c_j2 = w2c_p6;
+  w2c_i2 = (u32)(w2c_j2);
+  memory_copy(memory, memory, w2c_i0, w2c_i1, w2c_i2);
+  w2c_B4:;
+  w2c_j0 = 0ull;
+  w2c_l7 = w2c_j0;
+  w2c_j0 = w2c_l8;
+  w2c_j1 = 8ull;
+  w2c_j0 += w2c_j1;
+  w2c_j1 = w2c_p6;
+  w2c_j2 = 8ull;
+  w2c_i1 = w2c_j1 == w2c_j2;
+  w2c_j2 = w2c_p2;
+  w2c_i2 = (u32)(w2c_j2);
+  w2c_j2 = i64_load(memory, (u64)(w2c_i2));
+  w2c_j3 = w2c_p1;
+  w2c_j4 = w2c_p3;
+  w2c_i4 = (u32)(w2c_j4);
+  w2c_j4 = i64_load(memory, (u64)(w2c_i4));
+  w2c_p4 = w2c_j4;
+  w2c_j5 = 56ull;
+  w2c_j4 <<= (w2c_j5 & 63);
+  w2c_j5 = w2c_p4;
+  w2c_j6 = 65280ull;
+  w2c_j5 &= w2c_j6;
+  w2c_j6 = 40ull;
+  w2c_j5 <<= (w2c_j6 & 63);
+  w2c_j4 |= w2c_j5;
+  w2c_j5 = w2c_p4;
+  w2c_j6 = 16711680ull;
+  w2c_j5 &= w2c_j6;
+  w2c_j6 = 24ull;
+  w2c_j5 <<= (w2c_j6 & 63);
+  w2c_j6 = w2c_p4;
+  w2c_j7 = 4278190080ull;
+  w2c_j6 &= w2c_j7;
+  w2c_j7 = 8ull;
+  w2c_j6 <<= (w2c_j7 & 63);
+  w2c_j5 |= w2c_j6;
+  w2c_j4 |= w2c_j5;
+  w2c_j5 = w2c_p4;
+  w2c_j6 = 8ull;
+  w2c_j5 >>= (w2c_j6 & 63);
+  w2c_j6 = 4278190080ull;
+  w2c_j5 &= w2c_j6;
+  w2c_j6 = w2c_p4;
+  w2c_j7 = 24ull;
+  w2c_j6 >>= (w2c_j7 & 63);
+  w2c_j7 = 16711680ull;
+  w2c_j6 &= w2c_j7;
+  w2c_j5 |= w2c_j6;
+  w2c_j6 = w2c_p4;
+  w2c_j7 = 40ull;
+  w2c_j6 >>= (w2c_j7 & 63);
+  w2c_j7 = 65280ull;
+  w2c_j6 &= w2c_j7;
+  w2c_j7 = w2c_p4;
+  w2c_j8 = 56ull;
+  w2c_j7 >>= (w2c_j8 & 63);
+  w2c_j6 |= w2c_j7;
+  w2c_j5 |= w2c_j6;
+  w2c_j4 |= w2c_j5;
+  w2c_j5 = w2c_p5;
+  w2c_j6 = w2c_p6;
+  w2c_j3 = w2c_f39(instance, w2c_j3, w2c_j4, w2c_j5, w2c_j6);
+  w2c_p4 = w2c_j3;
+  w2c_i2 = w2c_j2 != w2c_j3;
+  w2c_i1 |= w2c_i2;
+  w2c_j2 = w2c_p6;
+  w2c_j3 = w2c_p4;
+  w2c_j4 = 4294967295ull;
+  w2c_j3 &= w2c_j4;
+  w2c_l9 = w2c_j3;
+  w2c_j2 -= w2c_j3;
+  w2c_l11 = w2c_j2;
+  w2c_j3 = 3ull;
+  w2c_j2 >>= (w2c_j3 & 63);
+  w2c_j3 = w2c_p4;
+  w2c_j4 = 32ull;
+  w2c_j3 >>= (w2c_j4 & 63);
+  w2c_j4 = 2790873510ull;
+  w2c_j3 ^= w2c_j4;
+  w2c_j2 |= w2c_j3;
+  w2c_j3 = w2c_p5;
+  w2c_j4 = w2c_p6;
+  w2c_j3 += w2c_j4;
+  w2c_j4 = 18446744073709551608ull;
+  w2c_j3 += w2c_j4;
+  w2c_i3 = (u32)(w2c_j3);
+  w2c_j3 = i64_load(memory, (u64)(w2c_i3));
+  w2c_p4 = w2c_j3;
+  w2c_j4 = 56ull;
+  w2c_j3 <<= (w2c_j4 & 63);
+  w2c_j4 = w2c_p4;
+  w2c_j5 = 65280ull;
+  w2c_j4 &= w2c_j5;
+  w2c_j5 = 40ull;
+  w2c_j4 <<= (w2c_j5 & 63);
+  w2c_j3 |= w2c_j4;
+  w2c_j4 = w2c_p4;
+  w2c_j5 = 16711680ull;
+  w2c_j4 &= w2c_j5;
+  w2c_j5 = 24ull;
+  w2c_j4 <<= (w2c_j5 & 63);
+  w2c_j5 = w2c_p4;
+  w2c_j6 = 4278190080ull;
+  w2c_j5 &= w2c_j6;
+  w2c_j6 = 8ull;
+  w2c_j5 <<= (w2c_j6 & 63);
+  w2c_j4 |= w2c_j5;
+  w2c_j3 |= w2c_j4;
+  w2c_j4 = w2c_p4;
+  w2c_j5 = 8ull;
+  w2c_j4 >>= (w2c_j5 & 63);
+  w2c_j5 = 4278190080ull;
+  w2c_j4 &= w2c_j5;
+  w2c_j5 = w2c_p4;
+  w2c_j6 = 24ull;
+  w2c_j5 >>= (w2c_j6 & 63);
+  w2c_j6 = 16711680ull;
+  w2c_j5 &= w2c_j6;
+  w2c_j4 |= w2c_j5;
+  w2c_j5 = w2c_p4;
+  w2c_j6 = 40ull;
+  w2c_j5 >>= (w2c_j6 & 63);
+  w2c_j6 = 65280ull;
+  w2c_j5 &= w2c_j6;
+  w2c_j6 = w2c_p4;
+  w2c_j7 = 56ull;
+  w2c_j6 >>= (w2c_j7 & 63);
+  w2c_j5 |= w2c_j6;
+  w2c_j4 |= w2c_j5;
+  w2c_j3 |= w2c_j4;
+  w2c_j4 = 18446744073709551615ull;
+  w2c_j5 = w2c_l11;
+  w2c_j6 = 3ull;
+  w2c_j5 <<= (w2c_j6 & 63);
+  w2c_j4 <<= (w2c_j5 & 63);
+  w2c_j5 = 18446744073709551615ull;
+  w2c_j4 ^= w2c_j5;
+  w2c_j3 &= w2c_j4;
+  w2c_j2 |= w2c_j3;
+  w2c_p4 = w2c_j2;
+  w2c_j3 = 0ull;
+  w2c_i2 = w2c_j2 != w2c_j3;
+  w2c_i1 &= w2c_i2;
+  w2c_j1 = (u64)(w2c_i1);
+  w2c_j2 = w2c_p5;
+  w2c_j3 = w2c_p6;
+  w2c_f13(instance, w2c_j0, w2c_j1, w2c_j2, w2c_j3);
+  w2c_j0 = w2c_l8;
+  w2c_i0 = (u32)(w2c_j0);
+  w2c_i0 = i32_load8_u(memory, (u64)(w2c_i0) + 8u);
+  if (w2c_i0) {goto w2c_B10;}
+  w2c_j0 = w2c_l8;
+  w2c_j1 = w2c_p4;
+  w2c_j2 = w2c_l8;
+  w2c_j3 = 31ull;
+  w2c_j2 += w2c_j3;
+  w2c_j3 = 0ull;
+  w2c_f13(instance, w2c_j0, w2c_j1, w2c_j2, w2c_j3);
+  w2c_i0 = 0u;
+  w2c_l12 = w2c_i0;
+  w2c_j0 = w2c_l8;
+  w2c_i0 = (u32)(w2c_j0);
+  w2c_i1 = 0u;
+  i32_store(memory, (u64)(w2c_i0) + 24, w2c_i1);
+  w2c_j0 = w2c_l8;
+  w2c_i0 = (u32)(w2c_j0);
+  w2c_i1 = 0u;
+  i32_store(memory, (u64)(w2c_i0) + 27, w2c_i1);
+  w2c_j0 = w2c_p6;
+  w2c_j1 = w2c_l9;
+  w2c_j2 = w2c_l8;
+  w2c_i2 = (u32)(w2c_j2);
+  w2c_i2 = i32_load8_u(memory, (u64)(w2c_i2));
+  w2c_l13 = w2c_i2;
+  w2c_j0 = w2c_i2 ? w2c_j0 : w2c_j1;
+  w2c_l7 = w2c_j0;
+  w2c_i0 = w2c_l13;
+  w2c_i0 = !(w2c_i0);
+  w2c_l13 = w2c_i0;
+  w2c_i0 = 0u;
+  w2c_l14 = w2c_i0;
+  goto w2c_B9;
+  w2c_B10:;
+  w2c_j0 = w2c_l8;
+  w2c_i0 = (u32)(w2c_j0);
+  w2c_i0 = i32_load8_u(memory, (u64)(w2c_i0) + 9u);
+  w2c_l14 = w2c_i0;
+  w2c_i0 = 0u;
+  w2c_l13 = w2c_i0;
+  w2c_j0 = w2c_l8;
+  w2c_i0 = (u32)(w2c_j0);
+  w2c_i1 = 0u;
+  i32_store(memory, (u64)(w2c_i0) + 27, w2c_i1);
+  w2c_j0 = w2c_l8;
+  w2c_i0 = (u32)(w2c_j0);
+  w2c_i1 = 0u;
+  i32_store(memory, (u64)(w2c_i0) + 24, w2c_i1);
+  w2c_i0 = 1u;
+  w2c_l12 = w2c_i0;
+  w2c_B9:;
+  w2c_j0 = w2c_l8;
+  w2c_i0 = (u32)(w2c_j0);
+  w2c_j1 = w2c_l8;
+  w2c_i1 = (u32)(w2c_j1);
+  w2c_i1 = i32_load(memory, (u64)(w2c_i1) + 27u);
+  i32_store(memory, (u64)(w2c_i0) + 19, w2c_i1);
+  w2c_j0 = w2c_l8;
+  w2c_i0 = (u32)(w2c_j0);
+  w2c_j1 = w2c_l8;
+  w2c_i1 = (u32)(w2c_j1);
+  w2c_i1 = i32_load(memory, (u64)(w2c_i1) + 24u);
+  i32_store(memory, (u64)(w2c_i0) + 16, w2c_i1);
+  w2c_j0 = w2c_p0;
+  w2c_j1 = 8ull;
+  w2c_j0 += w2c_j1;
+  w2c_i0 = (u32)(w2c_j0);
+  w2c_i1 = w2c_l13;
+  i32_store8(memory, (u64)(w2c_i0), w2c_i1);
+  w2c_j0 = w2c_p0;
+  w2c_j1 = 1ull;
+  w2c_j0 += w2c_j1;
+  w2c_i0 = (u32)(w2c_j0);
+  w2c_i1 = w2c_l14;
+  i32_store8(memory, (u64)(w2c_i0), w2c_i1);
+  w2c_j0 = w2c_p0;
+  w2c_i0 = (u32)(w2c_j0);
+  w2c_i1 = w2c_l12;
+  i32_store8(memory, (u64)(w2c_i0), w2c_i1);
+  w2c_j0 = w2c_p0;
+  w2c_j1 = 9ull;
+  w2c_j0 += w2c_j1;
+  w2c_i0 = (u32)(w2c_j0);
+  w2c_j1 = w2c_l8;
+  w2c_i1 = (u32)(w2c_j1);
+  w2c_i1 = i32_load(memory, (u64)(w2c_i1) + 16u);
+  i32_store(memory, (u64)(w2c_i0), w2c_i1);
+  w2c_j0 = w2c_p0;
+  w2c_j1 = 12ull;
+  w2c_j0 += w2c_j1;
+  w2c_i0 = (u32)(w2c_j0);
+  w2c_j1 = w2c_l8;
+  w2c_i1 = (u32)(w2c_j1);
+  w2c_i1 = i32_load(memory, (u64)(w2c_i1) + 19u);
+  i32_store(memory, (u64)(w2c_i0), w2c_i1);
+  w2c_j0 = w2c_p0;
+  w2c_j1 = 16ull;
+  w2c_j0 += w2c_j1;
+  w2c_i0 = (u32)(w2c_j0);
+  w2c_j1 = w2c_l7;
+  i64_store(memory, (u64)(w2c_i0), w2c_j1);
+  goto w2c_B0;
+  w2c_B1:;
+  UNREACHABLE;
+  w2c_B0:;
+  w2c_j0 = w2c_l8;
+  w2c_j1 = 32ull;
+  w2c_j0 += w2c_j1;
+  instance->w2c_g0 = w2c_j0;
+}
+static u64 w2c_f39(struct instance *instance, u64 w2c_p0, u64 w2c_p1, u64 w2c_p2, u64 w2c_p3) {
+  u32 w2c_l11 = 0, w2c_l12 = 0, w2c_l13 = 0, w2c_l14 = 0, w2c_l15 = 0, w2c_l16 = 0;
+  u64 w2c_l4 = 0, w2c_l5 = 0, w2c_l6 = 0, w2c_l7 = 0, w2c_l8 = 0, w2c_l9 = 0, w2c_l10 = 0;
+  const struct memory memory = instance->w2c_memory;
+  (void)memory;
+  u32 w2c_i0, w2c_i1, w2c_i2, w2c_i3, w2c_i4;
+  u64 w2c_j0, w2c_j1, w2c_j2, w2c_j3, w2c_j4, w2c_j5;
+  w2c_j0 = instance->w2c_g0;
+  w2c_j1 = 16ull;
+  w2c_i0 = (u64)((s64)w2c_j0 < (s64)w2c_j1);
+  if (w2c_i0) {goto w2c_B0;}
+  w2c_j0 = 0ull;
+  w2c_j1 = w2c_p3;
+  w2c_j2 = 3ull;
+  w2c_j1 >>= (w2c_j2 & 63);
+  w2c_l4 = w2c_j1;
+  w2c_j2 = 6ull;
+  w2c_j1 *= w2c_j2;
+  w2c_l5 = w2c_j1;
+  w2c_j2 = w2c_p3;
+  w2c_j3 = 8ull;
+  w2c_i2 = w2c_j2 == w2c_j3;
+  w2c_l11 = w2c_i2;
+  w2c_j0 = w2c_i2 ? w2c_j0 : w2c_j1;
+  w2c_j1 = w2c_p1;
+  w2c_j0 ^= w2c_j1;
+  w2c_p1 = w2c_j0;
+  w2c_j0 = 1ull;
+  w2c_j1 = w2c_l5;
+  w2c_i2 = w2c_l11;
+  w2c_j0 = w2c_i2 ? w2c_j0 : w2c_j1;
+  w2c_l6 = w2c_j0;
+  w2c_i0 = !(w2c_j0);
+  if (w2c_i0) {goto w2c_B1;}
+  w2c_j0 = w2c_p1;
+  w2c_j1 = 56ull;
+  w2c_j0 <<= (w2c_j1 & 63);
+  w2c_j1 = w2c_p1;
+  w2c_j2 = 65280ull;
+  w2c_j1 &= w2c_j2;
+  w2c_j2 = 40ull;
+  w2c_j1 <<= (w2c_j2 & 63);
+  w2c_j0 |= w2c_j1;
+  w2c_j1 = w2c_p1;
+  w2c_j2 = 16711680ull;
+  w2c_j1 &= w2c_j2;
+  w2c_j2 = 24ull;
+  w2c_j1 <<= (w2c_j2 & 63);
+  w2c_j2 = w2c_p1;
+  w2c_j3 = 4278190080ull;
+  w2c_j2 &= w2c_j3;
+  w2c_j3 = 8ull;
+  w2c_j2 <<= (w2c_j3 & 63);
+  w2c_j1 |= w2c_j2;
+  w2c_j0 |= w2c_j1;
+  w2c_j1 = w2c_p1;
+  w2c_j2 = 8ull;
+  w2c_j1 >>= (w2c_j2 & 63);
+  w2c_j2 = 4278190080ull;
+  w2c_j1 &= w2c_j2;
+  w2c_j2 = w2c_p1;
+  w2c_j3 = 24ull;
+  w2c_j2 >>= (w2c_j3 & 63);
+  w2c_j3 = 16711680ull;
+  w2c_j2 &= w2c_j3;
+  w2c_j1 |= w2c_j2;
+  w2c_j2 = w2c_p1;
+  w2c_j3 = 40ull;
+  w2c_j2 >>= (w2c_j3 & 63);
+  w2c_j3 = 65280ull;
+  w2c_j2 &= w2c_j3;
+  w2c_j3 = w2c_p1;
+  w2c_j4 = 56ull;
+  w2c_j3 >>= (w2c_j4 & 63);
+  w2c_j2 |= w2c_j3;
+  w2c_j1 |= w2c_j2;
+  w2c_j0 |= w2c_j1;
+  w2c_l7 = w2c_j0;
+  w2c_j0 = w2c_p2;
+  w2c_j1 = w2c_p3;
+  w2c_j0 += w2c_j1;
+  w2c_j1 = 18446744073709551608ull;
+  w2c_j0 += w2c_j1;
+  w2c_i0 = (u32)(w2c_j0);
+  w2c_j0 = i64_load(memory, (u64)(w2c_i0));
+  w2c_p1 = w2c_j0;
+  w2c_L2: 
+    w2c_j0 = w2c_p0;
+    w2c_j1 = 8ull;
+    w2c_j0 += w2c_j1;
+    w2c_l5 = w2c_j0;
+    w2c_i0 = (u32)(w2c_j0);
+    w2c_j1 = 18446744073709551615ull;
+    w2c_j2 = w2c_l5;
+    w2c_i2 = (u32)(w2c_j2);
+    w2c_j2 = i64_load(memory, (u64)(w2c_i2));
+    w2c_j3 = 1ull;
+    w2c_j2 += w2c_j3;
+    w2c_l5 = w2c_j2;
+    w2c_j3 = w2c_l5;
+    w2c_i3 = !(w2c_j3);
+    w2c_j1 = w2c_i3 ? w2c_j1 : w2c_j2;
+    i64_store(memory, (u64)(w2c_i0), w2c_j1);
+    w2c_j0 = w2c_p0;
+    w2c_i0 = (u32)(w2c_j0);
+    w2c_j0 = i64_load(memory, (u64)(w2c_i0));
+    w2c_l8 = w2c_j0;
+    w2c_j1 = w2c_l8;
+    w2c_j2 = 240ull;
+    w2c_j1 += w2c_j2;
+    w2c_i1 = (u32)(w2c_j1);
+    w2c_j1 = i64_load8_u(memory, (u64)(w2c_i1));
+    w2c_l5 = w2c_j1;
+    w2c_j2 = 4ull;
+    w2c_j1 <<= (w2c_j2 & 63);
+    w2c_j0 += w2c_j1;
+    w2c_l9 = w2c_j0;
+    w2c_i0 = (u32)(w2c_j0);
+    w2c_i0 = i32_load(memory, (u64)(w2c_i0) + 12u);
+    w2c_j1 = w2c_p1;
+    w2c_j2 = 32ull;
+    w2c_j1 >>= (w2c_j2 & 63);
+    w2c_i1 = (u32)(w2c_j1);
+    w2c_l11 = w2c_i1;
+    w2c_i2 = 16711935u;
+    w2c_i1 &= w2c_i2;
+    w2c_i2 = 8u;
+    w2c_i1 = I32_ROTR(w2c_i1, w2c_i2);
+    w2c_i2 = w2c_l11;
+    w2c_i3 = 24u;
+    w2c_i2 = I32_ROTR(w2c_i2, w2c_i3);
+    w2c_i3 = 16711935u;
+    w2c_i2 &= w2c_i3;
+    w2c_i1 |= w2c_i2;
+    w2c_i0 ^= w2c_i1;
+    w2c_l12 = w2c_i0;
+    w2c_j0 = w2c_l9;
+    w2c_i0 = (u32)(w2c_j0);
+    w2c_i0 = i32_load(memory, (u64)(w2c_i0) + 8u);
+    w2c_j1 = w2c_p1;
+    w2c_i1 = (u32)(w2c_j1);
+    w2c_l11 = w2c_i1;
+    w2c_i2 = 16711935u;
+    w2c_i1 &= w2c_i2;
+    w2c_i2 = 8u;
+    w2c_i1 = I32_ROTR(w2c_i1, w2c_i2);
+    w2c_i2 = w2c_l11;
+    w2c_i3 = 24u;
+    w2c_i2 = I32_ROTR(w2c_i2, w2c_i3);
+    w2c_i3 = 16711935u;
+    w2c_i2 &= w2c_i3;
+    w2c_i1 |= w2c_i2;
+    w2c_i0 ^= w2c_i1;
+    w2c_l13 = w2c_i0;
+    w2c_j0 = w2c_l9;
+    w2c_i0 = (u32)(w2c_j0);
+    w2c_i0 = i32_load(memory, (u64)(w2c_i0) + 4u);
+    w2c_j1 = w2c_l7;
+    w2c_j2 = 32ull;
+    w2c_j1 >>= (w2c_j2 & 63);
+    w2c_i1 = (u32)(w2c_j1);
+    w2c_l11 = w2c_i1;
+    w2c_i2 = 16711935u;
+    w2c_i1 &= w2c_i2;
+    w2c_i2 = 8u;
+    w2c_i1 = I32_ROTR(w2c_i1, w2c_i2);
+    w2c_i2 = w2c_l11;
+    w2c_i3 = 24u;
+    w2c_i2 = I32_ROTR(w2c_i2, w2c_i3);
+    w2c_i3 = 16711935u;
+    w2c_i2 &= w2c_i3;
+    w2c_i1 |= w2c_i2;
+    w2c_i0 ^= w2c_i1;
+    w2c_l11 = w2c_i0;
+    w2c_j0 = w2c_l9;
+    w2c_i0 = (u32)(w2c_j0);
+    w2c_i0 = i32_load(memory, (u64)(w2c_i0));
+    w2c_j1 = w2c_l7;
+    w2c_i1 = (u32)(w2c_j1);
+    w2c_l14 = w2c_i1;
+    w2c_i2 = 16711935u;
+    w2c_i1 &= w2c_i2;
+    w2c_i2 = 8u;
+    w2c_i1 = I32_ROTR(w2c_i1, w2c_i2);
+    w2c_i2 = w2c_l14;
+    w2c_i3 = 24u;
+    w2c_i2 = I32_ROTR(w2c_i2, w2c_i3);
+    w2c_i3 = 16711935u;
+    w2c_i2 &= w2c_i3;
+    w2c_i1 |= w2c_i2;
+    w2c_i0 ^= w2c_i1;
+    w2c_l14 = w2c_i0;
+    w2c_j0 = w2c_l5;
+    w2c_j1 = 2ull;
+    w2c_i0 = w2c_j0 < w2c_j1;
+    if (w2c_i0) {goto w2c_B3;}
+    w2c_j0 = w2c_l9;
+    w2c_j1 = 18446744073709551600ull;
+    w2c_j0 += w2c_j1;
+    w2c_p1 = w2c_j0;
+    w2c_L4: 
+      w2c_i0 = w2c_l13;
+      w2c_l15 = w2c_i0;
+      w2c_i1 = 16u;
+      w2c_i0 >>= (w2c_i1 & 31);
+      w2c_j0 = (u64)(w2c_i0);
+      w2c_j1 = 255ull;
+      w2c_j0 &= w2c_j1;
+      w2c_j1 = 66275ull;
+      w2c_j0 += w2c_j1;
+      w2c_i0 = (u32)(w2c_j0);
+      w2c_i0 = constant_i32_load8_u((u64)(w2c_i0));
+      w2c_j1 = w2c_p1;
+      w2c_j2 = 12ull;
+      w2c_j1 += w2c_j2;
+      w2c_i1 = (u32)(w2c_j1);
+      w2c_i1 = i32_load(memory, (u64)(w2c_i1));
+      w2c_l13 = w2c_i1;
+      w2c_i2 = 16u;
+      w2c_i1 >>= (w2c_i2 & 31);
+      w2c_i0 ^= w2c_i1;
+      w2c_j0 = (u64)(w2c_i0);
+      w2c_j1 = 255ull;
+      w2c_j0 &= w2c_j1;
+      w2c_j1 = 2ull;
+      w2c_j0 <<= (w2c_j1 & 63);
+      w2c_i0 = (u32)(w2c_j0);
+      w2c_i0 = constant_i32_load((u64)(w2c_i0) + 66532u);
+      w2c_i1 = 24u;
+      w2c_i0 = I32_ROTL(w2c_i0, w2c_i1);
+      w2c_i1 = w2c_l12;
+      w2c_l16 = w2c_i1;
+      w2c_j1 = (u64)(w2c_i1);
+      w2c_l9 = w2c_j1;
+      w2c_j2 = 24ull;
+      w2c_j1 >>= (w2c_j2 & 63);
+      w2c_i1 = (u32)(w2c_j1);
+      w2c_i1 = constant_i32_load8_u((u64)(w2c_i1) + 66275u);
+      w2c_i2 = w2c_l13;
+      w2c_i3 = 24u;
+      w2c_i2 >>= (w2c_i3 & 31);
+      w2c_i1 ^= w2c_i2;
+      w2c_j1 = (u64)(w2c_i1);
+      w2c_j2 = 255ull;
+      w2c_j1 &= w2c_j2;
+      w2c_j2 = 2ull;
+      w2c_j1 <<= (w2c_j2 & 63);
+      w2c_i1 = (u32)(w2c_j1);
+      w2c_i1 = constant_i32_load((u64)(w2c_i1) + 66532u);
+      w2c_i0 ^= w2c_i1;
+      w2c_i1 = w2c_l11;
+      w2c_i2 = 8u;
+      w2c_i1 >>= (w2c_i2 & 31);
+      w2c_j1 = (u64)(w2c_i1);
+      w2c_j2 = 255ull;
+      w2c_j1 &= w2c_j2;
+      w2c_j2 = 66275ull;
+      w2c_j1 += w2c_j2;
+      w2c_i1 = (u32)(w2c_j1);
+      w2c_i1 = constant_i32_load8_u((u64)(w2c_i1));
+      w2c_i2 = w2c_l13;
+      w2c_i3 = 8u;
+      w2c_i2 >>= (w2c_i3 & 31);
+      w2c_i1 ^= w2c_i2;
+      w2c_j1 = (u64)(w2c_i1);
+      w2c_j2 = 255ull;
+      w2c_j1 &= w2c_j2;
+      w2c_j2 = 2ull;
+      w2c_j1 <<= (w2c_j2 & 63);
+      w2c_i1 = (u32)(w2c_j1);
+      w2c_i1 = constant_i32_load((u64)(w2c_i1) + 66532u);
+      w2c_i2 = 16u;
+      w2c_i1 = I32_ROTL(w2c_i1, w2c_i2);
+      w2c_i0 ^= w2c_i1;
+      w2c_i1 = w2c_l14;
+      w2c_j1 = (u64)(w2c_i1);
+      w2c_l7 = w2c_j1;
+      w2c_j2 = 255ull;
+      w2c_j1 &= w2c_j2;
+      w2c_i1 = (u32)(w2c_j1);
+      w2c_i1 = constant_i32_load8_u((u64)(w2c_i1) + 66275u);
+      w2c_i2 = w2c_l13;
+      w2c_i1 ^= w2c_i2;
+      w2c_j1 = (u64)(w2c_i1);
+      w2c_j2 = 255ull;
+      w2c_j1 &= w2c_j2;
+      w2c_j2 = 2ull;
+      w2c_j1 <<= (w2c_j2 & 63);
+      w2c_i1 = (u32)(w2c_j1);
+      w2c_i1 = constant_i32_load((u64)(w2c_i1) + 66532u);
+      w2c_i2 = 8u;
+      w2c_i1 = I32_ROTL(w2c_i1, w2c_i2);
+      w2c_i0 ^= w2c_i1;
+      w2c_l12 = w2c_i0;
+      w2c_i0 = w2c_l11;
+      w2c_i1 = 16u;
+      w2c_i0 >>= (w2c_i1 & 31);
+      w2c_j0 = (u64)(w2c_i0);
+      w2c_j1 = 255ull;
+      w2c_j0 &= w2c_j1;
+      w2c_j1 = 66275ull;
+      w2c_j0 += w2c_j1;
+      w2c_i0 = (u32)(w2c_j0);
+      w2c_i0 = constant_i32_load8_u((u64)(w2c_i0));
+      w2c_j1 = w2c_p1;
+      w2c_j2 = 8ull;
+      w2c_j1 += w2c_j2;
+      w2c_i1 = (u32)(w2c_j1);
+      w2c_i1 = i32_load(memory, (u64)(w2c_i1));
+      w2c_l13 = w2c_i1;
+      w2c_i2 = 16u;
+      w2c_i1 >>= (w2c_i2 & 31);
+      w2c_i0 ^= w2c_i1;
+      w2c_j0 = (u64)(w2c_i0);
+      w2c_j1 = 255ull;
+      w2c_j0 &= w2c_j1;
+      w2c_j1 = 2ull;
+      w2c_j0 <<= (w2c_j1 & 63);
+      w2c_i0 = (u32)(w2c_j0);
+      w2c_i0 = constant_i32_load((u64)(w2c_i0) + 66532u);
+      w2c_i1 = 24u;
+      w2c_i0 = I32_ROTL(w2c_i0, w2c_i1);
+      w2c_i1 = w2c_l15;
+      w2c_j1 = (u64)(w2c_i1);
+      w2c_l10 = w2c_j1;
+      w2c_j2 = 24ull;
+      w2c_j1 >>= (w2c_j2 & 63);
+      w2c_i1 = (u32)(w2c_j1);
+      w2c_i1 = constant_i32_load8_u((u64)(w2c_i1) + 66275u);
+      w2c_i2 = w2c_l13;
+      w2c_i3 = 24u;
+      w2c_i2 >>= (w2c_i3 & 31);
+      w2c_i1 ^= w2c_i2;
+      w2c_j1 = (u64)(w2c_i1);
+      w2c_j2 = 255ull;
+      w2c_j1 &= w2c_j2;
+      w2c_j2 = 2ull;
+      w2c_j1 <<= (w2c_j2 & 63);
+      w2c_i1 = (u32)(w2c_j1);
+      w2c_i1 = constant_i32_load((u64)(w2c_i1) + 66532u);
+      w2c_i0 ^= w2c_i1;
+      w2c_i1 = w2c_l14;
+      w2c_i2 = 8u;
+      w2c_i1 >>= (w2c_i2 & 31);
+      w2c_j1 = (u64)(w2c_i1);
+      w2c_j2 = 255ull;
+      w2c_j1 &= w2c_j2;
+      w2c_j2 = 66275ull;
+      w2c_j1 += w2c_j2;
+      w2c_i1 = (u32)(w2c_j1);
+      w2c_i1 = constant_i32_load8_u((u64)(w2c_i1));
+      w2c_i2 = w2c_l13;
+      w2c_i3 = 8u;
+      w2c_i2 >>= (w2c_i3 & 31);
+      w2c_i1 ^= w2c_i2;
+      w2c_j1 = (u64)(w2c_i1);
+      w2c_j2 = 255ull;
+      w2c_j1 &= w2c_j2;
+      w2c_j2 = 2ull;
+      w2c_j1 <<= (w2c_j2 & 63);
+      w2c_i1 = (u32)(w2c_j1);
+      w2c_i1 = constant_i32_load((u64)(w2c_i1) + 66532u);
+      w2c_i2 = 16u;
+      w2c_i1 = I32_ROTL(w2c_i1, w2c_i2);
+      w2c_i0 ^= w2c_i1;
+      w2c_j1 = w2c_l9;
+      w2c_j2 = 255ull;
+      w2c_j1 &= w2c_j2;
+      w2c_i1 = (u32)(w2c_j1);
+      w2c_i1 = constant_i32_load8_u((u64)(w2c_i1) + 66275u);
+      w2c_i2 = w2c_l13;
+      w2c_i1 ^= w2c_i2;
+      w2c_j1 = (u64)(w2c_i1);
+      w2c_j2 = 255ull;
+      w2c_j1 &= w2c_j2;
+      w2c_j2 = 2ull;
+      w2c_j1 <<= (w2c_j2 & 63);
+      w2c_i1 = (u32)(w2c_j1);
+      w2c_i1 = constant_i32_load((u64)(w2c_i1) + 66532u);
+      w2c_i2 = 8u;
+      w2c_i1 = I32_ROTL(w2c_i1, w2c_i2);
+      w2c_i0 ^= w2c_i1;
+      w2c_l13 = w2c_i0;
+      w2c_i0 = w2c_l14;
+      w2c_i1 = 16u;
+      w2c_i0 >>= (w2c_i1 & 31);
+      w2c_j0 = (u64)(w2c_i0);
+      w2c_j1 = 255ull;
+      w2c_j0 &= w2c_j1;
+      w2c_j1 = 66275ull;
+      w2c_j0 += w2c_j1;
+      w2c_i0 = (u32)(w2c_j0);
+      w2c_i0 = constant_i32_load8_u((u64)(w2c_i0));
+      w2c_j1 = w2c_p1;
+      w2c_j2 = 4ull;
+      w2c_j1 += w2c_j2;
+      w2c_i1 = (u32)(w2c_j1);
+      w2c_i1 = i32_load(memory, (u64)(w2c_i1));
+      w2c_l14 = w2c_i1;
+      w2c_i2 = 16u;
+      w2c_i1 >>= (w2c_i2 & 31);
+      w2c_i0 ^= w2c_i1;
+      w2c_j0 = (u64)(w2c_i0);
+      w2c_j1 = 255ull;
+      w2c_j0 &= w2c_j1;
+      w2c_j1 = 2ull;
+      w2c_j0 <<= (w2c_j1 & 63);
+      w2c_i0 = (u32)(w2c_j0);
+      w2c_i0 = constant_i32_load((u64)(w2c_i0) + 66532u);
+      w2c_i1 = 24u;
+      w2c_i0 = I32_ROTL(w2c_i0, w2c_i1);
+      w2c_i1 = w2c_l11;
+      w2c_j1 = (u64)(w2c_i1);
+      w2c_l9 = w2c_j1;
+      w2c_j2 = 24ull;
+      w2c_j1 >>= (w2c_j2 & 63);
+      w2c_i1 = (u32)(w2c_j1);
+      w2c_i1 = constant_i32_load8_u((u64)(w2c_i1) + 66275u);
+      w2c_i2 = w2c_l14;
+      w2c_i3 = 24u;
+      w2c_i2 >>= (w2c_i3 & 31);
+      w2c_i1 ^= w2c_i2;
+      w2c_j1 = (u64)(w2c_i1);
+      w2c_j2 = 255ull;
+      w2c_j1 &= w2c_j2;
+      w2c_j2 = 2ull;
+      w2c_j1 <<= (w2c_j2 & 63);
+      w2c_i1 = (u32)(w2c_j1);
+      w2c_i1 = constant_i32_load((u64)(w2c_i1) + 66532u);
+      w2c_i0 ^= w2c_i1;
+      w2c_i1 = w2c_l16;
+      w2c_i2 = 8u;
+      w2c_i1 >>= (w2c_i2 & 31);
+      w2c_j1 = (u64)(w2c_i1);
+      w2c_j2 = 255ull;
+      w2c_j1 &= w2c_j2;
+      w2c_j2 = 66275ull;
+      w2c_j1 += w2c_j2;
+      w2c_i1 = (u32)(w2c_j1);
+      w2c_i1 = constant_i32_load8_u((u64)(w2c_i1));
+      w2c_i2 = w2c_l14;
+      w2c_i3 = 8u;
+      w2c_i2 >>= (w2c_i3 & 31);
+      w2c_i1 ^= w2c_i2;
+      w2c_j1 = (u64)(w2c_i1);
+      w2c_j2 = 255ull;
+      w2c_j1 &= w2c_j2;
+      w2c_j2 = 2ull;
+      w2c_j1 <<= (w2c_j2 & 63);
+      w2c_i1 = (u32)(w2c_j1);
+      w2c_i1 = constant_i32_load((u64)(w2c_i1) + 66532u);
+      w2c_i2 = 16u;
+      w2c_i1 = I32_ROTL(w2c_i1, w2c_i2);
+      w2c_i0 ^= w2c_i1;
+      w2c_j1 = w2c_l10;
+      w2c_j2 = 255ull;
+      w2c_j1 &= w2c_j2;
+      w2c_i1 = (u32)(w2c_j1);
+      w2c_i1 = constant_i32_load8_u((u64)(w2c_i1) + 66275u);
+      w2c_i2 = w2c_l14;
+      w2c_i1 ^= w2c_i2;
+      w2c_j1 = (u64)(w2c_i1);
+      w2c_j2 = 255ull;
+      w2c_j1 &= w2c_j2;
+      w2c_j2 = 2ull;
+      w2c_j1 <<= (w2c_j2 & 63);
+      w2c_i1 = (u32)(w2c_j1);
+      w2c_i1 = constant_i32_load((u64)(w2c_i1) + 66532u);
+      w2c_i2 = 8u;
+      w2c_i1 = I32_ROTL(w2c_i1, w2c_i2);
+      w2c_i0 ^= w2c_i1;
+      w2c_l11 = w2c_i0;
+      w2c_i0 = w2c_l16;
+      w2c_i1 = 16u;
+      w2c_i0 >>= (w2c_i1 & 31);
+      w2c_j0 = (u64)(w2c_i0);
+      w2c_j1 = 255ull;
+      w2c_j0 &= w2c_j1;
+      w2c_j1 = 66275ull;
+      w2c_j0 += w2c_j1;
+      w2c_i0 = (u32)(w2c_j0);
+      w2c_i0 = constant_i32_load8_u((u64)(w2c_i0));
+      w2c_j1 = w2c_p1;
+      w2c_i1 = (u32)(w2c_j1);
+      w2c_i1 = i32_load(memory, (u64)(w2c_i1));
+      w2c_l14 = w2c_i1;
+      w2c_i2 = 16u;
+      w2c_i1 >>= (w2c_i2 & 31);
+      w2c_i0 ^= w2c_i1;
+      w2c_j0 = (u64)(w2c_i0);
+      w2c_j1 = 255ull;
+      w2c_j0 &= w2c_j1;
+      w2c_j1 = 2ull;
+      w2c_j0 <<= (w2c_j1 & 63);
+      w2c_i0 = (u32)(w2c_j0);
+      w2c_i0 = constant_i32_load((u64)(w2c_i0) + 66532u);
+      w2c_i1 = 24u;
+      w2c_i0 = I32_ROTL(w2c_i0, w2c_i1);
+      w2c_j1 = w2c_l7;
+      w2c_j2 = 24ull;
+      w2c_j1 >>= (w2c_j2 & 63);
+      w2c_i1 = (u32)(w2c_j1);
+      w2c_i1 = constant_i32_load8_u((u64)(w2c_i1) + 66275u);
+      w2c_i2 = w2c_l14;
+      w2c_i3 = 24u;
+      w2c_i2 >>= (w2c_i3 & 31);
+      w2c_i1 ^= w2c_i2;
+      w2c_j1 = (u64)(w2c_i1);
+      w2c_j2 = 255ull;
+      w2c_j1 &= w2c_j2;
+      w2c_j2 = 2ull;
+      w2c_j1 <<= (w2c_j2 & 63);
+      w2c_i1 = (u32)(w2c_j1);
+      w2c_i1 = constant_i32_load((u64)(w2c_i1) + 66532u);
+      w2c_i0 ^= w2c_i1;
+      w2c_i1 = w2c_l15;
+      w2c_i2 = 8u;
+      w2c_i1 >>= (w2c_i2 & 31);
+      w2c_j1 = (u64)(w2c_i1);
+      w2c_j2 = 255ull;
+      w2c_j1 &= w2c_j2;
+      w2c_j2 = 66275ull;
+      w2c_j1 += w2c_j2;
+      w2c_i1 = (u32)(w2c_j1);
+      w2c_i1 = constant_i32_load8_u((u64)(w2c_i1));
+      w2c_i2 = w2c_l14;
+      w2c_i3 = 8u;
+      w2c_i2 >>= (w2c_i3 & 31);
+      w2c_i1 ^= w2c_i2;
+      w2c_j1 = (u64)(w2c_i1);
+      w2c_j2 = 255ull;
+      w2c_j1 &= w2c_j2;
+      w2c_j2 = 2ull;
+      w2c_j1 <<= (w2c_j2 & 63);
+      w2c_i1 = (u32)(w2c_j1);
+      w2c_i1 = constant_i32_load((u64)(w2c_i1) + 66532u);
+      w2c_i2 = 16u;
+      w2c_i1 = I32_ROTL(w2c_i1, w2c_i2);
+      w2c_i0 ^= w2c_i1;
+      w2c_j1 = w2c_l9;
+      w2c_j2 = 255ull;
+      w2c_j1 &= w2c_j2;
+      w2c_i1 = (u32)(w2c_j1);
+      w2c_i1 = constant_i32_load8_u((u64)(w2c_i1) + 66275u);
+      w2c_i2 = w2c_l14;
+      w2c_i1 ^= w2c_i2;
+      w2c_j1 = (u64)(w2c_i1);
+      w2c_j2 = 255ull;
+      w2c_j1 &= w2c_j2;
+      w2c_j2 = 2ull;
+      w2c_j1 <<= (w2c_j2 & 63);
+      w2c_i1 = (u32)(w2c_j1);
+      w2c_i1 = constant_i32_load((u64)(w2c_i1) + 66532u);
+      w2c_i2 = 8u;
+      w2c_i1 = I32_ROTL(w2c_i1, w2c_i2);
+      w2c_i0 ^= w2c_i1;
+      w2c_l14 = w2c_i0;
+      w2c_j0 = w2c_p1;
+      w2c_j1 = 18446744073709551600ull;
+      w2c_j0 += w2c_j1;
+      w2c_p1 = w2c_j0;
+      w2c_j0 = w2c_l5;
+      w2c_j1 = 18446744073709551615ull;
+      w2c_j0 += w2c_j1;
+      w2c_l5 = w2c_j0;
+      w2c_j1 = 1ull;
+      w2c_i0 = w2c_j0 > w2c_j1;
+      if (w2c_i0) {goto w2c_L4;}
+    w2c_B3:;
+    w2c_j0 = w2c_l6;
+    w2c_j1 = 18446744073709551615ull;
+    w2c_j0 += w2c_j1;
+    w2c_l6 = w2c_j0;
+    w2c_i0 = w2c_l13;
+    w2c_i1 = 16u;
+    w2c_i0 >>= (w2c_i1 & 31);
+    w2c_j0 = (u64)(w2c_i0);
+    w2c_j1 = 255ull;
+    w2c_j0 &= w2c_j1;
+    w2c_j1 = 66275ull;
+    w2c_j0 += w2c_j1;
+    w2c_i0 = (u32)(w2c_j0);
+    w2c_i0 = constant_i32_load8_u((u64)(w2c_i0));
+    w2c_i1 = 8u;
+    w2c_i0 <<= (w2c_i1 & 31);
+    w2c_i1 = w2c_l12;
+    w2c_j1 = (u64)(w2c_i1);
+    w2c_p1 = w2c_j1;
+    w2c_j2 = 24ull;
+    w2c_j1 >>= (w2c_j2 & 63);
+    w2c_i1 = (u32)(w2c_j1);
+    w2c_i1 = constant_i32_load8_u((u64)(w2c_i1) + 66275u);
+    w2c_i0 |= w2c_i1;
+    w2c_i1 = w2c_l11;
+    w2c_i2 = 8u;
+    w2c_i1 >>= (w2c_i2 & 31);
+    w2c_j1 = (u64)(w2c_i1);
+    w2c_j2 = 255ull;
+    w2c_j1 &= w2c_j2;
+    w2c_j2 = 66275ull;
+    w2c_j1 += w2c_j2;
+    w2c_i1 = (u32)(w2c_j1);
+    w2c_i1 = constant_i32_load8_u((u64)(w2c_i1));
+    w2c_i2 = 16u;
+    w2c_i1 <<= (w2c_i2 & 31);
+    w2c_i0 |= w2c_i1;
+    w2c_i1 = w2c_l14;
+    w2c_j1 = (u64)(w2c_i1);
+    w2c_l5 = w2c_j1;
+    w2c_j2 = 255ull;
+    w2c_j1 &= w2c_j2;
+    w2c_i1 = (u32)(w2c_j1);
+    w2c_i1 = constant_i32_load8_u((u64)(w2c_i1) + 66275u);
+    w2c_i2 = 24u;
+    w2c_i1 <<= (w2c_i2 & 31);
+    w2c_i0 |= w2c_i1;
+    w2c_j1 = w2c_l8;
+    w2c_i1 = (u32)(w2c_j1);
+    w2c_i1 = i32_load(memory, (u64)(w2c_i1) + 12u);
+    w2c_l15 = w2c_i1;
+    w2c_i2 = 16711935u;
+    w2c_i1 &= w2c_i2;
+    w2c_i2 = 8u;
+    w2c_i1 = I32_ROTR(w2c_i1, w2c_i2);
+    w2c_i2 = w2c_l15;
+    w2c_i3 = 24u;
+    w2c_i2 = I32_ROTR(w2c_i2, w2c_i3);
+    w2c_i3 = 16711935u;
+    w2c_i2 &= w2c_i3;
+    w2c_i1 |= w2c_i2;
+    w2c_i0 ^= w2c_i1;
+    w2c_j0 = (u64)(w2c_i0);
+    w2c_j1 = 32ull;
+    w2c_j0 <<= (w2c_j1 & 63);
+    w2c_i1 = w2c_l11;
+    w2c_i2 = 16u;
+    w2c_i1 >>= (w2c_i2 & 31);
+    w2c_j1 = (u64)(w2c_i1);
+    w2c_j2 = 255ull;
+    w2c_j1 &= w2c_j2;
+    w2c_j2 = 66275ull;
+    w2c_j1 += w2c_j2;
+    w2c_i1 = (u32)(w2c_j1);
+    w2c_i1 = constant_i32_load8_u((u64)(w2c_i1));
+    w2c_i2 = 8u;
+    w2c_i1 <<= (w2c_i2 & 31);
+    w2c_i2 = w2c_l13;
+    w2c_j2 = (u64)(w2c_i2);
+    w2c_l9 = w2c_j2;
+    w2c_j3 = 24ull;
+    w2c_j2 >>= (w2c_j3 & 63);
+    w2c_i2 = (u32)(w2c_j2);
+    w2c_i2 = constant_i32_load8_u((u64)(w2c_i2) + 66275u);
+    w2c_i1 |= w2c_i2;
+    w2c_i2 = w2c_l14;
+    w2c_i3 = 8u;
+    w2c_i2 >>= (w2c_i3 & 31);
+    w2c_j2 = (u64)(w2c_i2);
+    w2c_j3 = 255ull;
+    w2c_j2 &= w2c_j3;
+    w2c_j3 = 66275ull;
+    w2c_j2 += w2c_j3;
+    w2c_i2 = (u32)(w2c_j2);
+    w2c_i2 = constant_i32_load8_u((u64)(w2c_i2));
+    w2c_i3 = 16u;
+    w2c_i2 <<= (w2c_i3 & 31);
+    w2c_i1 |= w2c_i2;
+    w2c_j2 = w2c_p1;
+    w2c_j3 = 255ull;
+    w2c_j2 &= w2c_j3;
+    w2c_i2 = (u32)(w2c_j2);
+    w2c_i2 = constant_i32_load8_u((u64)(w2c_i2) + 66275u);
+    w2c_i3 = 24u;
+    w2c_i2 <<= (w2c_i3 & 31);
+    w2c_i1 |= w2c_i2;
+    w2c_j2 = w2c_l8;
+    w2c_i2 = (u32)(w2c_j2);
+    w2c_i2 = i32_load(memory, (u64)(w2c_i2) + 8u);
+    w2c_l15 = w2c_i2;
+    w2c_i3 = 16711935u;
+    w2c_i2 &= w2c_i3;
+    w2c_i3 = 8u;
+    w2c_i2 = I32_ROTR(w2c_i2, w2c_i3);
+    w2c_i3 = w2c_l15;
+    w2c_i4 = 24u;
+    w2c_i3 = I32_ROTR(w2c_i3, w2c_i4);
+    w2c_i4 = 16711935u;
+    w2c_i3 &= w2c_i4;
+    w2c_i2 |= w2c_i3;
+    w2c_i1 ^= w2c_i2;
+    w2c_j1 = (u64)(w2c_i1);
+    w2c_j0 |= w2c_j1;
+    w2c_p1 = w2c_j0;
+    w2c_i0 = w2c_l14;
+    w2c_i1 = 16u;
+    w2c_i0 >>= (w2c_i1 & 31);
+    w2c_j0 = (u64)(w2c_i0);
+    w2c_j1 = 255ull;
+    w2c_j0 &= w2c_j1;
+    w2c_j1 = 66275ull;
+    w2c_j0 += w2c_j1;
+    w2c_i0 = (u32)(w2c_j0);
+    w2c_i0 = constant_i32_load8_u((u64)(w2c_i0));
+    w2c_i1 = 8u;
+    w2c_i0 <<= (w2c_i1 & 31);
+    w2c_i1 = w2c_l11;
+    w2c_j1 = (u64)(w2c_i1);
+    w2c_l7 = w2c_j1;
+    w2c_j2 = 24ull;
+    w2c_j1 >>= (w2c_j2 & 63);
+    w2c_i1 = (u32)(w2c_j1);
+    w2c_i1 = constant_i32_load8_u((u64)(w2c_i1) + 66275u);
+    w2c_i0 |= w2c_i1;
+    w2c_i1 = w2c_l12;
+    w2c_i2 = 8u;
+    w2c_i1 >>= (w2c_i2 & 31);
+    w2c_j1 = (u64)(w2c_i1);
+    w2c_j2 = 255ull;
+    w2c_j1 &= w2c_j2;
+    w2c_j2 = 66275ull;
+    w2c_j1 += w2c_j2;
+    w2c_i1 = (u32)(w2c_j1);
+    w2c_i1 = constant_i32_load8_u((u64)(w2c_i1));
+    w2c_i2 = 16u;
+    w2c_i1 <<= (w2c_i2 & 31);
+    w2c_i0 |= w2c_i1;
+    w2c_j1 = w2c_l9;
+    w2c_j2 = 255ull;
+    w2c_j1 &= w2c_j2;
+    w2c_i1 = (u32)(w2c_j1);
+    w2c_i1 = constant_i32_load8_u((u64)(w2c_i1) + 66275u);
+    w2c_i2 = 24u;
+    w2c_i1 <<= (w2c_i2 & 31);
+    w2c_i0 |= w2c_i1;
+    w2c_j1 = w2c_l8;
+    w2c_i1 = (u32)(w2c_j1);
+    w2c_i1 = i32_load(memory, (u64)(w2c_i1) + 4u);
+    w2c_l11 = w2c_i1;
+    w2c_i2 = 16711935u;
+    w2c_i1 &= w2c_i2;
+    w2c_i2 = 8u;
+    w2c_i1 = I32_ROTR(w2c_i1, w2c_i2);
+    w2c_i2 = w2c_l11;
+    w2c_i3 = 24u;
+    w2c_i2 = I32_ROTR(w2c_i2, w2c_i3);
+    w2c_i3 = 16711935u;
+    w2c_i2 &= w2c_i3;
+    w2c_i1 |= w2c_i2;
+    w2c_i0 ^= w2c_i1;
+    w2c_l11 = w2c_i0;
+    w2c_i0 = w2c_l12;
+    w2c_i1 = 16u;
+    w2c_i0 >>= (w2c_i1 & 31);
+    w2c_j0 = (u64)(w2c_i0);
+    w2c_j1 = 255ull;
+    w2c_j0 &= w2c_j1;
+    w2c_j1 = 66275ull;
+    w2c_j0 += w2c_j1;
+    w2c_i0 = (u32)(w2c_j0);
+    w2c_i0 = constant_i32_load8_u((u64)(w2c_i0));
+    w2c_i1 = 8u;
+    w2c_i0 <<= (w2c_i1 & 31);
+    w2c_j1 = w2c_l5;
+    w2c_j2 = 24ull;
+    w2c_j1 >>= (w2c_j2 & 63);
+    w2c_i1 = (u32)(w2c_j1);
+    w2c_i1 = constant_i32_load8_u((u64)(w2c_i1) + 66275u);
+    w2c_i0 |= w2c_i1;
+    w2c_i1 = w2c_l13;
+    w2c_i2 = 8u;
+    w2c_i1 >>= (w2c_i2 & 31);
+    w2c_j1 = (u64)(w2c_i1);
+    w2c_j2 = 255ull;
+    w2c_j1 &= w2c_j2;
+    w2c_j2 = 66275ull;
+    w2c_j1 += w2c_j2;
+    w2c_i1 = (u32)(w2c_j1);
+    w2c_i1 = constant_i32_load8_u((u64)(w2c_i1));
+    w2c_i2 = 16u;
+    w2c_i1 <<= (w2c_i2 & 31);
+    w2c_i0 |= w2c_i1;
+    w2c_j1 = w2c_l7;
+    w2c_j2 = 255ull;
+    w2c_j1 &= w2c_j2;
+    w2c_i1 = (u32)(w2c_j1);
+    w2c_i1 = constant_i32_load8_u((u64)(w2c_i1) + 66275u);
+    w2c_i2 = 24u;
+    w2c_i1 <<= (w2c_i2 & 31);
+    w2c_i0 |= w2c_i1;
+    w2c_j1 = w2c_l8;
+    w2c_i1 = (u32)(w2c_j1);
+    w2c_i1 = i32_load(memory, (u64)(w2c_i1));
+    w2c_l14 = w2c_i1;
+    w2c_i2 = 16711935u;
+    w2c_i1 &= w2c_i2;
+    w2c_i2 = 8u;
+    w2c_i1 = I32_ROTR(w2c_i1, w2c_i2);
+    w2c_i2 = w2c_l14;
+    w2c_i3 = 24u;
+    w2c_i2 = I32_ROTR(w2c_i2, w2c_i3);
+    w2c_i3 = 16711935u;
+    w2c_i2 &= w2c_i3;
+    w2c_i1 |= w2c_i2;
+    w2c_i0 ^= w2c_i1;
+    w2c_l14 = w2c_i0;
+    w2c_j0 = w2c_p3;
+    w2c_j1 = 9ull;
+    w2c_i0 = w2c_j0 < w2c_j1;
+    if (w2c_i0) {goto w2c_B6;}
+    w2c_j0 = w2c_p2;
+    w2c_j1 = w2c_l6;
+    w2c_j2 = w2c_l4;
+    w2c_j1 = REM_U(w2c_j1, w2c_j2);
+    w2c_l5 = w2c_j1;
+    w2c_j2 = 3ull;
+    w2c_j1 <<= (w2c_j2 & 63);
+    w2c_j0 += w2c_j1;
+    w2c_i0 = (u32)(w2c_j0);
+    w2c_j1 = w2c_p1;
+    i64_store(memory, (u64)(w2c_i0), w2c_j1);
+    w2c_i0 = w2c_l11;
+    w2c_j0 = (u64)(w2c_i0);
+    w2c_j1 = 32ull;
+    w2c_j0 <<= (w2c_j1 & 63);
+    w2c_i1 = w2c_l14;
+    w2c_j1 = (u64)(w2c_i1);
+    w2c_j0 |= w2c_j1;
+    w2c_j1 = w2c_l6;
+    w2c_j2 = 56ull;
+    w2c_j1 <<= (w2c_j2 & 63);
+    w2c_j2 = w2c_l6;
+    w2c_j3 = 65280ull;
+    w2c_j2 &= w2c_j3;
+    w2c_j3 = 40ull;
+    w2c_j2 <<= (w2c_j3 & 63);
+    w2c_j1 |= w2c_j2;
+    w2c_j2 = w2c_l6;
+    w2c_j3 = 16711680ull;
+    w2c_j2 &= w2c_j3;
+    w2c_j3 = 24ull;
+    w2c_j2 <<= (w2c_j3 & 63);
+    w2c_j3 = w2c_l6;
+    w2c_j4 = 4278190080ull;
+    w2c_j3 &= w2c_j4;
+    w2c_j4 = 8ull;
+    w2c_j3 <<= (w2c_j4 & 63);
+    w2c_j2 |= w2c_j3;
+    w2c_j1 |= w2c_j2;
+    w2c_j2 = w2c_l6;
+    w2c_j3 = 8ull;
+    w2c_j2 >>= (w2c_j3 & 63);
+    w2c_j3 = 4278190080ull;
+    w2c_j2 &= w2c_j3;
+    w2c_j3 = w2c_l6;
+    w2c_j4 = 24ull;
+    w2c_j3 >>= (w2c_j4 & 63);
+    w2c_j4 = 16711680ull;
+    w2c_j3 &= w2c_j4;
+    w2c_j2 |= w2c_j3;
+    w2c_j3 = w2c_l6;
+    w2c_j4 = 40ull;
+    w2c_j3 >>= (w2c_j4 & 63);
+    w2c_j4 = 65280ull;
+    w2c_j3 &= w2c_j4;
+    w2c_j4 = w2c_l6;
+    w2c_j5 = 56ull;
+    w2c_j4 >>= (w2c_j5 & 63);
+    w2c_j3 |= w2c_j4;
+    w2c_j2 |= w2c_j3;
+    w2c_j1 |= w2c_j2;
+    w2c_j0 ^= w2c_j1;
+    w2c_l7 = w2c_j0;
+    w2c_j0 = w2c_p2;
+    w2c_j1 = w2c_l4;
+    w2c_j2 = w2c_l5;
+    w2c_j3 = w2c_l5;
+    w2c_i3 = !(w2c_j3);
+    w2c_j1 = w2c_i3 ? w2c_j1 : w2c_j2;
+    w2c_j2 = 3ull;
+    w2c_j1 <<= (w2c_j2 & 63);
+    w2c_j0 += w2c_j1;
+    w2c_j1 = 18446744073709551608ull;
+    w2c_j0 += w2c_j1;
+    w2c_i0 = (u32)(w2c_j0);
+    w2c_j0 = i64_load(memory, (u64)(w2c_i0));
+    w2c_p1 = w2c_j0;
+    goto w2c_B5;
+    w2c_B6:;
+    w2c_j0 = w2c_p2;
+    w2c_i0 = (u32)(w2c_j0);
+    w2c_j1 = w2c_p1;
+    i64_store(memory, (u64)(w2c_i0), w2c_j1);
+    w2c_i0 = w2c_l11;
+    w2c_j0 = (u64)(w2c_i0);
+    w2c_j1 = 32ull;
+    w2c_j0 <<= (w2c_j1 & 63);
+    w2c_i1 = w2c_l14;
+    w2c_j1 = (u64)(w2c_i1);
+    w2c_j0 |= w2c_j1;
+    w2c_l7 = w2c_j0;
+    w2c_B5:;
+    w2c_j0 = w2c_l6;
+    w2c_j1 = 0ull;
+    w2c_i0 = w2c_j0 != w2c_j1;
+    if (w2c_i0) {goto w2c_L2;}
+  w2c_j0 = w2c_l7;
+  w2c_j1 = 56ull;
+  w2c_j0 <<= (w2c_j1 & 63);
+  w2c_j1 = w2c_l7;
+  w2c_j2 = 65280ull;
+  w2c_j1 &= w2c_j2;
+  w2c_j2 = 40ull;
+  w2c_j1 <<= (w2c_j2 & 63);
+  w2c_j0 |= w2c_j1;
+  w2c_j1 = w2c_l7;
+  w2c_j2 = 16711680ull;
+  w2c_j1 &= w2c_j2;
+  w2c_j2 = 24ull;
+  w2c_j1 <<= (w2c_j2 & 63);
+  w2c_j2 = w2c_l7;
+  w2c_j3 = 4278190080ull;
+  w2c_j2 &= w2c_j3;
+  w2c_j3 = 8ull;
+  w2c_j2 <<= (w2c_j3 & 63);
+  w2c_j1 |= w2c_j2;
+  w2c_j0 |= w2c_j1;
+  w2c_j1 = w2c_l7;
+  w2c_j2 = 8ull;
+  w2c_j1 >>= (w2c_j2 & 63);
+  w2c_j2 = 4278190080ull;
+  w2c_j1 &= w2c_j2;
+  w2c_j2 = w2c_l7;
+  w2c_j3 = 24ull;
+  w2c_j2 >>= (w2c_j3 & 63);
+  w2c_j3 = 16711680ull;
+  w2c_j2 &= w2c_j3;
+  w2c_j1 |= w2c_j2;
+  w2c_j2 = w2c_l7;
+  w2c_j3 = 40ull;
+  w2c_j2 >>= (w2c_j3 & 63);
+  w2c_j3 = 65280ull;
+  w2c_j2 &= w2c_j3;
+  w2c_j3 = w2c_l7;
+  w2c_j4 = 56ull;
+  w2c_j3 >>= (w2c_j4 & 63);
+  w2c_j2 |= w2c_j3;
+  w2c_j1 |= w2c_j2;
+  w2c_j0 |= w2c_j1;
+  w2c_p1 = w2c_j0;
+  w2c_B1:;
+  w2c_j0 = w2c_p1;
+  goto w2c_Bfunc;
+  w2c_B0:;
+  UNREACHABLE;
+  w2c_Bfunc:;
+  return w2c_j0;
+}
+static void w2c_f40(struct instance *instance, u64 w2c_p0, u64 w2c_p1, u64 w2c_p2, u64 w2c_p3, u64 w2c_p4, u64 w2c_p5, u64 w2c_p6, u64 w2c_p7) {
+  u32 w2c_l14 = 0, w2c_l15 = 0;
+  u64 w2c_l8 = 0, w2c_l9 = 0, w2c_l10 = 0, w2c_l11 = 0, w2c_l12 = 0, w2c_l13 = 0;
+  const struct memory memory = instance->w2c_memory;
+  (void)memory;
+  u32 w2c_i0, w2c_i1, w2c_i2;
+  u64 w2c_j0, w2c_j1, w2c_j2, w2c_j3, w2c_j4, w2c_j5, w2c_j6;
+  w2c_j0 = instance->w2c_g0;
+  w2c_j1 = 48ull;
+  w2c_j0 -= w2c_j1;
+  w2c_l8 = w2c_j0;
+  instance->w2c_g0 = w2c_j0;
+  w2c_j0 = w2c_l8;
+  w2c_l8 = w2c_j0;
+  w2c_j1 = 16ull;
+  w2c_i0 = (u64)((s64)w2c_j0 < (s64)w2c_j1);
+  if (w2c_i0) {goto w2c_B2;}
+  w2c_j0 = w2c_p7;
+  w2c_i0 = !(w2c_j0);
+  if (w2c_i0) {goto w2c_B0;}
+  w2c_j0 = 0ull;
+  w2c_l9 = w2c_j0;
+  w2c_j0 = w2c_p3;
+  w2c_j1 = 7ull;
+  w2c_j0 &= w2c_j1;
+  w2c_j1 = 0ull;
+  w2c_i0 = w2c_j0 != w2c_j1;
+  if (w2c_i0) {goto w2c_B1;}
+  w2c_j0 = w2c_p3;
+  w2c_j1 = 18446744073709551608ull;
+  w2c_j0 += w2c_j1;
+  w2c_j1 = 1048568ull;
+  w2c_i0 = w2c_j0 > w2c_j1;
+  if (w2c_i0) {goto w2c_B1;}
+  w2c_j0 = w2c_p3;
+  w2c_j1 = 8ull;
+  w2c_j0 += w2c_j1;
+  w2c_l10 = w2c_j0;
+  w2c_j0 = w2c_p2;
+  w2c_j1 = w2c_p3;
+  w2c_j2 = 18446744073709551615ull;
+  w2c_j1 += w2c_j2;
+  w2c_l11 = w2c_j1;
+  w2c_j0 += w2c_j1;
+  w2c_l12 = w2c_j0;
+  w2c_L3: 
+    w2c_j0 = 0ull;
+    w2c_l9 = w2c_j0;
+    w2c_j0 = w2c_l8;
+    w2c_i0 = (u32)(w2c_j0);
+    w2c_j1 = 0ull;
+    i64_store(memory, (u64)(w2c_i0) + 8, w2c_j1);
+    w2c_j0 = w2c_l8;
+    w2c_i0 = (u32)(w2c_j0);
+    w2c_j1 = w2c_p0;
+    i64_store(memory, (u64)(w2c_i0), w2c_j1);
+    w2c_j0 = w2c_l8;
+    w2c_i0 = (u32)(w2c_j0);
+    w2c_j1 = 12008468691120727718ull;
+    i64_store(memory, (u64)(w2c_i0) + 16, w2c_j1);
+    w2c_j0 = w2c_l8;
+    w2c_i0 = (u32)(w2c_j0);
+    w2c_j1 = 0ull;
+    i64_store(memory, (u64)(w2c_i0) + 40, w2c_j1);
+    w2c_j0 = w2c_l8;
+    w2c_i0 = (u32)(w2c_j0);
+    w2c_j1 = 0ull;
+    i64_store(memory, (u64)(w2c_i0) + 32, w2c_j1);
+    w2c_j0 = w2c_l8;
+    w2c_i0 = (u32)(w2c_j0);
+    w2c_j1 = 0ull;
+    i64_store(memory, (u64)(w2c_i0) + 24, w2c_j1);
+    w2c_j0 = w2c_l8;
+    w2c_j1 = 24ull;
+    w2c_j0 += w2c_j1;
+    w2c_j1 = w2c_l8;
+    w2c_j2 = w2c_l8;
+    w2c_j3 = 16ull;
+    w2c_j2 += w2c_j3;
+    w2c_j3 = w2c_p1;
+    w2c_j4 = w2c_l10;
+    w2c_j5 = w2c_p2;
+    w2c_j6 = w2c_p3;
+    w2c_f38(instance, w2c_j0, w2c_j1, w2c_j2, w2c_j3, w2c_j4, w2c_j5, w2c_j6);
+    w2c_j0 = w2c_l8;
+    w2c_i0 = (u32)(w2c_j0);
+    w2c_i0 = i32_load8_u(memory, (u64)(w2c_i0) + 24u);
+    w2c_i0 = !(w2c_i0);
+    if (w2c_i0) {goto w2c_B6;}
+    w2c_i0 = 2u;
+    w2c_l14 = w2c_i0;
+    w2c_j0 = 0ull;
+    w2c_l13 = w2c_j0;
+    w2c_j0 = w2c_l8;
+    w2c_i0 = (u32)(w2c_j0);
+    w2c_i0 = i32_load8_u(memory, (u64)(w2c_i0) + 25u);
+    w2c_i1 = 1u;
+    w2c_i0 = w2c_i0 == w2c_i1;
+    if (w2c_i0) {goto w2c_B5;}
+    w2c_i0 = 4u;
+    w2c_l15 = w2c_i0;
+    w2c_i0 = 0u;
+    w2c_l14 = w2c_i0;
+    goto w2c_B4;
+    w2c_B6:;
+    w2c_j0 = w2c_l8;
+    w2c_i0 = (u32)(w2c_j0);
+    w2c_j0 = i64_load(memory, (u64)(w2c_i0) + 40u);
+    w2c_l13 = w2c_j0;
+    w2c_j0 = w2c_l8;
+    w2c_i0 = (u32)(w2c_j0);
+    w2c_i0 = i32_load8_u(memory, (u64)(w2c_i0) + 32u);
+    w2c_l14 = w2c_i0;
+    w2c_j0 = w2c_l11;
+    w2c_i0 = !(w2c_j0);
+    if (w2c_i0) {goto w2c_B7;}
+    w2c_j0 = w2c_p2;
+    w2c_i0 = (u32)(w2c_j0);
+    w2c_i1 = 0u;
+    w2c_j2 = w2c_l11;
+    w2c_i2 = (u32)(w2c_j2);
+    memory_fill(memory, w2c_i0, w2c_i1, w2c_i2);
+    w2c_B7:;
+    w2c_j0 = w2c_l12;
+    w2c_i0 = (u32)(w2c_j0);
+    w2c_i1 = 0u;
+    i32_store8(memory, (u64)(w2c_i0), w2c_i1);
+    w2c_B5:;
+    w2c_i0 = w2c_l14;
+    w2c_i1 = 255u;
+    w2c_i0 &= w2c_i1;
+    w2c_i1 = 2u;
+    w2c_i0 = w2c_i0 != w2c_i1;
+    if (w2c_i0) {goto w2c_B8;}
+    w2c_i0 = 5u;
+    w2c_l15 = w2c_i0;
+    w2c_i0 = 0u;
+    w2c_l14 = w2c_i0;
+    goto w2c_B4;
+    w2c_B8:;
+    w2c_i0 = 0u;
+    w2c_l15 = w2c_i0;
+    w2c_j0 = w2c_l13;
+    w2c_l9 = w2c_j0;
+    w2c_B4:;
+    w2c_j0 = w2c_p6;
+    w2c_i0 = (u32)(w2c_j0);
+    w2c_i1 = w2c_l15;
+    i32_store8(memory, (u64)(w2c_i0), w2c_i1);
+    w2c_j0 = w2c_p4;
+    w2c_i0 = (u32)(w2c_j0);
+    w2c_i1 = w2c_l14;
+    i32_store8(memory, (u64)(w2c_i0), w2c_i1);
+    w2c_j0 = w2c_p5;
+    w2c_i0 = (u32)(w2c_j0);
+    w2c_j1 = w2c_l9;
+    i64_store(memory, (u64)(w2c_i0), w2c_j1);
+    w2c_j0 = w2c_p1;
+    w2c_j1 = w2c_l10;
+    w2c_j0 += w2c_j1;
+    w2c_p1 = w2c_j0;
+    w2c_j0 = w2c_p6;
+    w2c_j1 = 1ull;
+    w2c_j0 += w2c_j1;
+    w2c_p6 = w2c_j0;
+    w2c_j0 = w2c_p4;
+    w2c_j1 = 1ull;
+    w2c_j0 += w2c_j1;
+    w2c_p4 = w2c_j0;
+    w2c_j0 = w2c_p5;
+    w2c_j1 = 8ull;
+    w2c_j0 += w2c_j1;
+    w2c_p5 = w2c_j0;
+    w2c_j0 = w2c_p7;
+    w2c_j1 = 18446744073709551615ull;
+    w2c_j0 += w2c_j1;
+    w2c_p7 = w2c_j0;
+    w2c_i0 = !(w2c_j0);
+    w2c_i0 = !(w2c_i0);
+    if (w2c_i0) {goto w2c_L3;}
+    goto w2c_B0;
+  UNREACHABLE;
+  w2c_B2:;
+  UNREACHABLE;
+  w2c_B1:;
+  w2c_j0 = w2c_p7;
+  w2c_j1 = 1ull;
+  w2c_i0 = w2c_j0 == w2c_j1;
+  if (w2c_i0) {goto w2c_B9;}
+  w2c_j0 = w2c_p7;
+  w2c_j1 = 1ull;
+  w2c_j0 &= w2c_j1;
+  w2c_p2 = w2c_j0;
+  w2c_j0 = w2c_p7;
+  w2c_j1 = 18446744073709551614ull;
+  w2c_j0 &= w2c_j1;
+  w2c_l13 = w2c_j0;
+  w2c_j0 = w2c_p5;
+  w2c_p1 = w2c_j0;
+  w2c_j0 = 0ull;
+  w2c_l9 = w2c_j0;
+  w2c_L10: 
+    w2c_j0 = w2c_p6;
+    w2c_j1 = w2c_l9;
+    w2c_j0 += w2c_j1;
+    w2c_p7 = w2c_j0;
+    w2c_i0 = (u32)(w2c_j0);
+    w2c_i1 = 5u;
+    i32_store8(memory, (u64)(w2c_i0), w2c_i1);
+    w2c_j0 = w2c_p4;
+    w2c_j1 = w2c_l9;
+    w2c_j0 += w2c_j1;
+    w2c_l10 = w2c_j0;
+    w2c_i0 = (u32)(w2c_j0);
+    w2c_i1 = 0u;
+    i32_store8(memory, (u64)(w2c_i0), w2c_i1);
+    w2c_j0 = w2c_p1;
+    w2c_i0 = (u32)(w2c_j0);
+    w2c_j1 = 0ull;
+    i64_store(memory, (u64)(w2c_i0), w2c_j1);
+    w2c_j0 = w2c_p7;
+    w2c_j1 = 1ull;
+    w2c_j0 += w2c_j1;
+    w2c_i0 = (u32)(w2c_j0);
+    w2c_i1 = 5u;
+    i32_store8(memory, (u64)(w2c_i0), w2c_i1);
+    w2c_j0 = w2c_l10;
+    w2c_j1 = 1ull;
+    w2c_j0 += w2c_j1;
+    w2c_i0 = (u32)(w2c_j0);
+    w2c_i1 = 0u;
+    i32_store8(memory, (u64)(w2c_i0), w2c_i1);
+    w2c_j0 = w2c_p1;
+    w2c_j1 = 8ull;
+    w2c_j0 += w2c_j1;
+    w2c_i0 = (u32)(w2c_j0);
+    w2c_j1 = 0ull;
+    i64_store(memory, (u64)(w2c_i0), w2c_j1);
+    w2c_j0 = w2c_p1;
+    w2c_j1 = 16ull;
+    w2c_j0 += w2c_j1;
+    w2c_p1 = w2c_j0;
+    w2c_j0 = w2c_l13;
+    w2c_j1 = w2c_l9;
+    w2c_j2 = 2ull;
+    w2c_j1 += w2c_j2;
+    w2c_l9 = w2c_j1;
+    w2c_i0 = w2c_j0 != w2c_j1;
+    if (w2c_i0) {goto w2c_L10;}
+  w2c_j0 = w2c_p2;
+  w2c_i0 = !(w2c_j0);
+  if (w2c_i0) {goto w2c_B0;}
+  w2c_B9:;
+  w2c_j0 = w2c_p6;
+  w2c_j1 = w2c_l9;
+  w2c_j0 += w2c_j1;
+  w2c_i0 = (u32)(w2c_j0);
+  w2c_i1 = 5u;
+  i32_store8(memory, (u64)(w2c_i0), w2c_i1);
+  w2c_j0 = w2c_p4;
+  w2c_j1 = w2c_l9;
+  w2c_j0 += w2c_j1;
+  w2c_i0 = (u32)(w2c_j0);
+  w2c_i1 = 0u;
+  i32_store8(memory, (u64)(w2c_i0), w2c_i1);
+  w2c_j0 = w2c_p5;
+  w2c_j1 = w2c_l9;
+  w2c_j2 = 3ull;
+  w2c_j1 <<= (w2c_j2 & 63);
+  w2c_j0 += w2c_j1;
+  w2c_i0 = (u32)(w2c_j0);
+  w2c_j1 = 0ull;
+  i64_store(memory, (u64)(w2c_i0), w2c_j1);
+  w2c_B0:;
+  w2c_j0 = w2c_l8;
+  w2c_j1 = 48ull;
+  w2c_j0 += w2c_j1;
+  instance->w2c_g0 = w2c_j0;
+}
+static void w2c_f41(struct instance *instance, u64 w2c_p0, u64 w2c_p1, u64 w2c_p2, u64 w2c_p3, u64 w2c_p4, u64 w2c_p5) {
+  u32 w2c_l10 = 0, w2c_l11 = 0, w2c_l12 = 0;
+  u64 w2c_l6 = 0, w2c_l7 = 0, w2c_l8 = 0, w2c_l9 = 0;
+  const struct memory memory = instance->w2c_memory;
+  (void)memory;
+  u32 w2c_i0, w2c_i1;
+  u64 w2c_j0, w2c_j1, w2c_j2, w2c_j3, w2c_j4;
+  w2c_j0 = instance->w2c_g0;
+  w2c_j1 = 64ull;
+  w2c_j0 -= w2c_j1;
+  w2c_l6 = w2c_j0;
+  instance->w2c_g0 = w2c_j0;
+  w2c_j0 = w2c_l6;
+  w2c_l6 = w2c_j0;
+  w2c_j1 = 16ull;
+  w2c_i0 = (u64)((s64)w2c_j0 < (s64)w2c_j1);
+  if (w2c_i0) {goto w2c_B0;}
+  w2c_j0 = w2c_p3;
+  w2c_j1 = 40ull;
+  w2c_j0 += w2c_j1;
+  w2c_i0 = (u32)(w2c_j0);
+  w2c_i0 = i32_load8_u(memory, (u64)(w2c_i0));
+  w2c_l10 = w2c_i0;
+  w2c_j0 = 0ull;
+  w2c_l7 = w2c_j0;
+  w2c_j0 = w2c_l6;
+  w2c_i0 = (u32)(w2c_j0);
+  w2c_j1 = 0ull;
+  i64_store(memory, (u64)(w2c_i0) + 48, w2c_j1);
+  w2c_j0 = w2c_l6;
+  w2c_i0 = (u32)(w2c_j0);
+  w2c_j1 = 0ull;
+  i64_store(memory, (u64)(w2c_i0) + 56, w2c_j1);
+  w2c_j0 = w2c_l6;
+  w2c_i0 = (u32)(w2c_j0);
+  w2c_j1 = 0ull;
+  i64_store(memory, (u64)(w2c_i0) + 16, w2c_j1);
+  w2c_j0 = w2c_l6;
+  w2c_i0 = (u32)(w2c_j0);
+  w2c_j1 = 0ull;
+  i64_store(memory, (u64)(w2c_i0) + 8, w2c_j1);
+  w2c_j0 = w2c_l6;
+  w2c_j1 = 8ull;
+  w2c_j0 += w2c_j1;
+  w2c_j1 = w2c_p1;
+  w2c_j2 = w2c_p3;
+  w2c_j3 = w2c_p4;
+  w2c_j4 = w2c_p5;
+  w2c_f42(instance, w2c_j0, w2c_j1, w2c_j2, w2c_j3, w2c_j4);
+  w2c_j0 = w2c_l6;
+  w2c_i0 = (u32)(w2c_j0);
+  w2c_i0 = i32_load8_u(memory, (u64)(w2c_i0) + 8u);
+  if (w2c_i0) {goto w2c_B4;}
+  w2c_j0 = w2c_l6;
+  w2c_i0 = (u32)(w2c_j0);
+  w2c_j0 = i64_load(memory, (u64)(w2c_i0) + 16u);
+  w2c_l8 = w2c_j0;
+  w2c_j0 = w2c_p3;
+  w2c_i0 = (u32)(w2c_j0);
+  w2c_i0 = i32_load8_u(memory, (u64)(w2c_i0));
+  if (w2c_i0) {goto w2c_B6;}
+  w2c_j0 = w2c_l8;
+  w2c_l9 = w2c_j0;
+  goto w2c_B5;
+  w2c_B6:;
+  w2c_j0 = w2c_p3;
+  w2c_j1 = 24ull;
+  w2c_j0 += w2c_j1;
+  w2c_i0 = (u32)(w2c_j0);
+  w2c_i0 = i32_load8_u(memory, (u64)(w2c_i0));
+  w2c_l10 = w2c_i0;
+  w2c_j0 = w2c_p3;
+  w2c_j1 = 8ull;
+  w2c_j0 += w2c_j1;
+  w2c_i0 = (u32)(w2c_j0);
+  w2c_i0 = i32_load8_u(memory, (u64)(w2c_i0));
+  if (w2c_i0) {goto w2c_B7;}
+  w2c_i0 = w2c_l10;
+  w2c_i1 = 255u;
+  w2c_i0 &= w2c_i1;
+  w2c_i1 = 1u;
+  w2c_i0 = w2c_i0 != w2c_i1;
+  if (w2c_i0) {goto w2c_B8;}
+  w2c_j0 = w2c_p5;
+  w2c_j1 = 11986710452722728952ull;
+  w2c_j0 += w2c_j1;
+  w2c_l9 = w2c_j0;
+  goto w2c_B5;
+  w2c_B8:;
+  w2c_j0 = w2c_p3;
+  w2c_j1 = 32ull;
+  w2c_j0 += w2c_j1;
+  w2c_i0 = (u32)(w2c_j0);
+  w2c_j0 = i64_load(memory, (u64)(w2c_i0));
+  w2c_l9 = w2c_j0;
+  goto w2c_B5;
+  w2c_B7:;
+  w2c_j0 = w2c_l8;
+  w2c_l9 = w2c_j0;
+  w2c_i0 = w2c_l10;
+  w2c_i1 = 255u;
+  w2c_i0 &= w2c_i1;
+  if (w2c_i0) {goto w2c_B5;}
+  w2c_j0 = w2c_l8;
+  w2c_j1 = 4294967295ull;
+  w2c_j0 &= w2c_j1;
+  w2c_j1 = w2c_p5;
+  w2c_j2 = 18446744073709551608ull;
+  w2c_j1 += w2c_j2;
+  w2c_l7 = w2c_j1;
+  w2c_j0 ^= w2c_j1;
+  w2c_j1 = w2c_l7;
+  w2c_j2 = 8ull;
+  w2c_i1 = w2c_j1 == w2c_j2;
+  w2c_j1 = (u64)(w2c_i1);
+  w2c_j0 |= w2c_j1;
+  w2c_l7 = w2c_j0;
+  w2c_j0 = w2c_p3;
+  w2c_j1 = 32ull;
+  w2c_j0 += w2c_j1;
+  w2c_i0 = (u32)(w2c_j0);
+  w2c_j0 = i64_load(memory, (u64)(w2c_i0));
+  w2c_l9 = w2c_j0;
+  w2c_B5:;
+  w2c_j0 = w2c_p1;
+  w2c_j1 = w2c_l8;
+  w2c_j2 = w2c_l7;
+  w2c_j3 = w2c_p4;
+  w2c_j4 = w2c_p5;
+  w2c_i0 = w2c_f43(instance, w2c_j0, w2c_j1, w2c_j2, w2c_j3, w2c_j4);
+  w2c_i1 = 255u;
+  w2c_i0 &= w2c_i1;
+  if (w2c_i0) {goto w2c_B3;}
+  w2c_j0 = w2c_p2;
+  w2c_j1 = w2c_l9;
+  w2c_j2 = w2c_p4;
+  w2c_j3 = w2c_p5;
+  w2c_f44(instance, w2c_j0, w2c_j1, w2c_j2, w2c_j3);
+  w2c_i0 = 0u;
+  w2c_l10 = w2c_i0;
+  w2c_i0 = 0u;
+  w2c_l11 = w2c_i0;
+  goto w2c_B1;
+  w2c_B4:;
+  w2c_i0 = 1u;
+  w2c_l11 = w2c_i0;
+  w2c_j0 = w2c_l6;
+  w2c_i0 = (u32)(w2c_j0);
+  w2c_i0 = i32_load8_u(memory, (u64)(w2c_i0) + 9u);
+  w2c_l12 = w2c_i0;
+  w2c_i0 = w2c_l10;
+  w2c_i1 = 1u;
+  w2c_i0 &= w2c_i1;
+  if (w2c_i0) {goto w2c_B2;}
+  w2c_i0 = w2c_l12;
+  w2c_l10 = w2c_i0;
+  goto w2c_B1;
+  w2c_B3:;
+  w2c_i0 = 1u;
+  w2c_l11 = w2c_i0;
+  w2c_i0 = 2u;
+  w2c_l10 = w2c_i0;
+  goto w2c_B1;
+  w2c_B2:;
+  w2c_i0 = 2u;
+  w2c_l10 = w2c_i0;
+  w2c_i0 = w2c_l12;
+  w2c_i1 = 255u;
+  w2c_i0 &= w2c_i1;
+  w2c_i1 = 2u;
+  w2c_i0 = w2c_i0 == w2c_i1;
+  if (w2c_i0) {goto w2c_B1;}
+  w2c_j0 = w2c_p3;
+  w2c_i0 = (u32)(w2c_j0);
+  w2c_j0 = i64_load8_u(memory, (u64)(w2c_i0));
+  w2c_l7 = w2c_j0;
+  w2c_i0 = !(w2c_j0);
+  w2c_i0 = !(w2c_i0);
+  if (w2c_i0) {goto w2c_B10;}
+  w2c_j0 = 0ull;
+  w2c_p1 = w2c_j0;
+  w2c_j0 = 0ull;
+  w2c_p3 = w2c_j0;
+  goto w2c_B9;
+  w2c_B10:;
+  w2c_j0 = w2c_p3;
+  w2c_j1 = 24ull;
+  w2c_j0 += w2c_j1;
+  w2c_i0 = (u32)(w2c_j0);
+  w2c_j0 = i64_load8_u(memory, (u64)(w2c_i0));
+  w2c_p1 = w2c_j0;
+  w2c_j0 = w2c_p3;
+  w2c_j1 = 32ull;
+  w2c_j0 += w2c_j1;
+  w2c_i0 = (u32)(w2c_j0);
+  w2c_j0 = i64_load(memory, (u64)(w2c_i0));
+  w2c_p3 = w2c_j0;
+  w2c_B9:;
+  w2c_j0 = w2c_l6;
+  w2c_i0 = (u32)(w2c_j0);
+  w2c_j1 = w2c_p3;
+  i64_store(memory, (u64)(w2c_i0) + 40, w2c_j1);
+  w2c_j0 = w2c_l6;
+  w2c_i0 = (u32)(w2c_j0);
+  w2c_j1 = w2c_p1;
+  i64_store(memory, (u64)(w2c_i0) + 32, w2c_j1);
+  w2c_j0 = w2c_l6;
+  w2c_i0 = (u32)(w2c_j0);
+  w2c_j1 = w2c_p3;
+  i64_store(memory, (u64)(w2c_i0) + 24, w2c_j1);
+  w2c_j0 = w2c_l6;
+  w2c_i0 = (u32)(w2c_j0);
+  w2c_j1 = w2c_p1;
+  i64_store(memory, (u64)(w2c_i0) + 16, w2c_j1);
+  w2c_j0 = w2c_l6;
+  w2c_i0 = (u32)(w2c_j0);
+  w2c_j1 = w2c_l7;
+  i64_store(memory, (u64)(w2c_i0) + 8, w2c_j1);
+  w2c_j0 = w2c_l6;
+  w2c_j1 = 48ull;
+  w2c_j0 += w2c_j1;
+  w2c_j1 = w2c_p2;
+  w2c_j2 = w2c_l6;
+  w2c_j3 = 8ull;
+  w2c_j2 += w2c_j3;
+  w2c_j3 = w2c_p4;
+  w2c_j4 = w2c_p5;
+  w2c_f42(instance, w2c_j0, w2c_j1, w2c_j2, w2c_j3, w2c_j4);
+  w2c_i0 = w2c_l12;
+  w2c_l10 = w2c_i0;
+  w2c_j0 = w2c_l6;
+  w2c_i0 = (u32)(w2c_j0);
+  w2c_i0 = i32_load8_u(memory, (u64)(w2c_i0) + 48u);
+  w2c_l11 = w2c_i0;
+  if (w2c_i0) {goto w2c_B1;}
+  w2c_j0 = w2c_p2;
+  w2c_j1 = w2c_l6;
+  w2c_i1 = (u32)(w2c_j1);
+  w2c_j1 = i64_load(memory, (u64)(w2c_i1) + 56u);
+  w2c_j2 = w2c_p4;
+  w2c_j3 = w2c_p5;
+  w2c_f44(instance, w2c_j0, w2c_j1, w2c_j2, w2c_j3);
+  w2c_i0 = 0u;
+  w2c_l11 = w2c_i0;
+  w2c_i0 = 1u;
+  w2c_l10 = w2c_i0;
+  w2c_B1:;
+  w2c_j0 = w2c_p0;
+  w2c_i0 = (u32)(w2c_j0);
+  w2c_i1 = w2c_l10;
+  i32_store8(memory, (u64)(w2c_i0) + 1, w2c_i1);
+  w2c_j0 = w2c_p0;
+  w2c_i0 = (u32)(w2c_j0);
+  w2c_i1 = w2c_l11;
+  i32_store8(memory, (u64)(w2c_i0), w2c_i1);
+  w2c_j0 = w2c_l6;
+  w2c_j1 = 64ull;
+  w2c_j0 += w2c_j1;
+  instance->w2c_g0 = w2c_j0;
+  goto w2c_Bfunc;
+  w2c_B0:;
+  UNREACHABLE;
+  w2c_Bfunc:;
+}
+static void w2c_f42(struct instance *instance, u64 w2c_p0, u64 w2c_p1, u64 w2c_p2, u64 w2c_p3, u64 w2c_p4) {
+  u64 w2c_l5 = 0, w2c_l6 = 0, w2c_l7 = 0;
+  const struct memory memory = instance->w2c_memory;
+  (void)memory;
+  u32 w2c_i0, w2c_i1, w2c_i2;
+  u64 w2c_j0, w2c_j1, w2c_j2, w2c_j3, w2c_j4, w2c_j5, w2c_j6;
+  w2c_j0 = instance->w2c_g0;
+  w2c_l5 = w2c_j0;
+  w2c_j1 = 16ull;
+  w2c_i0 = (u64)((s64)w2c_j0 < (s64)w2c_j1);
+  if (w2c_i0) {goto w2c_B1;}
+  w2c_j0 = w2c_p2;
+  w2c_i0 = (u32)(w2c_j0);
+  w2c_i0 = i32_load8_u(memory, (u64)(w2c_i0));
+  if (w2c_i0) {goto w2c_B3;}
+  w2c_j0 = w2c_p4;
+  w2c_j1 = 7ull;
+  w2c_j0 &= w2c_j1;
+  w2c_j1 = 0ull;
+  w2c_i0 = w2c_j0 != w2c_j1;
+  if (w2c_i0) {goto w2c_B2;}
+  w2c_j0 = w2c_p4;
+  w2c_j1 = 18446744073709551600ull;
+  w2c_j0 += w2c_j1;
+  w2c_j1 = 1048569ull;
+  w2c_i0 = w2c_j0 >= w2c_j1;
+  if (w2c_i0) {goto w2c_B2;}
+  goto w2c_B0;
+  w2c_B3:;
+  w2c_j0 = w2c_p4;
+  w2c_j1 = 7ull;
+  w2c_j0 &= w2c_j1;
+  w2c_j1 = 0ull;
+  w2c_i0 = w2c_j0 != w2c_j1;
+  if (w2c_i0) {goto w2c_B2;}
+  w2c_j0 = w2c_p4;
+  w2c_j1 = 18446744073709551600ull;
+  w2c_j0 += w2c_j1;
+  w2c_j1 = 1048569ull;
+  w2c_i0 = w2c_j0 < w2c_j1;
+  w2c_j1 = w2c_p4;
+  w2c_j2 = 18446744073709551592ull;
+  w2c_j1 += w2c_j2;
+  w2c_j2 = 1048561ull;
+  w2c_i1 = w2c_j1 < w2c_j2;
+  w2c_j2 = w2c_p2;
+  w2c_j3 = 8ull;
+  w2c_j2 += w2c_j3;
+  w2c_i2 = (u32)(w2c_j2);
+  w2c_i2 = i32_load8_u(memory, (u64)(w2c_i2));
+  w2c_i0 = w2c_i2 ? w2c_i0 : w2c_i1;
+  if (w2c_i0) {goto w2c_B0;}
+  w2c_B2:;
+  w2c_j0 = w2c_p0;
+  w2c_i0 = (u32)(w2c_j0);
+  w2c_i1 = 1u;
+  i32_store16(memory, (u64)(w2c_i0), w2c_i1);
+  w2c_j0 = w2c_p0;
+  w2c_j1 = 8ull;
+  w2c_j0 += w2c_j1;
+  w2c_i0 = (u32)(w2c_j0);
+  w2c_j1 = 0ull;
+  i64_store(memory, (u64)(w2c_i0), w2c_j1);
+  w2c_j0 = w2c_l5;
+  instance->w2c_g0 = w2c_j0;
+  goto w2c_Bfunc;
+  w2c_B1:;
+  UNREACHABLE;
+  w2c_B0:;
+  w2c_j0 = w2c_p1;
+  w2c_j1 = w2c_p3;
+  w2c_i1 = (u32)(w2c_j1);
+  w2c_j1 = i64_load(memory, (u64)(w2c_i1));
+  w2c_l6 = w2c_j1;
+  w2c_j2 = 56ull;
+  w2c_j1 <<= (w2c_j2 & 63);
+  w2c_j2 = w2c_l6;
+  w2c_j3 = 65280ull;
+  w2c_j2 &= w2c_j3;
+  w2c_j3 = 40ull;
+  w2c_j2 <<= (w2c_j3 & 63);
+  w2c_j1 |= w2c_j2;
+  w2c_j2 = w2c_l6;
+  w2c_j3 = 16711680ull;
+  w2c_j2 &= w2c_j3;
+  w2c_j3 = 24ull;
+  w2c_j2 <<= (w2c_j3 & 63);
+  w2c_j3 = w2c_l6;
+  w2c_j4 = 4278190080ull;
+  w2c_j3 &= w2c_j4;
+  w2c_j4 = 8ull;
+  w2c_j3 <<= (w2c_j4 & 63);
+  w2c_j2 |= w2c_j3;
+  w2c_j1 |= w2c_j2;
+  w2c_j2 = w2c_l6;
+  w2c_j3 = 8ull;
+  w2c_j2 >>= (w2c_j3 & 63);
+  w2c_j3 = 4278190080ull;
+  w2c_j2 &= w2c_j3;
+  w2c_j3 = w2c_l6;
+  w2c_j4 = 24ull;
+  w2c_j3 >>= (w2c_j4 & 63);
+  w2c_j4 = 16711680ull;
+  w2c_j3 &= w2c_j4;
+  w2c_j2 |= w2c_j3;
+  w2c_j3 = w2c_l6;
+  w2c_j4 = 40ull;
+  w2c_j3 >>= (w2c_j4 & 63);
+  w2c_j4 = 65280ull;
+  w2c_j3 &= w2c_j4;
+  w2c_j4 = w2c_l6;
+  w2c_j5 = 56ull;
+  w2c_j4 >>= (w2c_j5 & 63);
+  w2c_j3 |= w2c_j4;
+  w2c_j2 |= w2c_j3;
+  w2c_j1 |= w2c_j2;
+  w2c_j2 = w2c_p3;
+  w2c_j3 = 8ull;
+  w2c_j2 += w2c_j3;
+  w2c_j3 = w2c_p4;
+  w2c_j4 = 18446744073709551608ull;
+  w2c_j3 += w2c_j4;
+  w2c_l7 = w2c_j3;
+  w2c_j0 = w2c_f39(instance, w2c_j0, w2c_j1, w2c_j2, w2c_j3);
+  w2c_l6 = w2c_j0;
+  w2c_j0 = w2c_p2;
+  w2c_i0 = (u32)(w2c_j0);
+  w2c_i0 = i32_load8_u(memory, (u64)(w2c_i0));
+  if (w2c_i0) {goto w2c_B5;}
+  w2c_j0 = w2c_l7;
+  w2c_j1 = 8ull;
+  w2c_i0 = w2c_j0 == w2c_j1;
+  w2c_j1 = w2c_l6;
+  w2c_j2 = 12008468691120727718ull;
+  w2c_i1 = w2c_j1 != w2c_j2;
+  w2c_i0 |= w2c_i1;
+  w2c_j1 = w2c_l7;
+  w2c_j2 = w2c_l6;
+  w2c_j3 = 4294967295ull;
+  w2c_j2 &= w2c_j3;
+  w2c_j1 -= w2c_j2;
+  w2c_l7 = w2c_j1;
+  w2c_j2 = 3ull;
+  w2c_j1 >>= (w2c_j2 & 63);
+  w2c_j2 = w2c_l6;
+  w2c_j3 = 32ull;
+  w2c_j2 >>= (w2c_j3 & 63);
+  w2c_j3 = 2790873510ull;
+  w2c_j2 ^= w2c_j3;
+  w2c_j1 |= w2c_j2;
+  w2c_j2 = w2c_p3;
+  w2c_j3 = w2c_p4;
+  w2c_j2 += w2c_j3;
+  w2c_j3 = 18446744073709551608ull;
+  w2c_j2 += w2c_j3;
+  w2c_i2 = (u32)(w2c_j2);
+  w2c_j2 = i64_load(memory, (u64)(w2c_i2));
+  w2c_p2 = w2c_j2;
+  w2c_j3 = 56ull;
+  w2c_j2 <<= (w2c_j3 & 63);
+  w2c_j3 = w2c_p2;
+  w2c_j4 = 65280ull;
+  w2c_j3 &= w2c_j4;
+  w2c_j4 = 40ull;
+  w2c_j3 <<= (w2c_j4 & 63);
+  w2c_j2 |= w2c_j3;
+  w2c_j3 = w2c_p2;
+  w2c_j4 = 16711680ull;
+  w2c_j3 &= w2c_j4;
+  w2c_j4 = 24ull;
+  w2c_j3 <<= (w2c_j4 & 63);
+  w2c_j4 = w2c_p2;
+  w2c_j5 = 4278190080ull;
+  w2c_j4 &= w2c_j5;
+  w2c_j5 = 8ull;
+  w2c_j4 <<= (w2c_j5 & 63);
+  w2c_j3 |= w2c_j4;
+  w2c_j2 |= w2c_j3;
+  w2c_j3 = w2c_p2;
+  w2c_j4 = 8ull;
+  w2c_j3 >>= (w2c_j4 & 63);
+  w2c_j4 = 4278190080ull;
+  w2c_j3 &= w2c_j4;
+  w2c_j4 = w2c_p2;
+  w2c_j5 = 24ull;
+  w2c_j4 >>= (w2c_j5 & 63);
+  w2c_j5 = 16711680ull;
+  w2c_j4 &= w2c_j5;
+  w2c_j3 |= w2c_j4;
+  w2c_j4 = w2c_p2;
+  w2c_j5 = 40ull;
+  w2c_j4 >>= (w2c_j5 & 63);
+  w2c_j5 = 65280ull;
+  w2c_j4 &= w2c_j5;
+  w2c_j5 = w2c_p2;
+  w2c_j6 = 56ull;
+  w2c_j5 >>= (w2c_j6 & 63);
+  w2c_j4 |= w2c_j5;
+  w2c_j3 |= w2c_j4;
+  w2c_j2 |= w2c_j3;
+  w2c_j3 = 18446744073709551615ull;
+  w2c_j4 = w2c_l7;
+  w2c_j5 = 3ull;
+  w2c_j4 <<= (w2c_j5 & 63);
+  w2c_j3 <<= (w2c_j4 & 63);
+  w2c_j4 = 18446744073709551615ull;
+  w2c_j3 ^= w2c_j4;
+  w2c_j2 &= w2c_j3;
+  w2c_j1 |= w2c_j2;
+  w2c_j2 = 0ull;
+  w2c_i1 = w2c_j1 != w2c_j2;
+  w2c_i0 &= w2c_i1;
+  w2c_j0 = (u64)(w2c_i0);
+  w2c_p2 = w2c_j0;
+  goto w2c_B4;
+  w2c_B5:;
+  w2c_j0 = w2c_p2;
+  w2c_j1 = 8ull;
+  w2c_j0 += w2c_j1;
+  w2c_i0 = (u32)(w2c_j0);
+  w2c_i0 = i32_load8_u(memory, (u64)(w2c_i0));
+  if (w2c_i0) {goto w2c_B6;}
+  w2c_j0 = 1ull;
+  w2c_j1 = w2c_p2;
+  w2c_j2 = 16ull;
+  w2c_j1 += w2c_j2;
+  w2c_i1 = (u32)(w2c_j1);
+  w2c_j1 = i64_load(memory, (u64)(w2c_i1));
+  w2c_j2 = w2c_l6;
+  w2c_j1 ^= w2c_j2;
+  w2c_j2 = w2c_l7;
+  w2c_j3 = 8ull;
+  w2c_i2 = w2c_j2 == w2c_j3;
+  w2c_j0 = w2c_i2 ? w2c_j0 : w2c_j1;
+  w2c_p2 = w2c_j0;
+  goto w2c_B4;
+  w2c_B6:;
+  w2c_j0 = w2c_l7;
+  w2c_j1 = w2c_l6;
+  w2c_j2 = 4294967295ull;
+  w2c_j1 &= w2c_j2;
+  w2c_j0 -= w2c_j1;
+  w2c_l7 = w2c_j0;
+  w2c_j1 = 3ull;
+  w2c_j0 >>= (w2c_j1 & 63);
+  w2c_j1 = w2c_l6;
+  w2c_j2 = 32ull;
+  w2c_j1 >>= (w2c_j2 & 63);
+  w2c_j2 = 2790873510ull;
+  w2c_j1 ^= w2c_j2;
+  w2c_j0 |= w2c_j1;
+  w2c_j1 = w2c_p3;
+  w2c_j2 = w2c_p4;
+  w2c_j1 += w2c_j2;
+  w2c_j2 = 18446744073709551608ull;
+  w2c_j1 += w2c_j2;
+  w2c_i1 = (u32)(w2c_j1);
+  w2c_j1 = i64_load(memory, (u64)(w2c_i1));
+  w2c_p2 = w2c_j1;
+  w2c_j2 = 56ull;
+  w2c_j1 <<= (w2c_j2 & 63);
+  w2c_j2 = w2c_p2;
+  w2c_j3 = 65280ull;
+  w2c_j2 &= w2c_j3;
+  w2c_j3 = 40ull;
+  w2c_j2 <<= (w2c_j3 & 63);
+  w2c_j1 |= w2c_j2;
+  w2c_j2 = w2c_p2;
+  w2c_j3 = 16711680ull;
+  w2c_j2 &= w2c_j3;
+  w2c_j3 = 24ull;
+  w2c_j2 <<= (w2c_j3 & 63);
+  w2c_j3 = w2c_p2;
+  w2c_j4 = 4278190080ull;
+  w2c_j3 &= w2c_j4;
+  w2c_j4 = 8ull;
+  w2c_j3 <<= (w2c_j4 & 63);
+  w2c_j2 |= w2c_j3;
+  w2c_j1 |= w2c_j2;
+  w2c_j2 = w2c_p2;
+  w2c_j3 = 8ull;
+  w2c_j2 >>= (w2c_j3 & 63);
+  w2c_j3 = 4278190080ull;
+  w2c_j2 &= w2c_j3;
+  w2c_j3 = w2c_p2;
+  w2c_j4 = 24ull;
+  w2c_j3 >>= (w2c_j4 & 63);
+  w2c_j4 = 16711680ull;
+  w2c_j3 &= w2c_j4;
+  w2c_j2 |= w2c_j3;
+  w2c_j3 = w2c_p2;
+  w2c_j4 = 40ull;
+  w2c_j3 >>= (w2c_j4 & 63);
+  w2c_j4 = 65280ull;
+  w2c_j3 &= w2c_j4;
+  w2c_j4 = w2c_p2;
+  w2c_j5 = 56ull;
+  w2c_j4 >>= (w2c_j5 & 63);
+  w2c_j3 |= w2c_j4;
+  w2c_j2 |= w2c_j3;
+  w2c_j1 |= w2c_j2;
+  w2c_j2 = 18446744073709551615ull;
+  w2c_j3 = w2c_l7;
+  w2c_j4 = 3ull;
+  w2c_j3 <<= (w2c_j4 & 63);
+  w2c_j2 <<= (w2c_j3 & 63);
+  w2c_j3 = 18446744073709551615ull;
+  w2c_j2 ^= w2c_j3;
+  w2c_j1 &= w2c_j2;
+  w2c_j0 |= w2c_j1;
+  w2c_p2 = w2c_j0;
+  w2c_B4:;
+  w2c_j0 = w2c_p1;
+  w2c_j1 = w2c_l6;
+  w2c_j2 = w2c_p2;
+  w2c_j3 = w2c_p3;
+  w2c_j4 = w2c_p4;
+  w2c_i0 = w2c_f43(instance, w2c_j0, w2c_j1, w2c_j2, w2c_j3, w2c_j4);
+  w2c_i1 = 255u;
+  w2c_i0 &= w2c_i1;
+  w2c_i0 = !(w2c_i0);
+  if (w2c_i0) {goto w2c_B7;}
+  w2c_j0 = w2c_p0;
+  w2c_i0 = (u32)(w2c_j0);
+  w2c_i1 = 257u;
+  i32_store16(memory, (u64)(w2c_i0), w2c_i1);
+  w2c_j0 = w2c_p0;
+  w2c_j1 = 8ull;
+  w2c_j0 += w2c_j1;
+  w2c_i0 = (u32)(w2c_j0);
+  w2c_j1 = 0ull;
+  i64_store(memory, (u64)(w2c_i0), w2c_j1);
+  w2c_j0 = w2c_l5;
+  instance->w2c_g0 = w2c_j0;
+  goto w2c_Bfunc;
+  w2c_B7:;
+  w2c_j0 = w2c_p0;
+  w2c_i0 = (u32)(w2c_j0);
+  w2c_i1 = 0u;
+  i32_store16(memory, (u64)(w2c_i0), w2c_i1);
+  w2c_j0 = w2c_p0;
+  w2c_j1 = 8ull;
+  w2c_j0 += w2c_j1;
+  w2c_i0 = (u32)(w2c_j0);
+  w2c_j1 = w2c_l6;
+  i64_store(memory, (u64)(w2c_i0), w2c_j1);
+  w2c_j0 = w2c_l5;
+  instance->w2c_g0 = w2c_j0;
+  w2c_Bfunc:;
+}
+static u32 w2c_f43(struct instance *instance, u64 w2c_p0, u64 w2c_p1, u64 w2c_p2, u64 w2c_p3, u64 w2c_p4) {
+  u64 w2c_l5 = 0;
+  const struct memory memory = instance->w2c_memory;
+  (void)memory;
+  u32 w2c_i0;
+  u64 w2c_j0, w2c_j1, w2c_j2, w2c_j3;
+  w2c_j0 = instance->w2c_g0;
+  w2c_l5 = w2c_j0;
+  w2c_j1 = 16ull;
+  w2c_i0 = (u64)((s64)w2c_j0 < (s64)w2c_j1);
+  if (w2c_i0) {goto w2c_B0;}
+  w2c_j0 = w2c_p2;
+  w2c_i0 = !(w2c_j0);
+  w2c_i0 = !(w2c_i0);
+  if (w2c_i0) {goto w2c_B1;}
+  w2c_j0 = w2c_l5;
+  instance->w2c_g0 = w2c_j0;
+  w2c_i0 = 0u;
+  goto w2c_Bfunc;
+  w2c_B1:;
+  w2c_j0 = w2c_p0;
+  w2c_j1 = w2c_p1;
+  w2c_j2 = w2c_p3;
+  w2c_j3 = w2c_p4;
+  w2c_f44(instance, w2c_j0, w2c_j1, w2c_j2, w2c_j3);
+  w2c_j0 = w2c_l5;
+  instance->w2c_g0 = w2c_j0;
+  w2c_i0 = 1u;
+  goto w2c_Bfunc;
+  w2c_B0:;
+  UNREACHABLE;
+  w2c_Bfunc:;
+  return w2c_i0;
+}
+static void w2c_f44(struct instance *instance, u64 w2c_p0, u64 w2c_p1, u64 w2c_p2, u64 w2c_p3) {
+  u64 w2c_l4 = 0, w2c_l5 = 0, w2c_l6 = 0, w2c_l7 = 0, w2c_l8 = 0, w2c_l9 = 0;
+  const struct memory memory = instance->w2c_memory;
+  (void)memory;
+  u32 w2c_i0, w2c_i1, w2c_i2, w2c_i3;
+  u64 w2c_j0, w2c_j1, w2c_j2, w2c_j3, w2c_j4, w2c_j5;
+  w2c_j0 = instance->w2c_g0;
+  w2c_j1 = 32ull;
+  w2c_j0 -= w2c_j1;
+  w2c_l4 = w2c_j0;
+  instance->w2c_g0 = w2c_j0;
+  w2c_j0 = w2c_l4;
+  w2c_l4 = w2c_j0;
+  w2c_j1 = 16ull;
+  w2c_i0 = (u64)((s64)w2c_j0 < (s64)w2c_j1);
+  if (w2c_i0) {goto w2c_B0;}
+  w2c_j0 = w2c_p2;
+  w2c_j1 = 8ull;
+  w2c_j0 += w2c_j1;
+  w2c_l5 = w2c_j0;
+  w2c_j0 = w2c_p3;
+  w2c_j1 = 18446744073709551608ull;
+  w2c_j0 += w2c_j1;
+  w2c_l6 = w2c_j0;
+  w2c_j1 = 9ull;
+  w2c_i0 = w2c_j0 < w2c_j1;
+  if (w2c_i0) {goto w2c_B2;}
+  w2c_j0 = w2c_p1;
+  w2c_j1 = 56ull;
+  w2c_j0 <<= (w2c_j1 & 63);
+  w2c_j1 = w2c_p1;
+  w2c_j2 = 65280ull;
+  w2c_j1 &= w2c_j2;
+  w2c_j2 = 40ull;
+  w2c_j1 <<= (w2c_j2 & 63);
+  w2c_j0 |= w2c_j1;
+  w2c_j1 = w2c_p1;
+  w2c_j2 = 16711680ull;
+  w2c_j1 &= w2c_j2;
+  w2c_j2 = 24ull;
+  w2c_j1 <<= (w2c_j2 & 63);
+  w2c_j2 = w2c_p1;
+  w2c_j3 = 4278190080ull;
+  w2c_j2 &= w2c_j3;
+  w2c_j3 = 8ull;
+  w2c_j2 <<= (w2c_j3 & 63);
+  w2c_j1 |= w2c_j2;
+  w2c_j0 |= w2c_j1;
+  w2c_j1 = w2c_p1;
+  w2c_j2 = 8ull;
+  w2c_j1 >>= (w2c_j2 & 63);
+  w2c_j2 = 4278190080ull;
+  w2c_j1 &= w2c_j2;
+  w2c_j2 = w2c_p1;
+  w2c_j3 = 24ull;
+  w2c_j2 >>= (w2c_j3 & 63);
+  w2c_j3 = 16711680ull;
+  w2c_j2 &= w2c_j3;
+  w2c_j1 |= w2c_j2;
+  w2c_j2 = w2c_p1;
+  w2c_j3 = 40ull;
+  w2c_j2 >>= (w2c_j3 & 63);
+  w2c_j3 = 65280ull;
+  w2c_j2 &= w2c_j3;
+  w2c_j3 = w2c_p1;
+  w2c_j4 = 56ull;
+  w2c_j3 >>= (w2c_j4 & 63);
+  w2c_j2 |= w2c_j3;
+  w2c_j1 |= w2c_j2;
+  w2c_j0 |= w2c_j1;
+  w2c_p3 = w2c_j0;
+  w2c_j0 = w2c_l6;
+  w2c_j1 = 3ull;
+  w2c_j0 >>= (w2c_j1 & 63);
+  w2c_l6 = w2c_j0;
+  w2c_j1 = 6ull;
+  w2c_j0 *= w2c_j1;
+  w2c_l7 = w2c_j0;
+  w2c_j0 = 0ull;
+  w2c_p1 = w2c_j0;
+  w2c_j0 = w2c_l5;
+  w2c_l8 = w2c_j0;
+  w2c_L3: 
+    w2c_j0 = w2c_l8;
+    w2c_i0 = (u32)(w2c_j0);
+    w2c_j0 = i64_load(memory, (u64)(w2c_i0));
+    w2c_l8 = w2c_j0;
+    w2c_j0 = w2c_p0;
+    w2c_j1 = 8ull;
+    w2c_j0 += w2c_j1;
+    w2c_l9 = w2c_j0;
+    w2c_i0 = (u32)(w2c_j0);
+    w2c_j1 = 18446744073709551615ull;
+    w2c_j2 = w2c_l9;
+    w2c_i2 = (u32)(w2c_j2);
+    w2c_j2 = i64_load(memory, (u64)(w2c_i2));
+    w2c_j3 = 1ull;
+    w2c_j2 += w2c_j3;
+    w2c_l9 = w2c_j2;
+    w2c_j3 = w2c_l9;
+    w2c_i3 = !(w2c_j3);
+    w2c_j1 = w2c_i3 ? w2c_j1 : w2c_j2;
+    i64_store(memory, (u64)(w2c_i0), w2c_j1);
+    w2c_j0 = w2c_l4;
+    w2c_i0 = (u32)(w2c_j0);
+    w2c_j1 = 0ull;
+    i64_store(memory, (u64)(w2c_i0) + 16, w2c_j1);
+    w2c_j0 = w2c_l4;
+    w2c_i0 = (u32)(w2c_j0);
+    w2c_j1 = 0ull;
+    i64_store(memory, (u64)(w2c_i0) + 24, w2c_j1);
+    w2c_j0 = w2c_l4;
+    w2c_i0 = (u32)(w2c_j0);
+    w2c_j1 = w2c_l8;
+    i64_store(memory, (u64)(w2c_i0) + 8, w2c_j1);
+    w2c_j0 = w2c_l4;
+    w2c_i0 = (u32)(w2c_j0);
+    w2c_j1 = w2c_p3;
+    i64_store(memory, (u64)(w2c_i0), w2c_j1);
+    w2c_j0 = w2c_l4;
+    w2c_j1 = 16ull;
+    w2c_j0 += w2c_j1;
+    w2c_j1 = w2c_p0;
+    w2c_i1 = (u32)(w2c_j1);
+    w2c_j1 = i64_load(memory, (u64)(w2c_i1));
+    w2c_j2 = w2c_l4;
+    w2c_f45(instance, w2c_j0, w2c_j1, w2c_j2);
+    w2c_j0 = w2c_l4;
+    w2c_i0 = (u32)(w2c_j0);
+    w2c_j0 = i64_load(memory, (u64)(w2c_i0) + 16u);
+    w2c_p3 = w2c_j0;
+    w2c_j0 = w2c_l5;
+    w2c_j1 = w2c_p1;
+    w2c_j2 = w2c_l6;
+    w2c_j1 = REM_U(w2c_j1, w2c_j2);
+    w2c_l8 = w2c_j1;
+    w2c_j2 = 3ull;
+    w2c_j1 <<= (w2c_j2 & 63);
+    w2c_j0 += w2c_j1;
+    w2c_i0 = (u32)(w2c_j0);
+    w2c_j1 = w2c_l4;
+    w2c_i1 = (u32)(w2c_j1);
+    w2c_j1 = i64_load(memory, (u64)(w2c_i1) + 24u);
+    i64_store(memory, (u64)(w2c_i0), w2c_j1);
+    w2c_j0 = w2c_p3;
+    w2c_j1 = w2c_p1;
+    w2c_j2 = 1ull;
+    w2c_j1 += w2c_j2;
+    w2c_p1 = w2c_j1;
+    w2c_j2 = 56ull;
+    w2c_j1 <<= (w2c_j2 & 63);
+    w2c_j2 = w2c_p1;
+    w2c_j3 = 65280ull;
+    w2c_j2 &= w2c_j3;
+    w2c_j3 = 40ull;
+    w2c_j2 <<= (w2c_j3 & 63);
+    w2c_j1 |= w2c_j2;
+    w2c_j2 = w2c_p1;
+    w2c_j3 = 16711680ull;
+    w2c_j2 &= w2c_j3;
+    w2c_j3 = 24ull;
+    w2c_j2 <<= (w2c_j3 & 63);
+    w2c_j3 = w2c_p1;
+    w2c_j4 = 4278190080ull;
+    w2c_j3 &= w2c_j4;
+    w2c_j4 = 8ull;
+    w2c_j3 <<= (w2c_j4 & 63);
+    w2c_j2 |= w2c_j3;
+    w2c_j1 |= w2c_j2;
+    w2c_j2 = w2c_p1;
+    w2c_j3 = 8ull;
+    w2c_j2 >>= (w2c_j3 & 63);
+    w2c_j3 = 4278190080ull;
+    w2c_j2 &= w2c_j3;
+    w2c_j3 = w2c_p1;
+    w2c_j4 = 24ull;
+    w2c_j3 >>= (w2c_j4 & 63);
+    w2c_j4 = 16711680ull;
+    w2c_j3 &= w2c_j4;
+    w2c_j2 |= w2c_j3;
+    w2c_j3 = w2c_p1;
+    w2c_j4 = 40ull;
+    w2c_j3 >>= (w2c_j4 & 63);
+    w2c_j4 = 65280ull;
+    w2c_j3 &= w2c_j4;
+    w2c_j4 = w2c_p1;
+    w2c_j5 = 56ull;
+    w2c_j4 >>= (w2c_j5 & 63);
+    w2c_j3 |= w2c_j4;
+    w2c_j2 |= w2c_j3;
+    w2c_j1 |= w2c_j2;
+    w2c_j0 ^= w2c_j1;
+    w2c_p3 = w2c_j0;
+    w2c_j0 = w2c_l5;
+    w2c_j1 = 0ull;
+    w2c_j2 = w2c_l8;
+    w2c_j3 = 1ull;
+    w2c_j2 += w2c_j3;
+    w2c_l8 = w2c_j2;
+    w2c_j3 = 3ull;
+    w2c_j2 <<= (w2c_j3 & 63);
+    w2c_j3 = w2c_l8;
+    w2c_j4 = w2c_l6;
+    w2c_i3 = w2c_j3 == w2c_j4;
+    w2c_j1 = w2c_i3 ? w2c_j1 : w2c_j2;
+    w2c_j0 += w2c_j1;
+    w2c_l8 = w2c_j0;
+    w2c_j0 = w2c_l7;
+    w2c_j1 = w2c_p1;
+    w2c_i0 = w2c_j0 != w2c_j1;
+    if (w2c_i0) {goto w2c_L3;}
+    goto w2c_B1;
+  UNREACHABLE;
+  w2c_B2:;
+  w2c_j0 = w2c_l5;
+  w2c_i0 = (u32)(w2c_j0);
+  w2c_j0 = i64_load(memory, (u64)(w2c_i0));
+  w2c_p3 = w2c_j0;
+  w2c_j0 = w2c_p0;
+  w2c_j1 = 8ull;
+  w2c_j0 += w2c_j1;
+  w2c_l6 = w2c_j0;
+  w2c_i0 = (u32)(w2c_j0);
+  w2c_j1 = 18446744073709551615ull;
+  w2c_j2 = w2c_l6;
+  w2c_i2 = (u32)(w2c_j2);
+  w2c_j2 = i64_load(memory, (u64)(w2c_i2));
+  w2c_j3 = 1ull;
+  w2c_j2 += w2c_j3;
+  w2c_l6 = w2c_j2;
+  w2c_j3 = w2c_l6;
+  w2c_i3 = !(w2c_j3);
+  w2c_j1 = w2c_i3 ? w2c_j1 : w2c_j2;
+  i64_store(memory, (u64)(w2c_i0), w2c_j1);
+  w2c_j0 = w2c_l4;
+  w2c_i0 = (u32)(w2c_j0);
+  w2c_j1 = 0ull;
+  i64_store(memory, (u64)(w2c_i0) + 16, w2c_j1);
+  w2c_j0 = w2c_l4;
+  w2c_i0 = (u32)(w2c_j0);
+  w2c_j1 = 0ull;
+  i64_store(memory, (u64)(w2c_i0) + 24, w2c_j1);
+  w2c_j0 = w2c_l4;
+  w2c_i0 = (u32)(w2c_j0);
+  w2c_j1 = w2c_p3;
+  i64_store(memory, (u64)(w2c_i0) + 8, w2c_j1);
+  w2c_j0 = w2c_l4;
+  w2c_i0 = (u32)(w2c_j0);
+  w2c_j1 = w2c_p1;
+  w2c_j2 = 56ull;
+  w2c_j1 <<= (w2c_j2 & 63);
+  w2c_j2 = w2c_p1;
+  w2c_j3 = 65280ull;
+  w2c_j2 &= w2c_j3;
+  w2c_j3 = 40ull;
+  w2c_j2 <<= (w2c_j3 & 63);
+  w2c_j1 |= w2c_j2;
+  w2c_j2 = w2c_p1;
+  w2c_j3 = 16711680ull;
+  w2c_j2 &= w2c_j3;
+  w2c_j3 = 24ull;
+  w2c_j2 <<= (w2c_j3 & 63);
+  w2c_j3 = w2c_p1;
+  w2c_j4 = 4278190080ull;
+  w2c_j3 &= w2c_j4;
+  w2c_j4 = 8ull;
+  w2c_j3 <<= (w2c_j4 & 63);
+  w2c_j2 |= w2c_j3;
+  w2c_j1 |= w2c_j2;
+  w2c_j2 = w2c_p1;
+  w2c_j3 = 8ull;
+  w2c_j2 >>= (w2c_j3 & 63);
+  w2c_j3 = 4278190080ull;
+  w2c_j2 &= w2c_j3;
+  w2c_j3 = w2c_p1;
+  w2c_j4 = 24ull;
+  w2c_j3 >>= (w2c_j4 & 63);
+  w2c_j4 = 16711680ull;
+  w2c_j3 &= w2c_j4;
+  w2c_j2 |= w2c_j3;
+  w2c_j3 = w2c_p1;
+  w2c_j4 = 40ull;
+  w2c_j3 >>= (w2c_j4 & 63);
+  w2c_j4 = 65280ull;
+  w2c_j3 &= w2c_j4;
+  w2c_j4 = w2c_p1;
+  w2c_j5 = 56ull;
+  w2c_j4 >>= (w2c_j5 & 63);
+  w2c_j3 |= w2c_j4;
+  w2c_j2 |= w2c_j3;
+  w2c_j1 |= w2c_j2;
+  i64_store(memory, (u64)(w2c_i0), w2c_j1);
+  w2c_j0 = w2c_l4;
+  w2c_j1 = 16ull;
+  w2c_j0 += w2c_j1;
+  w2c_j1 = w2c_p0;
+  w2c_i1 = (u32)(w2c_j1);
+  w2c_j1 = i64_load(memory, (u64)(w2c_i1));
+  w2c_j2 = w2c_l4;
+  w2c_f45(instance, w2c_j0, w2c_j1, w2c_j2);
+  w2c_j0 = w2c_l4;
+  w2c_i0 = (u32)(w2c_j0);
+  w2c_j0 = i64_load(memory, (u64)(w2c_i0) + 16u);
+  w2c_p3 = w2c_j0;
+  w2c_j0 = w2c_l5;
+  w2c_i0 = (u32)(w2c_j0);
+  w2c_j1 = w2c_l4;
+  w2c_i1 = (u32)(w2c_j1);
+  w2c_j1 = i64_load(memory, (u64)(w2c_i1) + 24u);
+  i64_store(memory, (u64)(w2c_i0), w2c_j1);
+  w2c_B1:;
+  w2c_j0 = w2c_p2;
+  w2c_i0 = (u32)(w2c_j0);
+  w2c_j1 = w2c_p3;
+  i64_store(memory, (u64)(w2c_i0), w2c_j1);
+  w2c_j0 = w2c_l4;
+  w2c_j1 = 32ull;
+  w2c_j0 += w2c_j1;
+  instance->w2c_g0 = w2c_j0;
+  goto w2c_Bfunc;
+  w2c_B0:;
+  UNREACHABLE;
+  w2c_Bfunc:;
+}
+static void w2c_f45(struct instance *instance, u64 w2c_p0, u64 w2c_p1, u64 w2c_p2) {
+  u32 w2c_l3 = 0, w2c_l4 = 0, w2c_l5 = 0, w2c_l6 = 0, w2c_l7 = 0, w2c_l8 = 0, w2c_l9 = 0, w2c_l10 = 0;
+  u64 w2c_l11 = 0, w2c_l12 = 0;
+  const struct memory memory = instance->w2c_memory;
+  (void)memory;
+  u32 w2c_i0, w2c_i1, w2c_i2, w2c_i3, w2c_i4;
+  u64 w2c_j0, w2c_j1, w2c_j2, w2c_j3;
+  w2c_j0 = instance->w2c_g0;
+  w2c_j1 = 16ull;
+  w2c_i0 = (u64)((s64)w2c_j0 < (s64)w2c_j1);
+  if (w2c_i0) {goto w2c_B0;}
+  w2c_j0 = w2c_p1;
+  w2c_i0 = (u32)(w2c_j0);
+  w2c_i0 = i32_load(memory, (u64)(w2c_i0) + 12u);
+  w2c_j1 = w2c_p2;
+  w2c_i1 = (u32)(w2c_j1);
+  w2c_i1 = i32_load(memory, (u64)(w2c_i1) + 12u);
+  w2c_l3 = w2c_i1;
+  w2c_i2 = 16711935u;
+  w2c_i1 &= w2c_i2;
+  w2c_i2 = 8u;
+  w2c_i1 = I32_ROTR(w2c_i1, w2c_i2);
+  w2c_i2 = w2c_l3;
+  w2c_i3 = 24u;
+  w2c_i2 = I32_ROTR(w2c_i2, w2c_i3);
+  w2c_i3 = 16711935u;
+  w2c_i2 &= w2c_i3;
+  w2c_i1 |= w2c_i2;
+  w2c_i0 ^= w2c_i1;
+  w2c_l4 = w2c_i0;
+  w2c_j0 = w2c_p1;
+  w2c_i0 = (u32)(w2c_j0);
+  w2c_i0 = i32_load(memory, (u64)(w2c_i0) + 8u);
+  w2c_j1 = w2c_p2;
+  w2c_i1 = (u32)(w2c_j1);
+  w2c_i1 = i32_load(memory, (u64)(w2c_i1) + 8u);
+  w2c_l3 = w2c_i1;
+  w2c_i2 = 16711935u;
+  w2c_i1 &= w2c_i2;
+  w2c_i2 = 8u;
+  w2c_i1 = I32_ROTR(w2c_i1, w2c_i2);
+  w2c_i2 = w2c_l3;
+  w2c_i3 = 24u;
+  w2c_i2 = I32_ROTR(w2c_i2, w2c_i3);
+  w2c_i3 = 16711935u;
+  w2c_i2 &= w2c_i3;
+  w2c_i1 |= w2c_i2;
+  w2c_i0 ^= w2c_i1;
+  w2c_l5 = w2c_i0;
+  w2c_j0 = w2c_p1;
+  w2c_i0 = (u32)(w2c_j0);
+  w2c_i0 = i32_load(memory, (u64)(w2c_i0) + 4u);
+  w2c_j1 = w2c_p2;
+  w2c_i1 = (u32)(w2c_j1);
+  w2c_i1 = i32_load(memory, (u64)(w2c_i1) + 4u);
+  w2c_l3 = w2c_i1;
+  w2c_i2 = 16711935u;
+  w2c_i1 &= w2c_i2;
+  w2c_i2 = 8u;
+  w2c_i1 = I32_ROTR(w2c_i1, w2c_i2);
+  w2c_i2 = w2c_l3;
+  w2c_i3 = 24u;
+  w2c_i2 = I32_ROTR(w2c_i2, w2c_i3);
+  w2c_i3 = 16711935u;
+  w2c_i2 &= w2c_i3;
+  w2c_i1 |= w2c_i2;
+  w2c_i0 ^= w2c_i1;
+  w2c_l6 = w2c_i0;
+  w2c_j0 = w2c_p1;
+  w2c_i0 = (u32)(w2c_j0);
+  w2c_i0 = i32_load(memory, (u64)(w2c_i0));
+  w2c_j1 = w2c_p2;
+  w2c_i1 = (u32)(w2c_j1);
+  w2c_i1 = i32_load(memory, (u64)(w2c_i1));
+  w2c_l3 = w2c_i1;
+  w2c_i2 = 16711935u;
+  w2c_i1 &= w2c_i2;
+  w2c_i2 = 8u;
+  w2c_i1 = I32_ROTR(w2c_i1, w2c_i2);
+  w2c_i2 = w2c_l3;
+  w2c_i3 = 24u;
+  w2c_i2 = I32_ROTR(w2c_i2, w2c_i3);
+  w2c_i3 = 16711935u;
+  w2c_i2 &= w2c_i3;
+  w2c_i1 |= w2c_i2;
+  w2c_i0 ^= w2c_i1;
+  w2c_l3 = w2c_i0;
+  w2c_j0 = w2c_p1;
+  w2c_j1 = 240ull;
+  w2c_j0 += w2c_j1;
+  w2c_i0 = (u32)(w2c_j0);
+  w2c_j0 = i64_load8_u(memory, (u64)(w2c_i0));
+  w2c_l11 = w2c_j0;
+  w2c_j1 = 2ull;
+  w2c_i0 = w2c_j0 < w2c_j1;
+  if (w2c_i0) {goto w2c_B1;}
+  w2c_j0 = w2c_p1;
+  w2c_j1 = 28ull;
+  w2c_j0 += w2c_j1;
+  w2c_p2 = w2c_j0;
+  w2c_j0 = w2c_l11;
+  w2c_j1 = 18446744073709551615ull;
+  w2c_j0 += w2c_j1;
+  w2c_l12 = w2c_j0;
+  w2c_L2: 
+    w2c_i0 = w2c_l4;
+    w2c_l7 = w2c_i0;
+    w2c_i1 = 22u;
+    w2c_i0 >>= (w2c_i1 & 31);
+    w2c_j0 = (u64)(w2c_i0);
+    w2c_j1 = 1020ull;
+    w2c_j0 &= w2c_j1;
+    w2c_j1 = 67556ull;
+    w2c_j0 += w2c_j1;
+    w2c_i0 = (u32)(w2c_j0);
+    w2c_i0 = constant_i32_load((u64)(w2c_i0));
+    w2c_j1 = w2c_p2;
+    w2c_i1 = (u32)(w2c_j1);
+    w2c_i1 = i32_load(memory, (u64)(w2c_i1));
+    w2c_i0 ^= w2c_i1;
+    w2c_i1 = w2c_l3;
+    w2c_i2 = 14u;
+    w2c_i1 >>= (w2c_i2 & 31);
+    w2c_j1 = (u64)(w2c_i1);
+    w2c_j2 = 1020ull;
+    w2c_j1 &= w2c_j2;
+    w2c_j2 = 67556ull;
+    w2c_j1 += w2c_j2;
+    w2c_i1 = (u32)(w2c_j1);
+    w2c_i1 = constant_i32_load((u64)(w2c_i1));
+    w2c_i2 = 24u;
+    w2c_i1 = I32_ROTL(w2c_i1, w2c_i2);
+    w2c_i0 ^= w2c_i1;
+    w2c_i1 = w2c_l6;
+    w2c_l8 = w2c_i1;
+    w2c_i2 = 6u;
+    w2c_i1 >>= (w2c_i2 & 31);
+    w2c_j1 = (u64)(w2c_i1);
+    w2c_j2 = 1020ull;
+    w2c_j1 &= w2c_j2;
+    w2c_j2 = 67556ull;
+    w2c_j1 += w2c_j2;
+    w2c_i1 = (u32)(w2c_j1);
+    w2c_i1 = constant_i32_load((u64)(w2c_i1));
+    w2c_i2 = 16u;
+    w2c_i1 = I32_ROTL(w2c_i1, w2c_i2);
+    w2c_i0 ^= w2c_i1;
+    w2c_i1 = w2c_l5;
+    w2c_l9 = w2c_i1;
+    w2c_i2 = 2u;
+    w2c_i1 <<= (w2c_i2 & 31);
+    w2c_j1 = (u64)(w2c_i1);
+    w2c_j2 = 1020ull;
+    w2c_j1 &= w2c_j2;
+    w2c_j2 = 67556ull;
+    w2c_j1 += w2c_j2;
+    w2c_i1 = (u32)(w2c_j1);
+    w2c_i1 = constant_i32_load((u64)(w2c_i1));
+    w2c_i2 = 8u;
+    w2c_i1 = I32_ROTL(w2c_i1, w2c_i2);
+    w2c_i0 ^= w2c_i1;
+    w2c_l4 = w2c_i0;
+    w2c_i0 = w2c_l9;
+    w2c_i1 = 22u;
+    w2c_i0 >>= (w2c_i1 & 31);
+    w2c_j0 = (u64)(w2c_i0);
+    w2c_j1 = 1020ull;
+    w2c_j0 &= w2c_j1;
+    w2c_j1 = 67556ull;
+    w2c_j0 += w2c_j1;
+    w2c_i0 = (u32)(w2c_j0);
+    w2c_i0 = constant_i32_load((u64)(w2c_i0));
+    w2c_j1 = w2c_p2;
+    w2c_j2 = 18446744073709551612ull;
+    w2c_j1 += w2c_j2;
+    w2c_i1 = (u32)(w2c_j1);
+    w2c_i1 = i32_load(memory, (u64)(w2c_i1));
+    w2c_i0 ^= w2c_i1;
+    w2c_i1 = w2c_l7;
+    w2c_i2 = 14u;
+    w2c_i1 >>= (w2c_i2 & 31);
+    w2c_j1 = (u64)(w2c_i1);
+    w2c_j2 = 1020ull;
+    w2c_j1 &= w2c_j2;
+    w2c_j2 = 67556ull;
+    w2c_j1 += w2c_j2;
+    w2c_i1 = (u32)(w2c_j1);
+    w2c_i1 = constant_i32_load((u64)(w2c_i1));
+    w2c_i2 = 24u;
+    w2c_i1 = I32_ROTL(w2c_i1, w2c_i2);
+    w2c_i0 ^= w2c_i1;
+    w2c_i1 = w2c_l3;
+    w2c_i2 = 6u;
+    w2c_i1 >>= (w2c_i2 & 31);
+    w2c_j1 = (u64)(w2c_i1);
+    w2c_j2 = 1020ull;
+    w2c_j1 &= w2c_j2;
+    w2c_j2 = 67556ull;
+    w2c_j1 += w2c_j2;
+    w2c_i1 = (u32)(w2c_j1);
+    w2c_i1 = constant_i32_load((u64)(w2c_i1));
+    w2c_i2 = 16u;
+    w2c_i1 = I32_ROTL(w2c_i1, w2c_i2);
+    w2c_i0 ^= w2c_i1;
+    w2c_i1 = w2c_l8;
+    w2c_i2 = 2u;
+    w2c_i1 <<= (w2c_i2 & 31);
+    w2c_j1 = (u64)(w2c_i1);
+    w2c_j2 = 1020ull;
+    w2c_j1 &= w2c_j2;
+    w2c_j2 = 67556ull;
+    w2c_j1 += w2c_j2;
+    w2c_i1 = (u32)(w2c_j1);
+    w2c_i1 = constant_i32_load((u64)(w2c_i1));
+    w2c_i2 = 8u;
+    w2c_i1 = I32_ROTL(w2c_i1, w2c_i2);
+    w2c_i0 ^= w2c_i1;
+    w2c_l5 = w2c_i0;
+    w2c_i0 = w2c_l8;
+    w2c_i1 = 22u;
+    w2c_i0 >>= (w2c_i1 & 31);
+    w2c_j0 = (u64)(w2c_i0);
+    w2c_j1 = 1020ull;
+    w2c_j0 &= w2c_j1;
+    w2c_j1 = 67556ull;
+    w2c_j0 += w2c_j1;
+    w2c_i0 = (u32)(w2c_j0);
+    w2c_i0 = constant_i32_load((u64)(w2c_i0));
+    w2c_j1 = w2c_p2;
+    w2c_j2 = 18446744073709551608ull;
+    w2c_j1 += w2c_j2;
+    w2c_i1 = (u32)(w2c_j1);
+    w2c_i1 = i32_load(memory, (u64)(w2c_i1));
+    w2c_i0 ^= w2c_i1;
+    w2c_i1 = w2c_l9;
+    w2c_i2 = 14u;
+    w2c_i1 >>= (w2c_i2 & 31);
+    w2c_j1 = (u64)(w2c_i1);
+    w2c_j2 = 1020ull;
+    w2c_j1 &= w2c_j2;
+    w2c_j2 = 67556ull;
+    w2c_j1 += w2c_j2;
+    w2c_i1 = (u32)(w2c_j1);
+    w2c_i1 = constant_i32_load((u64)(w2c_i1));
+    w2c_i2 = 24u;
+    w2c_i1 = I32_ROTL(w2c_i1, w2c_i2);
+    w2c_i0 ^= w2c_i1;
+    w2c_i1 = w2c_l7;
+    w2c_i2 = 6u;
+    w2c_i1 >>= (w2c_i2 & 31);
+    w2c_j1 = (u64)(w2c_i1);
+    w2c_j2 = 1020ull;
+    w2c_j1 &= w2c_j2;
+    w2c_j2 = 67556ull;
+    w2c_j1 += w2c_j2;
+    w2c_i1 = (u32)(w2c_j1);
+    w2c_i1 = constant_i32_load((u64)(w2c_i1));
+    w2c_i2 = 16u;
+    w2c_i1 = I32_ROTL(w2c_i1, w2c_i2);
+    w2c_i0 ^= w2c_i1;
+    w2c_i1 = w2c_l3;
+    w2c_i2 = 2u;
+    w2c_i1 <<= (w2c_i2 & 31);
+    w2c_j1 = (u64)(w2c_i1);
+    w2c_j2 = 1020ull;
+    w2c_j1 &= w2c_j2;
+    w2c_j2 = 67556ull;
+    w2c_j1 += w2c_j2;
+    w2c_i1 = (u32)(w2c_j1);
+    w2c_i1 = constant_i32_load((u64)(w2c_i1));
+    w2c_i2 = 8u;
+    w2c_i1 = I32_ROTL(w2c_i1, w2c_i2);
+    w2c_i0 ^= w2c_i1;
+    w2c_l6 = w2c_i0;
+    w2c_i0 = w2c_l3;
+    w2c_i1 = 22u;
+    w2c_i0 >>= (w2c_i1 & 31);
+    w2c_j0 = (u64)(w2c_i0);
+    w2c_j1 = 1020ull;
+    w2c_j0 &= w2c_j1;
+    w2c_j1 = 67556ull;
+    w2c_j0 += w2c_j1;
+    w2c_i0 = (u32)(w2c_j0);
+    w2c_i0 = constant_i32_load((u64)(w2c_i0));
+    w2c_j1 = w2c_p2;
+    w2c_j2 = 18446744073709551604ull;
+    w2c_j1 += w2c_j2;
+    w2c_i1 = (u32)(w2c_j1);
+    w2c_i1 = i32_load(memory, (u64)(w2c_i1));
+    w2c_i0 ^= w2c_i1;
+    w2c_i1 = w2c_l8;
+    w2c_i2 = 14u;
+    w2c_i1 >>= (w2c_i2 & 31);
+    w2c_j1 = (u64)(w2c_i1);
+    w2c_j2 = 1020ull;
+    w2c_j1 &= w2c_j2;
+    w2c_j2 = 67556ull;
+    w2c_j1 += w2c_j2;
+    w2c_i1 = (u32)(w2c_j1);
+    w2c_i1 = constant_i32_load((u64)(w2c_i1));
+    w2c_i2 = 24u;
+    w2c_i1 = I32_ROTL(w2c_i1, w2c_i2);
+    w2c_i0 ^= w2c_i1;
+    w2c_i1 = w2c_l9;
+    w2c_i2 = 6u;
+    w2c_i1 >>= (w2c_i2 & 31);
+    w2c_j1 = (u64)(w2c_i1);
+    w2c_j2 = 1020ull;
+    w2c_j1 &= w2c_j2;
+    w2c_j2 = 67556ull;
+    w2c_j1 += w2c_j2;
+    w2c_i1 = (u32)(w2c_j1);
+    w2c_i1 = constant_i32_load((u64)(w2c_i1));
+    w2c_i2 = 16u;
+    w2c_i1 = I32_ROTL(w2c_i1, w2c_i2);
+    w2c_i0 ^= w2c_i1;
+    w2c_i1 = w2c_l7;
+    w2c_i2 = 2u;
+    w2c_i1 <<= (w2c_i2 & 31);
+    w2c_j1 = (u64)(w2c_i1);
+    w2c_j2 = 1020ull;
+    w2c_j1 &= w2c_j2;
+    w2c_j2 = 67556ull;
+    w2c_j1 += w2c_j2;
+    w2c_i1 = (u32)(w2c_j1);
+    w2c_i1 = constant_i32_load((u64)(w2c_i1));
+    w2c_i2 = 8u;
+    w2c_i1 = I32_ROTL(w2c_i1, w2c_i2);
+    w2c_i0 ^= w2c_i1;
+    w2c_l3 = w2c_i0;
+    w2c_j0 = w2c_p2;
+    w2c_j1 = 16ull;
+    w2c_j0 += w2c_j1;
+    w2c_p2 = w2c_j0;
+    w2c_j0 = w2c_l12;
+    w2c_j1 = 18446744073709551615ull;
+    w2c_j0 += w2c_j1;
+    w2c_l12 = w2c_j0;
+    w2c_j1 = 0ull;
+    w2c_i0 = w2c_j0 != w2c_j1;
+    if (w2c_i0) {goto w2c_L2;}
+  w2c_B1:;
+  w2c_j0 = w2c_p1;
+  w2c_j1 = w2c_l11;
+  w2c_j2 = 4ull;
+  w2c_j1 <<= (w2c_j2 & 63);
+  w2c_j0 += w2c_j1;
+  w2c_p2 = w2c_j0;
+  w2c_i0 = (u32)(w2c_j0);
+  w2c_i0 = i32_load(memory, (u64)(w2c_i0));
+  w2c_l7 = w2c_i0;
+  w2c_j0 = w2c_p2;
+  w2c_i0 = (u32)(w2c_j0);
+  w2c_i0 = i32_load(memory, (u64)(w2c_i0) + 4u);
+  w2c_l8 = w2c_i0;
+  w2c_j0 = w2c_p2;
+  w2c_i0 = (u32)(w2c_j0);
+  w2c_i0 = i32_load(memory, (u64)(w2c_i0) + 8u);
+  w2c_l9 = w2c_i0;
+  w2c_j0 = w2c_p0;
+  w2c_i0 = (u32)(w2c_j0);
+  w2c_i1 = w2c_l3;
+  w2c_i2 = 16u;
+  w2c_i1 >>= (w2c_i2 & 31);
+  w2c_j1 = (u64)(w2c_i1);
+  w2c_j2 = 255ull;
+  w2c_j1 &= w2c_j2;
+  w2c_j2 = 66019ull;
+  w2c_j1 += w2c_j2;
+  w2c_i1 = (u32)(w2c_j1);
+  w2c_i1 = constant_i32_load8_u((u64)(w2c_i1));
+  w2c_i2 = 8u;
+  w2c_i1 <<= (w2c_i2 & 31);
+  w2c_i2 = w2c_l4;
+  w2c_j2 = (u64)(w2c_i2);
+  w2c_l12 = w2c_j2;
+  w2c_j3 = 24ull;
+  w2c_j2 >>= (w2c_j3 & 63);
+  w2c_i2 = (u32)(w2c_j2);
+  w2c_i2 = constant_i32_load8_u((u64)(w2c_i2) + 66019u);
+  w2c_i1 |= w2c_i2;
+  w2c_i2 = w2c_l6;
+  w2c_i3 = 8u;
+  w2c_i2 >>= (w2c_i3 & 31);
+  w2c_j2 = (u64)(w2c_i2);
+  w2c_j3 = 255ull;
+  w2c_j2 &= w2c_j3;
+  w2c_j3 = 66019ull;
+  w2c_j2 += w2c_j3;
+  w2c_i2 = (u32)(w2c_j2);
+  w2c_i2 = constant_i32_load8_u((u64)(w2c_i2));
+  w2c_i3 = 16u;
+  w2c_i2 <<= (w2c_i3 & 31);
+  w2c_i1 |= w2c_i2;
+  w2c_i2 = w2c_l5;
+  w2c_j2 = (u64)(w2c_i2);
+  w2c_p1 = w2c_j2;
+  w2c_j3 = 255ull;
+  w2c_j2 &= w2c_j3;
+  w2c_i2 = (u32)(w2c_j2);
+  w2c_i2 = constant_i32_load8_u((u64)(w2c_i2) + 66019u);
+  w2c_i3 = 24u;
+  w2c_i2 <<= (w2c_i3 & 31);
+  w2c_i1 |= w2c_i2;
+  w2c_j2 = w2c_p2;
+  w2c_i2 = (u32)(w2c_j2);
+  w2c_i2 = i32_load(memory, (u64)(w2c_i2) + 12u);
+  w2c_l10 = w2c_i2;
+  w2c_i3 = 16711935u;
+  w2c_i2 &= w2c_i3;
+  w2c_i3 = 8u;
+  w2c_i2 = I32_ROTR(w2c_i2, w2c_i3);
+  w2c_i3 = w2c_l10;
+  w2c_i4 = 24u;
+  w2c_i3 = I32_ROTR(w2c_i3, w2c_i4);
+  w2c_i4 = 16711935u;
+  w2c_i3 &= w2c_i4;
+  w2c_i2 |= w2c_i3;
+  w2c_i1 ^= w2c_i2;
+  i32_store(memory, (u64)(w2c_i0) + 12, w2c_i1);
+  w2c_j0 = w2c_p0;
+  w2c_i0 = (u32)(w2c_j0);
+  w2c_i1 = w2c_l4;
+  w2c_i2 = 16u;
+  w2c_i1 >>= (w2c_i2 & 31);
+  w2c_j1 = (u64)(w2c_i1);
+  w2c_j2 = 255ull;
+  w2c_j1 &= w2c_j2;
+  w2c_j2 = 66019ull;
+  w2c_j1 += w2c_j2;
+  w2c_i1 = (u32)(w2c_j1);
+  w2c_i1 = constant_i32_load8_u((u64)(w2c_i1));
+  w2c_i2 = 8u;
+  w2c_i1 <<= (w2c_i2 & 31);
+  w2c_j2 = w2c_p1;
+  w2c_j3 = 24ull;
+  w2c_j2 >>= (w2c_j3 & 63);
+  w2c_i2 = (u32)(w2c_j2);
+  w2c_i2 = constant_i32_load8_u((u64)(w2c_i2) + 66019u);
+  w2c_i1 |= w2c_i2;
+  w2c_i2 = w2c_l3;
+  w2c_i3 = 8u;
+  w2c_i2 >>= (w2c_i3 & 31);
+  w2c_j2 = (u64)(w2c_i2);
+  w2c_j3 = 255ull;
+  w2c_j2 &= w2c_j3;
+  w2c_j3 = 66019ull;
+  w2c_j2 += w2c_j3;
+  w2c_i2 = (u32)(w2c_j2);
+  w2c_i2 = constant_i32_load8_u((u64)(w2c_i2));
+  w2c_i3 = 16u;
+  w2c_i2 <<= (w2c_i3 & 31);
+  w2c_i1 |= w2c_i2;
+  w2c_i2 = w2c_l6;
+  w2c_j2 = (u64)(w2c_i2);
+  w2c_p2 = w2c_j2;
+  w2c_j3 = 255ull;
+  w2c_j2 &= w2c_j3;
+  w2c_i2 = (u32)(w2c_j2);
+  w2c_i2 = constant_i32_load8_u((u64)(w2c_i2) + 66019u);
+  w2c_i3 = 24u;
+  w2c_i2 <<= (w2c_i3 & 31);
+  w2c_i1 |= w2c_i2;
+  w2c_i2 = w2c_l9;
+  w2c_i3 = 16711935u;
+  w2c_i2 &= w2c_i3;
+  w2c_i3 = 8u;
+  w2c_i2 = I32_ROTR(w2c_i2, w2c_i3);
+  w2c_i3 = w2c_l9;
+  w2c_i4 = 24u;
+  w2c_i3 = I32_ROTR(w2c_i3, w2c_i4);
+  w2c_i4 = 16711935u;
+  w2c_i3 &= w2c_i4;
+  w2c_i2 |= w2c_i3;
+  w2c_i1 ^= w2c_i2;
+  i32_store(memory, (u64)(w2c_i0) + 8, w2c_i1);
+  w2c_j0 = w2c_p0;
+  w2c_i0 = (u32)(w2c_j0);
+  w2c_i1 = w2c_l5;
+  w2c_i2 = 16u;
+  w2c_i1 >>= (w2c_i2 & 31);
+  w2c_j1 = (u64)(w2c_i1);
+  w2c_j2 = 255ull;
+  w2c_j1 &= w2c_j2;
+  w2c_j2 = 66019ull;
+  w2c_j1 += w2c_j2;
+  w2c_i1 = (u32)(w2c_j1);
+  w2c_i1 = constant_i32_load8_u((u64)(w2c_i1));
+  w2c_i2 = 8u;
+  w2c_i1 <<= (w2c_i2 & 31);
+  w2c_j2 = w2c_p2;
+  w2c_j3 = 24ull;
+  w2c_j2 >>= (w2c_j3 & 63);
+  w2c_i2 = (u32)(w2c_j2);
+  w2c_i2 = constant_i32_load8_u((u64)(w2c_i2) + 66019u);
+  w2c_i1 |= w2c_i2;
+  w2c_i2 = w2c_l4;
+  w2c_i3 = 8u;
+  w2c_i2 >>= (w2c_i3 & 31);
+  w2c_j2 = (u64)(w2c_i2);
+  w2c_j3 = 255ull;
+  w2c_j2 &= w2c_j3;
+  w2c_j3 = 66019ull;
+  w2c_j2 += w2c_j3;
+  w2c_i2 = (u32)(w2c_j2);
+  w2c_i2 = constant_i32_load8_u((u64)(w2c_i2));
+  w2c_i3 = 16u;
+  w2c_i2 <<= (w2c_i3 & 31);
+  w2c_i1 |= w2c_i2;
+  w2c_i2 = w2c_l3;
+  w2c_j2 = (u64)(w2c_i2);
+  w2c_p2 = w2c_j2;
+  w2c_j3 = 255ull;
+  w2c_j2 &= w2c_j3;
+  w2c_i2 = (u32)(w2c_j2);
+  w2c_i2 = constant_i32_load8_u((u64)(w2c_i2) + 66019u);
+  w2c_i3 = 24u;
+  w2c_i2 <<= (w2c_i3 & 31);
+  w2c_i1 |= w2c_i2;
+  w2c_i2 = w2c_l8;
+  w2c_i3 = 16711935u;
+  w2c_i2 &= w2c_i3;
+  w2c_i3 = 8u;
+  w2c_i2 = I32_ROTR(w2c_i2, w2c_i3);
+  w2c_i3 = w2c_l8;
+  w2c_i4 = 24u;
+  w2c_i3 = I32_ROTR(w2c_i3, w2c_i4);
+  w2c_i4 = 16711935u;
+  w2c_i3 &= w2c_i4;
+  w2c_i2 |= w2c_i3;
+  w2c_i1 ^= w2c_i2;
+  i32_store(memory, (u64)(w2c_i0) + 4, w2c_i1);
+  w2c_j0 = w2c_p0;
+  w2c_i0 = (u32)(w2c_j0);
+  w2c_i1 = w2c_l6;
+  w2c_i2 = 16u;
+  w2c_i1 >>= (w2c_i2 & 31);
+  w2c_j1 = (u64)(w2c_i1);
+  w2c_j2 = 255ull;
+  w2c_j1 &= w2c_j2;
+  w2c_j2 = 66019ull;
+  w2c_j1 += w2c_j2;
+  w2c_i1 = (u32)(w2c_j1);
+  w2c_i1 = constant_i32_load8_u((u64)(w2c_i1));
+  w2c_i2 = 8u;
+  w2c_i1 <<= (w2c_i2 & 31);
+  w2c_j2 = w2c_p2;
+  w2c_j3 = 24ull;
+  w2c_j2 >>= (w2c_j3 & 63);
+  w2c_i2 = (u32)(w2c_j2);
+  w2c_i2 = constant_i32_load8_u((u64)(w2c_i2) + 66019u);
+  w2c_i1 |= w2c_i2;
+  w2c_i2 = w2c_l5;
+  w2c_i3 = 8u;
+  w2c_i2 >>= (w2c_i3 & 31);
+  w2c_j2 = (u64)(w2c_i2);
+  w2c_j3 = 255ull;
+  w2c_j2 &= w2c_j3;
+  w2c_j3 = 66019ull;
+  w2c_j2 += w2c_j3;
+  w2c_i2 = (u32)(w2c_j2);
+  w2c_i2 = constant_i32_load8_u((u64)(w2c_i2));
+  w2c_i3 = 16u;
+  w2c_i2 <<= (w2c_i3 & 31);
+  w2c_i1 |= w2c_i2;
+  w2c_j2 = w2c_l12;
+  w2c_j3 = 255ull;
+  w2c_j2 &= w2c_j3;
+  w2c_i2 = (u32)(w2c_j2);
+  w2c_i2 = constant_i32_load8_u((u64)(w2c_i2) + 66019u);
+  w2c_i3 = 24u;
+  w2c_i2 <<= (w2c_i3 & 31);
+  w2c_i1 |= w2c_i2;
+  w2c_i2 = w2c_l7;
+  w2c_i3 = 16711935u;
+  w2c_i2 &= w2c_i3;
+  w2c_i3 = 8u;
+  w2c_i2 = I32_ROTR(w2c_i2, w2c_i3);
+  w2c_i3 = w2c_l7;
+  w2c_i4 = 24u;
+  w2c_i3 = I32_ROTR(w2c_i3, w2c_i4);
+  w2c_i4 = 16711935u;
+  w2c_i3 &= w2c_i4;
+  w2c_i2 |= w2c_i3;
+  w2c_i1 ^= w2c_i2;
+  i32_store(memory, (u64)(w2c_i0), w2c_i1);
+  goto w2c_Bfunc;
+  w2c_B0:;
+  UNREACHABLE;
+  w2c_Bfunc:;
+}
+static void w2c_f46(struct instance *instance, u64 w2c_p0, u64 w2c_p1, u64 w2c_p2, u64 w2c_p3, u64 w2c_p4, u64 w2c_p5, u64 w2c_p6) {
+  u32 w2c_l8 = 0;
+  u64 w2c_l7 = 0;
+  const struct memory memory = instance->w2c_memory;
+  (void)memory;
+  u32 w2c_i0, w2c_i1, w2c_i2;
+  u64 w2c_j0, w2c_j1, w2c_j2, w2c_j3, w2c_j4, w2c_j5;
+  w2c_j0 = instance->w2c_g0;
+  w2c_j1 = 48ull;
+  w2c_j0 -= w2c_j1;
+  w2c_l7 = w2c_j0;
+  instance->w2c_g0 = w2c_j0;
+  w2c_j0 = w2c_l7;
+  w2c_l7 = w2c_j0;
+  w2c_j1 = 16ull;
+  w2c_i0 = (u64)((s64)w2c_j0 < (s64)w2c_j1);
+  if (w2c_i0) {goto w2c_B0;}
+  w2c_j0 = w2c_p6;
+  w2c_i0 = !(w2c_j0);
+  if (w2c_i0) {goto w2c_B1;}
+  w2c_L2: 
+    w2c_j0 = w2c_l7;
+    w2c_i0 = (u32)(w2c_j0);
+    w2c_j1 = 0ull;
+    i64_store(memory, (u64)(w2c_i0) + 40, w2c_j1);
+    w2c_j0 = w2c_l7;
+    w2c_i0 = (u32)(w2c_j0);
+    w2c_j1 = w2c_p0;
+    i64_store(memory, (u64)(w2c_i0) + 32, w2c_j1);
+    w2c_j0 = w2c_l7;
+    w2c_i0 = (u32)(w2c_j0);
+    w2c_j1 = 0ull;
+    i64_store(memory, (u64)(w2c_i0) + 24, w2c_j1);
+    w2c_j0 = w2c_l7;
+    w2c_i0 = (u32)(w2c_j0);
+    w2c_j1 = w2c_p1;
+    i64_store(memory, (u64)(w2c_i0) + 16, w2c_j1);
+    w2c_j0 = w2c_l7;
+    w2c_j1 = 8ull;
+    w2c_j0 += w2c_j1;
+    w2c_j1 = w2c_l7;
+    w2c_j2 = 32ull;
+    w2c_j1 += w2c_j2;
+    w2c_j2 = w2c_l7;
+    w2c_j3 = 16ull;
+    w2c_j2 += w2c_j3;
+    w2c_j3 = w2c_p2;
+    w2c_j4 = w2c_p4;
+    w2c_j5 = w2c_p3;
+    w2c_f41(instance, w2c_j0, w2c_j1, w2c_j2, w2c_j3, w2c_j4, w2c_j5);
+    w2c_j0 = w2c_l7;
+    w2c_i0 = (u32)(w2c_j0);
+    w2c_i0 = i32_load8_u(memory, (u64)(w2c_i0) + 9u);
+    w2c_l8 = w2c_i0;
+    w2c_j0 = w2c_l7;
+    w2c_i0 = (u32)(w2c_j0);
+    w2c_i0 = i32_load8_u(memory, (u64)(w2c_i0) + 8u);
+    if (w2c_i0) {goto w2c_B4;}
+    w2c_i0 = w2c_l8;
+    w2c_i1 = 255u;
+    w2c_i0 &= w2c_i1;
+    w2c_i1 = 0u;
+    w2c_i0 = w2c_i0 != w2c_i1;
+    w2c_l8 = w2c_i0;
+    goto w2c_B3;
+    w2c_B4:;
+    w2c_i0 = 525572u;
+    w2c_i1 = w2c_l8;
+    w2c_i2 = 255u;
+    w2c_i1 &= w2c_i2;
+    w2c_i2 = 3u;
+    w2c_i1 <<= (w2c_i2 & 31);
+    w2c_i0 >>= (w2c_i1 & 31);
+    w2c_l8 = w2c_i0;
+    w2c_B3:;
+    w2c_j0 = w2c_p5;
+    w2c_i0 = (u32)(w2c_j0);
+    w2c_i1 = w2c_l8;
+    i32_store8(memory, (u64)(w2c_i0), w2c_i1);
+    w2c_j0 = w2c_p4;
+    w2c_j1 = w2c_p3;
+    w2c_j0 += w2c_j1;
+    w2c_p4 = w2c_j0;
+    w2c_j0 = w2c_p5;
+    w2c_j1 = 1ull;
+    w2c_j0 += w2c_j1;
+    w2c_p5 = w2c_j0;
+    w2c_j0 = w2c_p6;
+    w2c_j1 = 18446744073709551615ull;
+    w2c_j0 += w2c_j1;
+    w2c_p6 = w2c_j0;
+    w2c_j1 = 0ull;
+    w2c_i0 = w2c_j0 != w2c_j1;
+    if (w2c_i0) {goto w2c_L2;}
+  w2c_B1:;
+  w2c_j0 = w2c_l7;
+  w2c_j1 = 48ull;
+  w2c_j0 += w2c_j1;
+  instance->w2c_g0 = w2c_j0;
+  goto w2c_Bfunc;
+  w2c_B0:;
+  UNREACHABLE;
+  w2c_Bfunc:;
+}
+static u32 w2c_f47(struct instance *instance, u64 w2c_p0, u64 w2c_p1, u64 w2c_p2, u64 w2c_p3, u64 w2c_p4, u64 w2c_p5) {
+  u32 w2c_l8 = 0;
+  u64 w2c_l6 = 0, w2c_l7 = 0;
+  const struct memory memory = instance->w2c_memory;
+  (void)memory;
+  u32 w2c_i0, w2c_i1, w2c_i2;
+  u64 w2c_j0, w2c_j1, w2c_j2, w2c_j3, w2c_j4, w2c_j5;
+  w2c_j0 = instance->w2c_g0;
+  w2c_j1 = 592ull;
+  w2c_j0 -= w2c_j1;
+  w2c_l6 = w2c_j0;
+  instance->w2c_g0 = w2c_j0;
+  w2c_j0 = w2c_l6;
+  w2c_l6 = w2c_j0;
+  w2c_j1 = 16ull;
+  w2c_i0 = (u64)((s64)w2c_j0 < (s64)w2c_j1);
+  if (w2c_i0) {goto w2c_B0;}
+  w2c_j0 = w2c_l6;
+  w2c_i0 = (u32)(w2c_j0);
+  w2c_j1 = 0ull;
+  i64_store(memory, (u64)(w2c_i0) + 72, w2c_j1);
+  w2c_j0 = w2c_l6;
+  w2c_i0 = (u32)(w2c_j0);
+  w2c_j1 = 0ull;
+  i64_store(memory, (u64)(w2c_i0) + 64, w2c_j1);
+  w2c_j0 = w2c_l6;
+  w2c_i0 = (u32)(w2c_j0);
+  w2c_j1 = 0ull;
+  i64_store(memory, (u64)(w2c_i0) + 56, w2c_j1);
+  w2c_j0 = w2c_l6;
+  w2c_i0 = (u32)(w2c_j0);
+  w2c_j1 = 0ull;
+  i64_store(memory, (u64)(w2c_i0) + 48, w2c_j1);
+  w2c_j0 = w2c_l6;
+  w2c_i0 = (u32)(w2c_j0);
+  w2c_j1 = 0ull;
+  i64_store(memory, (u64)(w2c_i0) + 40, w2c_j1);
+  w2c_i0 = 0u;
+  w2c_l8 = w2c_i0;
+  w2c_j0 = w2c_l6;
+  w2c_j1 = 100ull;
+  w2c_j0 += w2c_j1;
+  w2c_i0 = (u32)(w2c_j0);
+  w2c_i1 = 0u;
+  w2c_j2 = 248ull;
+  w2c_i2 = (u32)(w2c_j2);
+  memory_fill(memory, w2c_i0, w2c_i1, w2c_i2);
+  w2c_j0 = w2c_l6;
+  w2c_j1 = 100ull;
+  w2c_j0 += w2c_j1;
+  w2c_j1 = w2c_p0;
+  w2c_j2 = w2c_p1;
+  w2c_f37(instance, w2c_j0, w2c_j1, w2c_j2);
+  w2c_j0 = w2c_l6;
+  w2c_i0 = (u32)(w2c_j0);
+  w2c_i0 = i32_load8_u(memory, (u64)(w2c_i0) + 100u);
+  w2c_i1 = 1u;
+  w2c_i0 = w2c_i0 != w2c_i1;
+  if (w2c_i0) {goto w2c_B1;}
+  w2c_j0 = w2c_l6;
+  w2c_j1 = 348ull;
+  w2c_j0 += w2c_j1;
+  w2c_i0 = (u32)(w2c_j0);
+  w2c_j1 = w2c_l6;
+  w2c_j2 = 104ull;
+  w2c_j1 += w2c_j2;
+  w2c_i1 = (u32)(w2c_j1);
+  w2c_j2 = 244ull;
+  w2c_i2 = (u32)(w2c_j2);
+  memory_copy(memory, memory, w2c_i0, w2c_i1, w2c_i2);
+  w2c_j0 = w2c_l6;
+  w2c_i0 = (u32)(w2c_j0);
+  w2c_j1 = 0ull;
+  i64_store(memory, (u64)(w2c_i0) + 88, w2c_j1);
+  w2c_j0 = w2c_l6;
+  w2c_i0 = (u32)(w2c_j0);
+  w2c_j1 = w2c_l6;
+  w2c_j2 = 348ull;
+  w2c_j1 += w2c_j2;
+  i64_store(memory, (u64)(w2c_i0) + 80, w2c_j1);
+  w2c_j0 = w2c_p3;
+  w2c_j1 = 7ull;
+  w2c_j0 &= w2c_j1;
+  w2c_j1 = 0ull;
+  w2c_i0 = w2c_j0 != w2c_j1;
+  if (w2c_i0) {goto w2c_B1;}
+  w2c_j0 = w2c_p3;
+  w2c_j1 = 8ull;
+  w2c_j0 += w2c_j1;
+  w2c_l7 = w2c_j0;
+  w2c_j0 = w2c_p3;
+  w2c_i0 = !(w2c_j0);
+  if (w2c_i0) {goto w2c_B2;}
+  w2c_j0 = w2c_l6;
+  w2c_j1 = 48ull;
+  w2c_j0 += w2c_j1;
+  w2c_i0 = (u32)(w2c_j0);
+  w2c_j1 = w2c_p2;
+  w2c_i1 = (u32)(w2c_j1);
+  w2c_j2 = w2c_p3;
+  w2c_i2 = (u32)(w2c_j2);
+  memory_copy(memory, memory, w2c_i0, w2c_i1, w2c_i2);
+  w2c_B2:;
+  w2c_j0 = w2c_l6;
+  w2c_j1 = 80ull;
+  w2c_j0 += w2c_j1;
+  w2c_j1 = 12008468691120727718ull;
+  w2c_j2 = w2c_l6;
+  w2c_j3 = 40ull;
+  w2c_j2 += w2c_j3;
+  w2c_j3 = w2c_l7;
+  w2c_f44(instance, w2c_j0, w2c_j1, w2c_j2, w2c_j3);
+  w2c_j0 = w2c_l7;
+  w2c_j1 = w2c_p5;
+  w2c_i0 = w2c_j0 != w2c_j1;
+  if (w2c_i0) {goto w2c_B1;}
+  w2c_j0 = w2c_l6;
+  w2c_i0 = (u32)(w2c_j0);
+  w2c_i0 = i32_load8_u(memory, (u64)(w2c_i0) + 40u);
+  w2c_j1 = w2c_p4;
+  w2c_i1 = (u32)(w2c_j1);
+  w2c_i1 = i32_load8_u(memory, (u64)(w2c_i1));
+  w2c_i0 = w2c_i0 != w2c_i1;
+  if (w2c_i0) {goto w2c_B1;}
+  w2c_j0 = w2c_l6;
+  w2c_i0 = (u32)(w2c_j0);
+  w2c_i0 = i32_load8_u(memory, (u64)(w2c_i0) + 41u);
+  w2c_i1 = 255u;
+  w2c_i0 &= w2c_i1;
+  w2c_j1 = w2c_p4;
+  w2c_j2 = 1ull;
+  w2c_j1 += w2c_j2;
+  w2c_i1 = (u32)(w2c_j1);
+  w2c_i1 = i32_load8_u(memory, (u64)(w2c_i1));
+  w2c_i2 = 255u;
+  w2c_i1 &= w2c_i2;
+  w2c_i0 = w2c_i0 != w2c_i1;
+  if (w2c_i0) {goto w2c_B1;}
+  w2c_j0 = w2c_l6;
+  w2c_i0 = (u32)(w2c_j0);
+  w2c_i0 = i32_load8_u(memory, (u64)(w2c_i0) + 42u);
+  w2c_i1 = 255u;
+  w2c_i0 &= w2c_i1;
+  w2c_j1 = w2c_p4;
+  w2c_j2 = 2ull;
+  w2c_j1 += w2c_j2;
+  w2c_i1 = (u32)(w2c_j1);
+  w2c_i1 = i32_load8_u(memory, (u64)(w2c_i1));
+  w2c_i2 = 255u;
+  w2c_i1 &= w2c_i2;
+  w2c_i0 = w2c_i0 != w2c_i1;
+  if (w2c_i0) {goto w2c_B1;}
+  w2c_j0 = w2c_l6;
+  w2c_i0 = (u32)(w2c_j0);
+  w2c_i0 = i32_load8_u(memory, (u64)(w2c_i0) + 43u);
+  w2c_i1 = 255u;
+  w2c_i0 &= w2c_i1;
+  w2c_j1 = w2c_p4;
+  w2c_j2 = 3ull;
+  w2c_j1 += w2c_j2;
+  w2c_i1 = (u32)(w2c_j1);
+  w2c_i1 = i32_load8_u(memory, (u64)(w2c_i1));
+  w2c_i2 = 255u;
+  w2c_i1 &= w2c_i2;
+  w2c_i0 = w2c_i0 != w2c_i1;
+  if (w2c_i0) {goto w2c_B1;}
+  w2c_j0 = w2c_l6;
+  w2c_j1 = 40ull;
+  w2c_j0 += w2c_j1;
+  w2c_j1 = w2c_p5;
+  w2c_j2 = w2c_p4;
+  w2c_i0 = w2c_f28(instance, w2c_j0, w2c_j1, w2c_j2);
+  w2c_i0 = !(w2c_i0);
+  if (w2c_i0) {goto w2c_B1;}
+  w2c_j0 = w2c_l6;
+  w2c_i0 = (u32)(w2c_j0);
+  w2c_j1 = 0ull;
+  i64_store(memory, (u64)(w2c_i0) + 32, w2c_j1);
+  w2c_j0 = w2c_l6;
+  w2c_i0 = (u32)(w2c_j0);
+  w2c_j1 = 0ull;
+  i64_store(memory, (u64)(w2c_i0) + 24, w2c_j1);
+  w2c_j0 = w2c_l6;
+  w2c_i0 = (u32)(w2c_j0);
+  w2c_j1 = 0ull;
+  i64_store(memory, (u64)(w2c_i0) + 16, w2c_j1);
+  w2c_j0 = w2c_l6;
+  w2c_i0 = (u32)(w2c_j0);
+  w2c_j1 = 0ull;
+  i64_store(memory, (u64)(w2c_i0) + 8, w2c_j1);
+  w2c_j0 = w2c_p0;
+  w2c_j1 = w2c_p1;
+  w2c_j2 = w2c_p4;
+  w2c_j3 = w2c_p5;
+  w2c_j4 = w2c_l6;
+  w2c_j5 = 8ull;
+  w2c_j4 += w2c_j5;
+  w2c_j5 = w2c_p3;
+  w2c_i0 = w2c_f48(instance, w2c_j0, w2c_j1, w2c_j2, w2c_j3, w2c_j4, w2c_j5);
+  if (w2c_i0) {goto w2c_B1;}
+  w2c_j0 = w2c_l6;
+  w2c_i0 = (u32)(w2c_j0);
+  w2c_i0 = i32_load8_u(memory, (u64)(w2c_i0) + 8u);
+  w2c_j1 = w2c_p2;
+  w2c_i1 = (u32)(w2c_j1);
+  w2c_i1 = i32_load8_u(memory, (u64)(w2c_i1));
+  w2c_i0 = w2c_i0 != w2c_i1;
+  if (w2c_i0) {goto w2c_B1;}
+  w2c_j0 = w2c_l6;
+  w2c_i0 = (u32)(w2c_j0);
+  w2c_i0 = i32_load8_u(memory, (u64)(w2c_i0) + 9u);
+  w2c_i1 = 255u;
+  w2c_i0 &= w2c_i1;
+  w2c_j1 = w2c_p2;
+  w2c_j2 = 1ull;
+  w2c_j1 += w2c_j2;
+  w2c_i1 = (u32)(w2c_j1);
+  w2c_i1 = i32_load8_u(memory, (u64)(w2c_i1));
+  w2c_i2 = 255u;
+  w2c_i1 &= w2c_i2;
+  w2c_i0 = w2c_i0 != w2c_i1;
+  if (w2c_i0) {goto w2c_B1;}
+  w2c_j0 = w2c_l6;
+  w2c_i0 = (u32)(w2c_j0);
+  w2c_i0 = i32_load8_u(memory, (u64)(w2c_i0) + 10u);
+  w2c_i1 = 255u;
+  w2c_i0 &= w2c_i1;
+  w2c_j1 = w2c_p2;
+  w2c_j2 = 2ull;
+  w2c_j1 += w2c_j2;
+  w2c_i1 = (u32)(w2c_j1);
+  w2c_i1 = i32_load8_u(memory, (u64)(w2c_i1));
+  w2c_i2 = 255u;
+  w2c_i1 &= w2c_i2;
+  w2c_i0 = w2c_i0 != w2c_i1;
+  if (w2c_i0) {goto w2c_B1;}
+  w2c_j0 = w2c_l6;
+  w2c_i0 = (u32)(w2c_j0);
+  w2c_i0 = i32_load8_u(memory, (u64)(w2c_i0) + 11u);
+  w2c_i1 = 255u;
+  w2c_i0 &= w2c_i1;
+  w2c_j1 = w2c_p2;
+  w2c_j2 = 3ull;
+  w2c_j1 += w2c_j2;
+  w2c_i1 = (u32)(w2c_j1);
+  w2c_i1 = i32_load8_u(memory, (u64)(w2c_i1));
+  w2c_i2 = 255u;
+  w2c_i1 &= w2c_i2;
+  w2c_i0 = w2c_i0 != w2c_i1;
+  if (w2c_i0) {goto w2c_B1;}
+  w2c_j0 = w2c_l6;
+  w2c_j1 = 8ull;
+  w2c_j0 += w2c_j1;
+  w2c_j1 = w2c_p3;
+  w2c_j2 = w2c_p2;
+  w2c_i0 = w2c_f28(instance, w2c_j0, w2c_j1, w2c_j2);
+  w2c_l8 = w2c_i0;
+  w2c_B1:;
+  w2c_j0 = w2c_l6;
+  w2c_j1 = 592ull;
+  w2c_j0 += w2c_j1;
+  instance->w2c_g0 = w2c_j0;
+  w2c_i0 = w2c_l8;
+  goto w2c_Bfunc;
+  w2c_B0:;
+  UNREACHABLE;
+  w2c_Bfunc:;
+  return w2c_i0;
+}
+static u32 w2c_f48(struct instance *instance, u64 w2c_p0, u64 w2c_p1, u64 w2c_p2, u64 w2c_p3, u64 w2c_p4, u64 w2c_p5) {
   u32 w2c_l9 = 0;
   u64 w2c_l6 = 0, w2c_l7 = 0, w2c_l8 = 0;
   const struct memory memory = instance->w2c_memory;
@@ -7978,7 +18890,7 @@ static u32 w2c_f18(struct instance *instance, u64 w2c_p0, u64 w2c_p1, u64 w2c_p2
   w2c_j0 += w2c_j1;
   w2c_j1 = w2c_p0;
   w2c_j2 = w2c_p1;
-  w2c_f4(instance, w2c_j0, w2c_j1, w2c_j2);
+  w2c_f37(instance, w2c_j0, w2c_j1, w2c_j2);
   w2c_i0 = 3u;
   w2c_l9 = w2c_i0;
   w2c_j0 = w2c_l7;
@@ -8209,12 +19121,12 @@ static u32 w2c_f18(struct instance *instance, u64 w2c_p0, u64 w2c_p1, u64 w2c_p2
   w2c_j2 |= w2c_j3;
   w2c_j3 = w2c_p4;
   w2c_j4 = w2c_p5;
-  w2c_j1 = w2c_f6(instance, w2c_j1, w2c_j2, w2c_j3, w2c_j4);
+  w2c_j1 = w2c_f39(instance, w2c_j1, w2c_j2, w2c_j3, w2c_j4);
   w2c_j2 = 12008468691120727718ull;
   w2c_j1 ^= w2c_j2;
   w2c_j2 = w2c_p4;
   w2c_j3 = w2c_p5;
-  w2c_f3(instance, w2c_j0, w2c_j1, w2c_j2, w2c_j3);
+  w2c_f13(instance, w2c_j0, w2c_j1, w2c_j2, w2c_j3);
   w2c_i0 = 5u;
   w2c_i1 = 4u;
   w2c_j2 = w2c_l7;
@@ -8243,7 +19155,7 @@ static u32 w2c_f18(struct instance *instance, u64 w2c_p0, u64 w2c_p1, u64 w2c_p2
   w2c_Bfunc:;
   return w2c_i0;
 }
-static u32 w2c_f19(struct instance *instance, u64 w2c_p0, u64 w2c_p1, u64 w2c_p2, u64 w2c_p3) {
+static u32 w2c_f49(struct instance *instance, u64 w2c_p0, u64 w2c_p1, u64 w2c_p2, u64 w2c_p3) {
   u32 w2c_l7 = 0, w2c_l8 = 0;
   u64 w2c_l4 = 0, w2c_l5 = 0, w2c_l6 = 0;
   const struct memory memory = instance->w2c_memory;
@@ -8282,7 +19194,7 @@ static u32 w2c_f19(struct instance *instance, u64 w2c_p0, u64 w2c_p1, u64 w2c_p2
   i64_store(memory, (u64)(w2c_i0) + 40, w2c_j1);
   w2c_i0 = 0u;
   w2c_l7 = w2c_i0;
-  w2c_j0 = 68456ull;
+  w2c_j0 = 65896ull;
   w2c_j1 = 24ull;
   w2c_j2 = w2c_p0;
   w2c_j3 = w2c_p1;
@@ -8298,7 +19210,7 @@ static u32 w2c_f19(struct instance *instance, u64 w2c_p0, u64 w2c_p1, u64 w2c_p2
   w2c_j6 = 8ull;
   w2c_j5 += w2c_j6;
   w2c_l6 = w2c_j5;
-  w2c_i0 = w2c_f20(instance, w2c_j0, w2c_j1, w2c_j2, w2c_j3, w2c_j4, w2c_j5);
+  w2c_i0 = w2c_f50(instance, w2c_j0, w2c_j1, w2c_j2, w2c_j3, w2c_j4, w2c_j5);
   w2c_l8 = w2c_i0;
   w2c_j0 = w2c_l6;
   w2c_j1 = w2c_p3;
@@ -8361,7 +19273,7 @@ static u32 w2c_f19(struct instance *instance, u64 w2c_p0, u64 w2c_p1, u64 w2c_p2
   w2c_j0 += w2c_j1;
   w2c_j1 = w2c_p3;
   w2c_j2 = w2c_p2;
-  w2c_i0 = w2c_f17(instance, w2c_j0, w2c_j1, w2c_j2);
+  w2c_i0 = w2c_f28(instance, w2c_j0, w2c_j1, w2c_j2);
   w2c_i0 = !(w2c_i0);
   if (w2c_i0) {goto w2c_B1;}
   w2c_j0 = w2c_l4;
@@ -8384,7 +19296,7 @@ static u32 w2c_f19(struct instance *instance, u64 w2c_p0, u64 w2c_p1, u64 w2c_p2
   w2c_i0 = (u32)(w2c_j0);
   w2c_j1 = 0ull;
   i64_store(memory, (u64)(w2c_i0), w2c_j1);
-  w2c_j0 = 68456ull;
+  w2c_j0 = 65896ull;
   w2c_j1 = 24ull;
   w2c_j2 = w2c_p2;
   w2c_j3 = w2c_p3;
@@ -8393,7 +19305,7 @@ static u32 w2c_f19(struct instance *instance, u64 w2c_p0, u64 w2c_p1, u64 w2c_p2
   w2c_j4 += w2c_j5;
   w2c_j5 = w2c_l5;
   w2c_j6 = w2c_l4;
-  w2c_i0 = w2c_f21(instance, w2c_j0, w2c_j1, w2c_j2, w2c_j3, w2c_j4, w2c_j5, w2c_j6);
+  w2c_i0 = w2c_f51(instance, w2c_j0, w2c_j1, w2c_j2, w2c_j3, w2c_j4, w2c_j5, w2c_j6);
   if (w2c_i0) {goto w2c_B1;}
   w2c_j0 = w2c_l4;
   w2c_i0 = (u32)(w2c_j0);
@@ -8456,7 +19368,7 @@ static u32 w2c_f19(struct instance *instance, u64 w2c_p0, u64 w2c_p1, u64 w2c_p2
   w2c_j0 += w2c_j1;
   w2c_j1 = w2c_p1;
   w2c_j2 = w2c_p0;
-  w2c_i0 = w2c_f17(instance, w2c_j0, w2c_j1, w2c_j2);
+  w2c_i0 = w2c_f28(instance, w2c_j0, w2c_j1, w2c_j2);
   w2c_l7 = w2c_i0;
   w2c_B1:;
   w2c_j0 = w2c_l4;
@@ -8470,7 +19382,7 @@ static u32 w2c_f19(struct instance *instance, u64 w2c_p0, u64 w2c_p1, u64 w2c_p2
   w2c_Bfunc:;
   return w2c_i0;
 }
-static u32 w2c_f20(struct instance *instance, u64 w2c_p0, u64 w2c_p1, u64 w2c_p2, u64 w2c_p3, u64 w2c_p4, u64 w2c_p5) {
+static u32 w2c_f50(struct instance *instance, u64 w2c_p0, u64 w2c_p1, u64 w2c_p2, u64 w2c_p3, u64 w2c_p4, u64 w2c_p5) {
   u32 w2c_l10 = 0;
   u64 w2c_l6 = 0, w2c_l7 = 0, w2c_l8 = 0, w2c_l9 = 0;
   const struct memory memory = instance->w2c_memory;
@@ -8500,7 +19412,7 @@ static u32 w2c_f20(struct instance *instance, u64 w2c_p0, u64 w2c_p1, u64 w2c_p2
   w2c_j0 += w2c_j1;
   w2c_j1 = w2c_p0;
   w2c_j2 = w2c_p1;
-  w2c_f4(instance, w2c_j0, w2c_j1, w2c_j2);
+  w2c_f37(instance, w2c_j0, w2c_j1, w2c_j2);
   w2c_i0 = 3u;
   w2c_l10 = w2c_i0;
   w2c_j0 = w2c_l6;
@@ -8715,7 +19627,7 @@ static u32 w2c_f20(struct instance *instance, u64 w2c_p0, u64 w2c_p1, u64 w2c_p2
   w2c_j1 |= w2c_j2;
   w2c_j2 = w2c_p4;
   w2c_j3 = w2c_p5;
-  w2c_f13(instance, w2c_j0, w2c_j1, w2c_j2, w2c_j3);
+  w2c_f44(instance, w2c_j0, w2c_j1, w2c_j2, w2c_j3);
   w2c_i0 = 0u;
   w2c_l10 = w2c_i0;
   w2c_B1:;
@@ -8730,7 +19642,7 @@ static u32 w2c_f20(struct instance *instance, u64 w2c_p0, u64 w2c_p1, u64 w2c_p2
   w2c_Bfunc:;
   return w2c_i0;
 }
-static u32 w2c_f21(struct instance *instance, u64 w2c_p0, u64 w2c_p1, u64 w2c_p2, u64 w2c_p3, u64 w2c_p4, u64 w2c_p5, u64 w2c_p6) {
+static u32 w2c_f51(struct instance *instance, u64 w2c_p0, u64 w2c_p1, u64 w2c_p2, u64 w2c_p3, u64 w2c_p4, u64 w2c_p5, u64 w2c_p6) {
   u32 w2c_l10 = 0;
   u64 w2c_l7 = 0, w2c_l8 = 0, w2c_l9 = 0;
   const struct memory memory = instance->w2c_memory;
@@ -8764,7 +19676,7 @@ static u32 w2c_f21(struct instance *instance, u64 w2c_p0, u64 w2c_p1, u64 w2c_p2
   w2c_j0 += w2c_j1;
   w2c_j1 = w2c_p0;
   w2c_j2 = w2c_p1;
-  w2c_f4(instance, w2c_j0, w2c_j1, w2c_j2);
+  w2c_f37(instance, w2c_j0, w2c_j1, w2c_j2);
   w2c_j0 = w2c_l8;
   w2c_i0 = (u32)(w2c_j0);
   w2c_i0 = i32_load8_u(memory, (u64)(w2c_i0) + 36u);
@@ -8996,7 +19908,7 @@ static u32 w2c_f21(struct instance *instance, u64 w2c_p0, u64 w2c_p1, u64 w2c_p2
   w2c_j3 |= w2c_j4;
   w2c_j4 = w2c_p4;
   w2c_j5 = w2c_p5;
-  w2c_j2 = w2c_f6(instance, w2c_j2, w2c_j3, w2c_j4, w2c_j5);
+  w2c_j2 = w2c_f39(instance, w2c_j2, w2c_j3, w2c_j4, w2c_j5);
   w2c_p3 = w2c_j2;
   w2c_j3 = 4294967295ull;
   w2c_j2 &= w2c_j3;
@@ -9072,7 +19984,7 @@ static u32 w2c_f21(struct instance *instance, u64 w2c_p0, u64 w2c_p1, u64 w2c_p2
   w2c_j1 |= w2c_j2;
   w2c_j2 = w2c_p4;
   w2c_j3 = w2c_p5;
-  w2c_f3(instance, w2c_j0, w2c_j1, w2c_j2, w2c_j3);
+  w2c_f13(instance, w2c_j0, w2c_j1, w2c_j2, w2c_j3);
   w2c_j0 = w2c_l8;
   w2c_i0 = (u32)(w2c_j0);
   w2c_i0 = i32_load8_u(memory, (u64)(w2c_i0) + 8u);
@@ -9112,7 +20024,7 @@ static u32 w2c_f21(struct instance *instance, u64 w2c_p0, u64 w2c_p1, u64 w2c_p2
   w2c_Bfunc:;
   return w2c_i0;
 }
-static void w2c_f22(struct instance *instance, u64 w2c_p0, u32 w2c_p1, u64 w2c_p2, u64 w2c_p3, u64 w2c_p4, u64 w2c_p5, u64 w2c_p6) {
+static void w2c_f52(struct instance *instance, u64 w2c_p0, u32 w2c_p1, u64 w2c_p2, u64 w2c_p3, u64 w2c_p4, u64 w2c_p5, u64 w2c_p6) {
   u64 w2c_l7 = 0, w2c_l8 = 0, w2c_l9 = 0, w2c_l10 = 0, w2c_l11 = 0, w2c_l12 = 0;
   const struct memory memory = instance->w2c_memory;
   (void)memory;
@@ -9472,12 +20384,12 @@ static void w2c_f22(struct instance *instance, u64 w2c_p0, u32 w2c_p1, u64 w2c_p
     w2c_j3 += w2c_j4;
     w2c_l9 = w2c_j3;
     w2c_j4 = w2c_l8;
-    w2c_j1 = w2c_f6(instance, w2c_j1, w2c_j2, w2c_j3, w2c_j4);
+    w2c_j1 = w2c_f39(instance, w2c_j1, w2c_j2, w2c_j3, w2c_j4);
     w2c_j2 = 12008468691120727718ull;
     w2c_j1 ^= w2c_j2;
     w2c_j2 = w2c_l9;
     w2c_j3 = w2c_l8;
-    w2c_f3(instance, w2c_j0, w2c_j1, w2c_j2, w2c_j3);
+    w2c_f13(instance, w2c_j0, w2c_j1, w2c_j2, w2c_j3);
     w2c_j0 = w2c_p5;
     w2c_i0 = (u32)(w2c_j0);
     w2c_i1 = 5u;
@@ -9598,7 +20510,7 @@ static void w2c_f22(struct instance *instance, u64 w2c_p0, u32 w2c_p1, u64 w2c_p
     w2c_j4 += w2c_j5;
     w2c_l10 = w2c_j4;
     w2c_j5 = w2c_l8;
-    w2c_j2 = w2c_f6(instance, w2c_j2, w2c_j3, w2c_j4, w2c_j5);
+    w2c_j2 = w2c_f39(instance, w2c_j2, w2c_j3, w2c_j4, w2c_j5);
     w2c_l9 = w2c_j2;
     w2c_j3 = 4294967295ull;
     w2c_j2 &= w2c_j3;
@@ -9672,7 +20584,7 @@ static void w2c_f22(struct instance *instance, u64 w2c_p0, u32 w2c_p1, u64 w2c_p
     w2c_j1 |= w2c_j2;
     w2c_j2 = w2c_l10;
     w2c_j3 = w2c_l8;
-    w2c_f3(instance, w2c_j0, w2c_j1, w2c_j2, w2c_j3);
+    w2c_f13(instance, w2c_j0, w2c_j1, w2c_j2, w2c_j3);
     w2c_j0 = w2c_p5;
     w2c_i0 = (u32)(w2c_j0);
     w2c_i1 = 5u;
@@ -9724,7 +20636,7 @@ static void w2c_f22(struct instance *instance, u64 w2c_p0, u32 w2c_p1, u64 w2c_p
   w2c_j0 += w2c_j1;
   instance->w2c_g0 = w2c_j0;
 }
-static void w2c_f23(struct instance *instance, u64 w2c_p0, u32 w2c_p1, u64 w2c_p2, u64 w2c_p3, u64 w2c_p4, u64 w2c_p5, u64 w2c_p6) {
+static void w2c_f53(struct instance *instance, u64 w2c_p0, u32 w2c_p1, u64 w2c_p2, u64 w2c_p3, u64 w2c_p4, u64 w2c_p5, u64 w2c_p6) {
   u32 w2c_l11 = 0;
   u64 w2c_l7 = 0, w2c_l8 = 0, w2c_l9 = 0, w2c_l10 = 0;
   const struct memory memory = instance->w2c_memory;
@@ -9785,7 +20697,7 @@ static void w2c_f23(struct instance *instance, u64 w2c_p0, u32 w2c_p1, u64 w2c_p
     w2c_j1 = 12008468691120727718ull;
     w2c_j2 = w2c_p4;
     w2c_j3 = w2c_p3;
-    w2c_f13(instance, w2c_j0, w2c_j1, w2c_j2, w2c_j3);
+    w2c_f44(instance, w2c_j0, w2c_j1, w2c_j2, w2c_j3);
     w2c_j0 = w2c_p5;
     w2c_i0 = (u32)(w2c_j0);
     w2c_i1 = 0u;
@@ -9866,7 +20778,7 @@ static void w2c_f23(struct instance *instance, u64 w2c_p0, u32 w2c_p1, u64 w2c_p
     w2c_j1 = w2c_l8;
     w2c_j2 = w2c_p4;
     w2c_j3 = w2c_p3;
-    w2c_f13(instance, w2c_j0, w2c_j1, w2c_j2, w2c_j3);
+    w2c_f44(instance, w2c_j0, w2c_j1, w2c_j2, w2c_j3);
     w2c_j0 = w2c_p5;
     w2c_i0 = (u32)(w2c_j0);
     w2c_i1 = 0u;
@@ -9918,7 +20830,7 @@ static void w2c_f23(struct instance *instance, u64 w2c_p0, u32 w2c_p1, u64 w2c_p
     w2c_j1 = w2c_l8;
     w2c_j2 = w2c_p4;
     w2c_j3 = w2c_p3;
-    w2c_f13(instance, w2c_j0, w2c_j1, w2c_j2, w2c_j3);
+    w2c_f44(instance, w2c_j0, w2c_j1, w2c_j2, w2c_j3);
     w2c_j0 = w2c_p5;
     w2c_i0 = (u32)(w2c_j0);
     w2c_i1 = 0u;
@@ -9974,7 +20886,7 @@ static void w2c_f23(struct instance *instance, u64 w2c_p0, u32 w2c_p1, u64 w2c_p
     w2c_j1 = w2c_l8;
     w2c_j2 = w2c_p4;
     w2c_j3 = w2c_p3;
-    w2c_f13(instance, w2c_j0, w2c_j1, w2c_j2, w2c_j3);
+    w2c_f44(instance, w2c_j0, w2c_j1, w2c_j2, w2c_j3);
     w2c_j0 = w2c_p5;
     w2c_i0 = (u32)(w2c_j0);
     w2c_i1 = 0u;
@@ -10003,15 +20915,4358 @@ static void w2c_f23(struct instance *instance, u64 w2c_p0, u32 w2c_p1, u64 w2c_p
   w2c_Bfunc:;
 }
 #endif
+#ifdef WITH_AES
+static u32 w2c_aes_kek_init(struct instance *instance, u64 w2c_p0, u64 w2c_p1, u64 w2c_p2, u64 w2c_p3) {
+  u32 w2c_l4 = 0;
+  const struct memory memory = instance->w2c_memory;
+  (void)memory;
+  u32 w2c_i0;
+  u64 w2c_j0, w2c_j1, w2c_j2, w2c_j3;
+  w2c_i0 = w2c_f6(instance);
+  w2c_i0 = !(w2c_i0);
+  if (w2c_i0) {goto w2c_B0;}
+  w2c_f8(instance);
+  UNREACHABLE;
+  w2c_B0:;
+  w2c_j0 = w2c_p0;
+  w2c_j1 = w2c_p1;
+  w2c_j2 = w2c_p2;
+  w2c_j3 = w2c_p3;
+  w2c_i0 = w2c_f55(instance, w2c_j0, w2c_j1, w2c_j2, w2c_j3);
+  w2c_l4 = w2c_i0;
+  w2c_f7(instance);
+  w2c_i0 = w2c_l4;
+  return w2c_i0;
+}
+static u32 w2c_f55(struct instance *instance, u64 w2c_p0, u64 w2c_p1, u64 w2c_p2, u64 w2c_p3) {
+  u32 w2c_l7 = 0;
+  u64 w2c_l4 = 0, w2c_l5 = 0, w2c_l6 = 0;
+  const struct memory memory = instance->w2c_memory;
+  (void)memory;
+  u32 w2c_i0, w2c_i1, w2c_i2, w2c_i3, w2c_i5;
+  u64 w2c_j0, w2c_j1, w2c_j2, w2c_j3, w2c_j4, w2c_j5;
+  w2c_j0 = instance->w2c_g0;
+  w2c_j1 = 240ull;
+  w2c_j0 -= w2c_j1;
+  w2c_l4 = w2c_j0;
+  instance->w2c_g0 = w2c_j0;
+  w2c_j0 = w2c_l4;
+  w2c_l4 = w2c_j0;
+  w2c_j1 = 16ull;
+  w2c_i0 = (u64)((s64)w2c_j0 < (s64)w2c_j1);
+  if (w2c_i0) {goto w2c_B0;}
+  w2c_j0 = w2c_l4;
+  w2c_i0 = (u32)(w2c_j0);
+  w2c_i1 = 0u;
+  w2c_j2 = 240ull;
+  w2c_i2 = (u32)(w2c_j2);
+  memory_fill(memory, w2c_i0, w2c_i1, w2c_i2);
+  w2c_i0 = 3u;
+  w2c_l7 = w2c_i0;
+  w2c_j0 = w2c_p1;
+  w2c_j1 = 32ull;
+  w2c_i0 = w2c_j0 > w2c_j1;
+  if (w2c_i0) {goto w2c_B1;}
+  w2c_j0 = 1ull;
+  w2c_j1 = w2c_p1;
+  w2c_j0 <<= (w2c_j1 & 63);
+  w2c_j1 = 4311810048ull;
+  w2c_j0 &= w2c_j1;
+  w2c_j1 = 0ull;
+  w2c_i0 = w2c_j0 == w2c_j1;
+  if (w2c_i0) {goto w2c_B1;}
+  w2c_i0 = 4u;
+  w2c_l7 = w2c_i0;
+  w2c_j0 = w2c_p3;
+  w2c_j1 = w2c_p1;
+  w2c_j2 = 2ull;
+  w2c_j1 <<= (w2c_j2 & 63);
+  w2c_j2 = 120ull;
+  w2c_j1 += w2c_j2;
+  w2c_i0 = w2c_j0 != w2c_j1;
+  if (w2c_i0) {goto w2c_B1;}
+  w2c_j0 = w2c_p1;
+  w2c_j1 = 18446744073709551600ull;
+  w2c_j0 += w2c_j1;
+  w2c_l5 = w2c_j0;
+  w2c_j1 = 16ull;
+  w2c_i0 = w2c_j0 > w2c_j1;
+  if (w2c_i0) {goto w2c_B1;}
+  w2c_j0 = 176ull;
+  w2c_l6 = w2c_j0;
+  w2c_j0 = w2c_l5;
+  w2c_i0 = (u32)(w2c_j0);
+  switch (w2c_i0) {
+    case 0: goto w2c_B2;
+    case 1: goto w2c_B1;
+    case 2: goto w2c_B1;
+    case 3: goto w2c_B1;
+    case 4: goto w2c_B1;
+    case 5: goto w2c_B1;
+    case 6: goto w2c_B1;
+    case 7: goto w2c_B1;
+    case 8: goto w2c_B4;
+    case 9: goto w2c_B1;
+    case 10: goto w2c_B1;
+    case 11: goto w2c_B1;
+    case 12: goto w2c_B1;
+    case 13: goto w2c_B1;
+    case 14: goto w2c_B1;
+    case 15: goto w2c_B1;
+    case 16: goto w2c_B3;
+    default: goto w2c_B2;
+  }
+  w2c_B4:;
+  w2c_j0 = 208ull;
+  w2c_l6 = w2c_j0;
+  goto w2c_B2;
+  w2c_B3:;
+  w2c_j0 = 240ull;
+  w2c_l6 = w2c_j0;
+  w2c_B2:;
+  w2c_j0 = w2c_p3;
+  w2c_j1 = 18446744073709551608ull;
+  w2c_j0 += w2c_j1;
+  w2c_p3 = w2c_j0;
+  w2c_j1 = w2c_l6;
+  w2c_i0 = w2c_j0 != w2c_j1;
+  if (w2c_i0) {goto w2c_B1;}
+  w2c_j0 = w2c_p0;
+  w2c_j1 = 4096ull;
+  w2c_j2 = 0ull;
+  w2c_j3 = w2c_p0;
+  w2c_i3 = !(w2c_j3);
+  w2c_j1 = w2c_i3 ? w2c_j1 : w2c_j2;
+  w2c_j0 += w2c_j1;
+  w2c_j1 = w2c_p1;
+  w2c_j2 = w2c_p2;
+  w2c_j3 = 4096ull;
+  w2c_j4 = 0ull;
+  w2c_j5 = w2c_p2;
+  w2c_i5 = !(w2c_j5);
+  w2c_j3 = w2c_i5 ? w2c_j3 : w2c_j4;
+  w2c_j2 += w2c_j3;
+  w2c_p2 = w2c_j2;
+  w2c_j3 = 8ull;
+  w2c_j2 += w2c_j3;
+  w2c_j3 = w2c_p3;
+  leaf_expand(memory, w2c_j0, w2c_j1, w2c_j2, w2c_j3);
+  w2c_j0 = w2c_p2;
+  w2c_i0 = (u32)(w2c_j0);
+  w2c_j1 = 5423823929002190187ull;
+  step_i64_store(memory, (u64)(w2c_i0), w2c_j1);
+  w2c_i0 = 0u;
+  w2c_l7 = w2c_i0;
+  w2c_B1:;
+  w2c_j0 = w2c_l4;
+  leaf_clear(memory, w2c_j0);
+  w2c_j0 = w2c_l4;
+  w2c_j1 = 240ull;
+  w2c_j0 += w2c_j1;
+  instance->w2c_g0 = w2c_j0;
+  w2c_i0 = w2c_l7;
+  goto w2c_Bfunc;
+  w2c_B0:;
+  UNREACHABLE;
+  w2c_Bfunc:;
+  return w2c_i0;
+}
+static u32 w2c_aes_kind(struct instance *instance, u64 w2c_p0, u64 w2c_p1, u64 w2c_p2, u64 w2c_p3, u64 w2c_p4, u64 w2c_p5, u64 w2c_p6, u64 w2c_p7) {
+  u32 w2c_l8 = 0;
+  const struct memory memory = instance->w2c_memory;
+  (void)memory;
+  u32 w2c_i0;
+  u64 w2c_j0, w2c_j1, w2c_j2, w2c_j3, w2c_j4, w2c_j5, w2c_j6, w2c_j7;
+  w2c_i0 = w2c_f6(instance);
+  w2c_i0 = !(w2c_i0);
+  if (w2c_i0) {goto w2c_B0;}
+  w2c_f8(instance);
+  UNREACHABLE;
+  w2c_B0:;
+  w2c_j0 = w2c_p0;
+  w2c_j1 = w2c_p1;
+  w2c_j2 = w2c_p2;
+  w2c_j3 = w2c_p3;
+  w2c_j4 = w2c_p4;
+  w2c_j5 = w2c_p5;
+  w2c_j6 = w2c_p6;
+  w2c_j7 = w2c_p7;
+  w2c_i0 = w2c_f57(instance, w2c_j0, w2c_j1, w2c_j2, w2c_j3, w2c_j4, w2c_j5, w2c_j6, w2c_j7);
+  w2c_l8 = w2c_i0;
+  w2c_f7(instance);
+  w2c_i0 = w2c_l8;
+  return w2c_i0;
+}
+static u32 w2c_f57(struct instance *instance, u64 w2c_p0, u64 w2c_p1, u64 w2c_p2, u64 w2c_p3, u64 w2c_p4, u64 w2c_p5, u64 w2c_p6, u64 w2c_p7) {
+  u32 w2c_l9 = 0, w2c_l10 = 0;
+  u64 w2c_l8 = 0;
+  const struct memory memory = instance->w2c_memory;
+  (void)memory;
+  u32 w2c_i0, w2c_i1, w2c_i2, w2c_i3, w2c_i4, w2c_i6, w2c_i8;
+  u64 w2c_j0, w2c_j1, w2c_j2, w2c_j3, w2c_j4, w2c_j5, w2c_j6, w2c_j7, 
+      w2c_j8;
+  w2c_j0 = instance->w2c_g0;
+  w2c_j1 = 336ull;
+  w2c_j0 -= w2c_j1;
+  w2c_l8 = w2c_j0;
+  instance->w2c_g0 = w2c_j0;
+  w2c_j0 = w2c_l8;
+  w2c_l8 = w2c_j0;
+  w2c_j1 = 16ull;
+  w2c_i0 = (u64)((s64)w2c_j0 < (s64)w2c_j1);
+  if (w2c_i0) {goto w2c_B1;}
+  w2c_j0 = w2c_l8;
+  w2c_j1 = 8ull;
+  w2c_j0 += w2c_j1;
+  w2c_i0 = (u32)(w2c_j0);
+  w2c_i1 = 0u;
+  w2c_j2 = 240ull;
+  w2c_i2 = (u32)(w2c_j2);
+  memory_fill(memory, w2c_i0, w2c_i1, w2c_i2);
+  w2c_j0 = w2c_p6;
+  w2c_i0 = (u32)(w2c_j0);
+  w2c_i1 = 0u;
+  i32_store(memory, (u64)(w2c_i0), w2c_i1);
+  w2c_j0 = w2c_p7;
+  w2c_i0 = (u32)(w2c_j0);
+  w2c_j1 = 0ull;
+  step_i64_store(memory, (u64)(w2c_i0), w2c_j1);
+  w2c_j0 = w2c_l8;
+  w2c_i0 = (u32)(w2c_j0);
+  w2c_j1 = 0ull;
+  step_i64_store(memory, (u64)(w2c_i0) + 264, w2c_j1);
+  w2c_j0 = w2c_l8;
+  w2c_i0 = (u32)(w2c_j0);
+  w2c_j1 = 0ull;
+  step_i64_store(memory, (u64)(w2c_i0) + 256, w2c_j1);
+  w2c_j0 = w2c_l8;
+  w2c_i0 = (u32)(w2c_j0);
+  w2c_j1 = 0ull;
+  step_i64_store(memory, (u64)(w2c_i0) + 248, w2c_j1);
+  w2c_j0 = w2c_l8;
+  w2c_j1 = 248ull;
+  w2c_j0 += w2c_j1;
+  w2c_j1 = w2c_p0;
+  w2c_j2 = 4096ull;
+  w2c_j3 = 0ull;
+  w2c_j4 = w2c_p0;
+  w2c_i4 = !(w2c_j4);
+  w2c_j2 = w2c_i4 ? w2c_j2 : w2c_j3;
+  w2c_j1 += w2c_j2;
+  w2c_j2 = w2c_p1;
+  w2c_j3 = w2c_l8;
+  w2c_j4 = 8ull;
+  w2c_j3 += w2c_j4;
+  w2c_f10(instance, w2c_j0, w2c_j1, w2c_j2, w2c_j3);
+  w2c_i0 = 3u;
+  w2c_l9 = w2c_i0;
+  w2c_j0 = w2c_l8;
+  w2c_i0 = (u32)(w2c_j0);
+  w2c_i0 = i32_load8_u(memory, (u64)(w2c_i0) + 248u);
+  w2c_i1 = 1u;
+  w2c_i0 = w2c_i0 != w2c_i1;
+  if (w2c_i0) {goto w2c_B0;}
+  w2c_j0 = w2c_l8;
+  w2c_i0 = (u32)(w2c_j0);
+  w2c_j1 = w2c_l8;
+  w2c_i1 = (u32)(w2c_j1);
+  w2c_j1 = step_i64_load(memory, (u64)(w2c_i1) + 264u);
+  step_i64_store(memory, (u64)(w2c_i0) + 280, w2c_j1);
+  w2c_j0 = w2c_l8;
+  w2c_i0 = (u32)(w2c_j0);
+  w2c_j1 = w2c_l8;
+  w2c_i1 = (u32)(w2c_j1);
+  w2c_j1 = step_i64_load(memory, (u64)(w2c_i1) + 256u);
+  step_i64_store(memory, (u64)(w2c_i0) + 272, w2c_j1);
+  w2c_j0 = w2c_p6;
+  w2c_i0 = (u32)(w2c_j0);
+  w2c_i1 = 0u;
+  i32_store(memory, (u64)(w2c_i0), w2c_i1);
+  w2c_j0 = w2c_p7;
+  w2c_i0 = (u32)(w2c_j0);
+  w2c_j1 = 0ull;
+  step_i64_store(memory, (u64)(w2c_i0), w2c_j1);
+  w2c_j0 = w2c_l8;
+  w2c_i0 = (u32)(w2c_j0);
+  w2c_j1 = 0ull;
+  step_i64_store(memory, (u64)(w2c_i0) + 296, w2c_j1);
+  w2c_j0 = w2c_l8;
+  w2c_i0 = (u32)(w2c_j0);
+  w2c_j1 = w2c_l8;
+  w2c_j2 = 272ull;
+  w2c_j1 += w2c_j2;
+  step_i64_store(memory, (u64)(w2c_i0) + 288, w2c_j1);
+  w2c_j0 = w2c_l8;
+  w2c_i0 = (u32)(w2c_j0);
+  w2c_j1 = 12008468691120727718ull;
+  step_i64_store(memory, (u64)(w2c_i0) + 304, w2c_j1);
+  w2c_j0 = w2c_l8;
+  w2c_i0 = (u32)(w2c_j0);
+  w2c_j1 = 0ull;
+  step_i64_store(memory, (u64)(w2c_i0) + 328, w2c_j1);
+  w2c_j0 = w2c_l8;
+  w2c_i0 = (u32)(w2c_j0);
+  w2c_j1 = 0ull;
+  step_i64_store(memory, (u64)(w2c_i0) + 320, w2c_j1);
+  w2c_j0 = w2c_l8;
+  w2c_i0 = (u32)(w2c_j0);
+  w2c_j1 = 0ull;
+  step_i64_store(memory, (u64)(w2c_i0) + 312, w2c_j1);
+  w2c_j0 = w2c_p3;
+  w2c_j1 = 7ull;
+  w2c_j0 &= w2c_j1;
+  w2c_j1 = 0ull;
+  w2c_i0 = w2c_j0 != w2c_j1;
+  if (w2c_i0) {goto w2c_B3;}
+  w2c_j0 = w2c_p3;
+  w2c_j1 = 18446744073709551600ull;
+  w2c_j0 += w2c_j1;
+  w2c_j1 = 1048569ull;
+  w2c_i0 = w2c_j0 < w2c_j1;
+  if (w2c_i0) {goto w2c_B2;}
+  w2c_B3:;
+  w2c_i0 = 5u;
+  w2c_l9 = w2c_i0;
+  goto w2c_B0;
+  w2c_B2:;
+  w2c_j0 = w2c_l8;
+  w2c_j1 = 312ull;
+  w2c_j0 += w2c_j1;
+  w2c_j1 = w2c_l8;
+  w2c_j2 = 288ull;
+  w2c_j1 += w2c_j2;
+  w2c_j2 = w2c_l8;
+  w2c_j3 = 304ull;
+  w2c_j2 += w2c_j3;
+  w2c_j3 = w2c_p2;
+  w2c_j4 = 4096ull;
+  w2c_j5 = 0ull;
+  w2c_j6 = w2c_p2;
+  w2c_i6 = !(w2c_j6);
+  w2c_j4 = w2c_i6 ? w2c_j4 : w2c_j5;
+  w2c_j3 += w2c_j4;
+  w2c_j4 = w2c_p3;
+  w2c_j5 = w2c_p4;
+  w2c_j6 = 4096ull;
+  w2c_j7 = 0ull;
+  w2c_j8 = w2c_p4;
+  w2c_i8 = !(w2c_j8);
+  w2c_j6 = w2c_i8 ? w2c_j6 : w2c_j7;
+  w2c_j5 += w2c_j6;
+  w2c_p0 = w2c_j5;
+  w2c_j6 = w2c_p5;
+  w2c_f11(instance, w2c_j0, w2c_j1, w2c_j2, w2c_j3, w2c_j4, w2c_j5, w2c_j6);
+  w2c_j0 = w2c_l8;
+  w2c_i0 = (u32)(w2c_j0);
+  w2c_i0 = i32_load8_u(memory, (u64)(w2c_i0) + 312u);
+  if (w2c_i0) {goto w2c_B4;}
+  w2c_j0 = w2c_l8;
+  w2c_i0 = (u32)(w2c_j0);
+  w2c_j0 = step_i64_load(memory, (u64)(w2c_i0) + 328u);
+  w2c_p3 = w2c_j0;
+  w2c_j0 = w2c_l8;
+  w2c_i0 = (u32)(w2c_j0);
+  w2c_i0 = i32_load8_u(memory, (u64)(w2c_i0) + 320u);
+  w2c_l10 = w2c_i0;
+  w2c_j0 = w2c_p5;
+  w2c_i0 = !(w2c_j0);
+  if (w2c_i0) {goto w2c_B5;}
+  w2c_j0 = w2c_p5;
+  w2c_j1 = 18446744073709551615ull;
+  w2c_j0 += w2c_j1;
+  w2c_p1 = w2c_j0;
+  w2c_i0 = !(w2c_j0);
+  w2c_l9 = w2c_i0;
+  if (w2c_i0) {goto w2c_B6;}
+  w2c_i0 = w2c_l9;
+  if (w2c_i0) {goto w2c_B6;}
+  w2c_j0 = w2c_p0;
+  w2c_i0 = (u32)(w2c_j0);
+  w2c_i1 = 0u;
+  w2c_j2 = w2c_p1;
+  w2c_i2 = (u32)(w2c_j2);
+  memory_fill(memory, w2c_i0, w2c_i1, w2c_i2);
+  w2c_B6:;
+  w2c_j0 = w2c_p0;
+  w2c_j1 = w2c_p1;
+  w2c_j0 += w2c_j1;
+  w2c_i0 = (u32)(w2c_j0);
+  w2c_i1 = 0u;
+  i32_store8(memory, (u64)(w2c_i0), w2c_i1);
+  w2c_B5:;
+  w2c_i0 = 5u;
+  w2c_l9 = w2c_i0;
+  w2c_i0 = w2c_l10;
+  switch (w2c_i0) {
+    case 0: goto w2c_B9;
+    case 1: goto w2c_B8;
+    case 2: goto w2c_B0;
+    default: goto w2c_B9;
+  }
+  w2c_B9:;
+  w2c_j0 = w2c_p7;
+  w2c_i0 = (u32)(w2c_j0);
+  w2c_j1 = w2c_p3;
+  step_i64_store(memory, (u64)(w2c_i0), w2c_j1);
+  goto w2c_B7;
+  w2c_B8:;
+  w2c_j0 = w2c_p7;
+  w2c_i0 = (u32)(w2c_j0);
+  w2c_j1 = w2c_p3;
+  step_i64_store(memory, (u64)(w2c_i0), w2c_j1);
+  w2c_j0 = w2c_p6;
+  w2c_i0 = (u32)(w2c_j0);
+  w2c_i1 = 1u;
+  i32_store(memory, (u64)(w2c_i0), w2c_i1);
+  w2c_B7:;
+  w2c_i0 = 0u;
+  w2c_l9 = w2c_i0;
+  goto w2c_B0;
+  w2c_B4:;
+  w2c_i0 = 5u;
+  w2c_i1 = 4u;
+  w2c_j2 = w2c_l8;
+  w2c_i2 = (u32)(w2c_j2);
+  w2c_i2 = i32_load8_u(memory, (u64)(w2c_i2) + 313u);
+  w2c_i3 = 1u;
+  w2c_i2 = w2c_i2 == w2c_i3;
+  w2c_i0 = w2c_i2 ? w2c_i0 : w2c_i1;
+  w2c_l9 = w2c_i0;
+  goto w2c_B0;
+  w2c_B1:;
+  UNREACHABLE;
+  w2c_B0:;
+  w2c_j0 = w2c_l8;
+  w2c_j1 = 8ull;
+  w2c_j0 += w2c_j1;
+  leaf_clear(memory, w2c_j0);
+  w2c_j0 = w2c_l8;
+  w2c_j1 = 336ull;
+  w2c_j0 += w2c_j1;
+  instance->w2c_g0 = w2c_j0;
+  w2c_i0 = w2c_l9;
+  return w2c_i0;
+}
+static u32 w2c_aes_kind_many(struct instance *instance, u64 w2c_p0, u64 w2c_p1, u64 w2c_p2, u64 w2c_p3, u64 w2c_p4, u64 w2c_p5, u64 w2c_p6, u64 w2c_p7, 
+    u64 w2c_p8, u64 w2c_p9, u64 w2c_p10, u64 w2c_p11) {
+  u32 w2c_l12 = 0;
+  const struct memory memory = instance->w2c_memory;
+  (void)memory;
+  u32 w2c_i0;
+  u64 w2c_j0, w2c_j1, w2c_j2, w2c_j3, w2c_j4, w2c_j5, w2c_j6, w2c_j7, 
+      w2c_j8, w2c_j9, w2c_j10, w2c_j11;
+  w2c_i0 = w2c_f6(instance);
+  w2c_i0 = !(w2c_i0);
+  if (w2c_i0) {goto w2c_B0;}
+  w2c_f8(instance);
+  UNREACHABLE;
+  w2c_B0:;
+  w2c_j0 = w2c_p0;
+  w2c_j1 = w2c_p1;
+  w2c_j2 = w2c_p2;
+  w2c_j3 = w2c_p3;
+  w2c_j4 = w2c_p4;
+  w2c_j5 = w2c_p5;
+  w2c_j6 = w2c_p6;
+  w2c_j7 = w2c_p7;
+  w2c_j8 = w2c_p8;
+  w2c_j9 = w2c_p9;
+  w2c_j10 = w2c_p10;
+  w2c_j11 = w2c_p11;
+  w2c_i0 = w2c_f59(instance, w2c_j0, w2c_j1, w2c_j2, w2c_j3, w2c_j4, w2c_j5, w2c_j6, w2c_j7, w2c_j8, w2c_j9, w2c_j10, w2c_j11);
+  w2c_l12 = w2c_i0;
+  w2c_f7(instance);
+  w2c_i0 = w2c_l12;
+  return w2c_i0;
+}
+static u32 w2c_f59(struct instance *instance, u64 w2c_p0, u64 w2c_p1, u64 w2c_p2, u64 w2c_p3, u64 w2c_p4, u64 w2c_p5, u64 w2c_p6, u64 w2c_p7, 
+    u64 w2c_p8, u64 w2c_p9, u64 w2c_p10, u64 w2c_p11) {
+  u32 w2c_l13 = 0;
+  u64 w2c_l12 = 0;
+  const struct memory memory = instance->w2c_memory;
+  (void)memory;
+  u32 w2c_i0, w2c_i1, w2c_i2, w2c_i3, w2c_i4;
+  u64 w2c_j0, w2c_j1, w2c_j2, w2c_j3, w2c_j4, w2c_j5, w2c_j6, w2c_j7;
+  w2c_j0 = instance->w2c_g0;
+  w2c_j1 = 288ull;
+  w2c_j0 -= w2c_j1;
+  w2c_l12 = w2c_j0;
+  instance->w2c_g0 = w2c_j0;
+  w2c_j0 = w2c_l12;
+  w2c_l12 = w2c_j0;
+  w2c_j1 = 16ull;
+  w2c_i0 = (u64)((s64)w2c_j0 < (s64)w2c_j1);
+  if (w2c_i0) {goto w2c_B3;}
+  w2c_j0 = w2c_l12;
+  w2c_j1 = 8ull;
+  w2c_j0 += w2c_j1;
+  w2c_i0 = (u32)(w2c_j0);
+  w2c_i1 = 0u;
+  w2c_j2 = 240ull;
+  w2c_i2 = (u32)(w2c_j2);
+  memory_fill(memory, w2c_i0, w2c_i1, w2c_i2);
+  w2c_j0 = w2c_l12;
+  w2c_i0 = (u32)(w2c_j0);
+  w2c_j1 = 0ull;
+  step_i64_store(memory, (u64)(w2c_i0) + 264, w2c_j1);
+  w2c_j0 = w2c_l12;
+  w2c_i0 = (u32)(w2c_j0);
+  w2c_j1 = 0ull;
+  step_i64_store(memory, (u64)(w2c_i0) + 256, w2c_j1);
+  w2c_j0 = w2c_l12;
+  w2c_i0 = (u32)(w2c_j0);
+  w2c_j1 = 0ull;
+  step_i64_store(memory, (u64)(w2c_i0) + 248, w2c_j1);
+  w2c_j0 = w2c_l12;
+  w2c_j1 = 248ull;
+  w2c_j0 += w2c_j1;
+  w2c_j1 = w2c_p0;
+  w2c_j2 = 4096ull;
+  w2c_j3 = 0ull;
+  w2c_j4 = w2c_p0;
+  w2c_i4 = !(w2c_j4);
+  w2c_j2 = w2c_i4 ? w2c_j2 : w2c_j3;
+  w2c_j1 += w2c_j2;
+  w2c_j2 = w2c_p1;
+  w2c_j3 = w2c_l12;
+  w2c_j4 = 8ull;
+  w2c_j3 += w2c_j4;
+  w2c_f10(instance, w2c_j0, w2c_j1, w2c_j2, w2c_j3);
+  w2c_i0 = 3u;
+  w2c_l13 = w2c_i0;
+  w2c_j0 = w2c_l12;
+  w2c_i0 = (u32)(w2c_j0);
+  w2c_i0 = i32_load8_u(memory, (u64)(w2c_i0) + 248u);
+  w2c_i1 = 1u;
+  w2c_i0 = w2c_i0 != w2c_i1;
+  if (w2c_i0) {goto w2c_B0;}
+  w2c_j0 = w2c_l12;
+  w2c_i0 = (u32)(w2c_j0);
+  w2c_j1 = w2c_l12;
+  w2c_i1 = (u32)(w2c_j1);
+  w2c_j1 = step_i64_load(memory, (u64)(w2c_i1) + 264u);
+  step_i64_store(memory, (u64)(w2c_i0) + 280, w2c_j1);
+  w2c_j0 = w2c_l12;
+  w2c_i0 = (u32)(w2c_j0);
+  w2c_j1 = w2c_l12;
+  w2c_i1 = (u32)(w2c_j1);
+  w2c_j1 = step_i64_load(memory, (u64)(w2c_i1) + 256u);
+  step_i64_store(memory, (u64)(w2c_i0) + 272, w2c_j1);
+  w2c_i0 = 4u;
+  w2c_l13 = w2c_i0;
+  w2c_j0 = w2c_p11;
+  w2c_i0 = !(w2c_j0);
+  if (w2c_i0) {goto w2c_B0;}
+  w2c_j0 = w2c_p3;
+  w2c_j1 = w2c_p3;
+  w2c_j2 = w2c_p11;
+  w2c_j1 = DIV_U(w2c_j1, w2c_j2);
+  w2c_p0 = w2c_j1;
+  w2c_j2 = w2c_p11;
+  w2c_j1 *= w2c_j2;
+  w2c_j0 -= w2c_j1;
+  w2c_j1 = 0ull;
+  w2c_i0 = w2c_j0 != w2c_j1;
+  if (w2c_i0) {goto w2c_B0;}
+  w2c_j0 = w2c_p9;
+  w2c_j1 = w2c_p11;
+  w2c_i0 = w2c_j0 != w2c_j1;
+  if (w2c_i0) {goto w2c_B0;}
+  w2c_j0 = w2c_p7;
+  w2c_j1 = w2c_p11;
+  w2c_i0 = w2c_j0 != w2c_j1;
+  if (w2c_i0) {goto w2c_B0;}
+  w2c_j0 = w2c_p0;
+  w2c_j1 = 7ull;
+  w2c_j0 &= w2c_j1;
+  w2c_j1 = 0ull;
+  w2c_i0 = w2c_j0 != w2c_j1;
+  if (w2c_i0) {goto w2c_B0;}
+  w2c_j0 = w2c_p0;
+  w2c_j1 = 18446744073709551600ull;
+  w2c_j0 += w2c_j1;
+  w2c_j1 = 1048568ull;
+  w2c_i0 = w2c_j0 > w2c_j1;
+  if (w2c_i0) {goto w2c_B0;}
+  w2c_j0 = w2c_p0;
+  w2c_j1 = 18446744073709551608ull;
+  w2c_j0 += w2c_j1;
+  w2c_j1 = w2c_p5;
+  w2c_i0 = w2c_j0 != w2c_j1;
+  if (w2c_i0) {goto w2c_B0;}
+  w2c_j0 = w2c_p10;
+  w2c_j1 = 4096ull;
+  w2c_j2 = 0ull;
+  w2c_j3 = w2c_p10;
+  w2c_i3 = !(w2c_j3);
+  w2c_j1 = w2c_i3 ? w2c_j1 : w2c_j2;
+  w2c_j0 += w2c_j1;
+  w2c_p0 = w2c_j0;
+  w2c_j0 = w2c_p8;
+  w2c_j1 = 4096ull;
+  w2c_j2 = 0ull;
+  w2c_j3 = w2c_p8;
+  w2c_i3 = !(w2c_j3);
+  w2c_j1 = w2c_i3 ? w2c_j1 : w2c_j2;
+  w2c_j0 += w2c_j1;
+  w2c_p1 = w2c_j0;
+  w2c_j0 = w2c_p6;
+  w2c_j1 = 4096ull;
+  w2c_j2 = 0ull;
+  w2c_j3 = w2c_p6;
+  w2c_i3 = !(w2c_j3);
+  w2c_j1 = w2c_i3 ? w2c_j1 : w2c_j2;
+  w2c_j0 += w2c_j1;
+  w2c_p3 = w2c_j0;
+  w2c_j0 = w2c_p4;
+  w2c_j1 = 4096ull;
+  w2c_j2 = 0ull;
+  w2c_j3 = w2c_p4;
+  w2c_i3 = !(w2c_j3);
+  w2c_j1 = w2c_i3 ? w2c_j1 : w2c_j2;
+  w2c_j0 += w2c_j1;
+  w2c_p10 = w2c_j0;
+  w2c_j0 = w2c_p2;
+  w2c_j1 = 4096ull;
+  w2c_j2 = 0ull;
+  w2c_j3 = w2c_p2;
+  w2c_i3 = !(w2c_j3);
+  w2c_j1 = w2c_i3 ? w2c_j1 : w2c_j2;
+  w2c_j0 += w2c_j1;
+  w2c_p8 = w2c_j0;
+  w2c_j0 = w2c_p5;
+  w2c_j1 = 8ull;
+  w2c_j0 += w2c_j1;
+  w2c_p6 = w2c_j0;
+  w2c_j1 = 16ull;
+  w2c_i0 = w2c_j0 == w2c_j1;
+  if (w2c_i0) {goto w2c_B4;}
+  w2c_j0 = w2c_p6;
+  w2c_j1 = 265ull;
+  w2c_i0 = w2c_j0 < w2c_j1;
+  if (w2c_i0) {goto w2c_B2;}
+  w2c_B4:;
+  w2c_j0 = w2c_l12;
+  w2c_j1 = 272ull;
+  w2c_j0 += w2c_j1;
+  w2c_j1 = w2c_p8;
+  w2c_j2 = w2c_p10;
+  w2c_j3 = w2c_p5;
+  w2c_j4 = w2c_p3;
+  w2c_j5 = w2c_p1;
+  w2c_j6 = w2c_p0;
+  w2c_j7 = w2c_p11;
+  w2c_f14(instance, w2c_j0, w2c_j1, w2c_j2, w2c_j3, w2c_j4, w2c_j5, w2c_j6, w2c_j7);
+  goto w2c_B1;
+  w2c_B3:;
+  UNREACHABLE;
+  w2c_B2:;
+  w2c_j0 = w2c_l12;
+  w2c_j1 = 256ull;
+  w2c_j0 += w2c_j1;
+  w2c_j1 = w2c_p8;
+  w2c_j2 = w2c_p10;
+  w2c_j3 = w2c_p5;
+  w2c_j4 = w2c_p3;
+  w2c_j5 = w2c_p1;
+  w2c_j6 = w2c_p0;
+  w2c_j7 = w2c_p11;
+  w2c_f15(instance, w2c_j0, w2c_j1, w2c_j2, w2c_j3, w2c_j4, w2c_j5, w2c_j6, w2c_j7);
+  w2c_B1:;
+  w2c_i0 = 0u;
+  w2c_l13 = w2c_i0;
+  w2c_B0:;
+  w2c_j0 = w2c_l12;
+  w2c_j1 = 8ull;
+  w2c_j0 += w2c_j1;
+  leaf_clear(memory, w2c_j0);
+  w2c_j0 = w2c_l12;
+  w2c_j1 = 288ull;
+  w2c_j0 += w2c_j1;
+  instance->w2c_g0 = w2c_j0;
+  w2c_i0 = w2c_l13;
+  return w2c_i0;
+}
+static u32 w2c_aes_rewrap(struct instance *instance, u64 w2c_p0, u64 w2c_p1, u64 w2c_p2, u64 w2c_p3, u64 w2c_p4, u64 w2c_p5, u32 w2c_p6, u64 w2c_p7) {
+  const struct memory memory = instance->w2c_memory;
+  (void)memory;
+  u32 w2c_i0, w2c_i6;
+  u64 w2c_j0, w2c_j1, w2c_j2, w2c_j3, w2c_j4, w2c_j5, w2c_j7;
+  w2c_i0 = w2c_f6(instance);
+  w2c_i0 = !(w2c_i0);
+  if (w2c_i0) {goto w2c_B0;}
+  w2c_f8(instance);
+  UNREACHABLE;
+  w2c_B0:;
+  w2c_j0 = w2c_p0;
+  w2c_j1 = w2c_p1;
+  w2c_j2 = w2c_p2;
+  w2c_j3 = w2c_p3;
+  w2c_j4 = w2c_p4;
+  w2c_j5 = w2c_p5;
+  w2c_i6 = w2c_p6;
+  w2c_j7 = w2c_p7;
+  w2c_i0 = w2c_f61(instance, w2c_j0, w2c_j1, w2c_j2, w2c_j3, w2c_j4, w2c_j5, w2c_i6, w2c_j7);
+  w2c_p6 = w2c_i0;
+  w2c_f7(instance);
+  w2c_i0 = w2c_p6;
+  return w2c_i0;
+}
+static u32 w2c_f61(struct instance *instance, u64 w2c_p0, u64 w2c_p1, u64 w2c_p2, u64 w2c_p3, u64 w2c_p4, u64 w2c_p5, u32 w2c_p6, u64 w2c_p7) {
+  u32 w2c_l9 = 0, w2c_l10 = 0;
+  u64 w2c_l8 = 0;
+  const struct memory memory = instance->w2c_memory;
+  (void)memory;
+  u32 w2c_i0, w2c_i1, w2c_i2, w2c_i3, w2c_i4, w2c_i7;
+  u64 w2c_j0, w2c_j1, w2c_j2, w2c_j3, w2c_j4, w2c_j5, w2c_j6, w2c_j7;
+  w2c_j0 = instance->w2c_g0;
+  w2c_j1 = 656ull;
+  w2c_j0 -= w2c_j1;
+  w2c_l8 = w2c_j0;
+  instance->w2c_g0 = w2c_j0;
+  w2c_j0 = w2c_l8;
+  w2c_l8 = w2c_j0;
+  w2c_j1 = 16ull;
+  w2c_i0 = (u64)((s64)w2c_j0 < (s64)w2c_j1);
+  if (w2c_i0) {goto w2c_B0;}
+  w2c_j0 = w2c_l8;
+  w2c_j1 = 256ull;
+  w2c_j0 += w2c_j1;
+  w2c_i0 = (u32)(w2c_j0);
+  w2c_i1 = 0u;
+  w2c_j2 = 240ull;
+  w2c_i2 = (u32)(w2c_j2);
+  memory_fill(memory, w2c_i0, w2c_i1, w2c_i2);
+  w2c_j0 = w2c_l8;
+  w2c_j1 = 16ull;
+  w2c_j0 += w2c_j1;
+  w2c_i0 = (u32)(w2c_j0);
+  w2c_i1 = 0u;
+  w2c_j2 = 240ull;
+  w2c_i2 = (u32)(w2c_j2);
+  memory_fill(memory, w2c_i0, w2c_i1, w2c_i2);
+  w2c_j0 = w2c_p7;
+  w2c_i0 = (u32)(w2c_j0);
+  w2c_i1 = 0u;
+  i32_store(memory, (u64)(w2c_i0), w2c_i1);
+  w2c_j0 = w2c_l8;
+  w2c_i0 = (u32)(w2c_j0);
+  w2c_j1 = 0ull;
+  step_i64_store(memory, (u64)(w2c_i0) + 552, w2c_j1);
+  w2c_j0 = w2c_l8;
+  w2c_i0 = (u32)(w2c_j0);
+  w2c_j1 = 0ull;
+  step_i64_store(memory, (u64)(w2c_i0) + 560, w2c_j1);
+  w2c_j0 = w2c_l8;
+  w2c_i0 = (u32)(w2c_j0);
+  w2c_j1 = 0ull;
+  step_i64_store(memory, (u64)(w2c_i0) + 568, w2c_j1);
+  w2c_j0 = w2c_l8;
+  w2c_i0 = (u32)(w2c_j0);
+  w2c_j1 = 0ull;
+  step_i64_store(memory, (u64)(w2c_i0) + 528, w2c_j1);
+  w2c_j0 = w2c_l8;
+  w2c_i0 = (u32)(w2c_j0);
+  w2c_j1 = 0ull;
+  step_i64_store(memory, (u64)(w2c_i0) + 536, w2c_j1);
+  w2c_j0 = w2c_l8;
+  w2c_i0 = (u32)(w2c_j0);
+  w2c_j1 = 0ull;
+  step_i64_store(memory, (u64)(w2c_i0) + 544, w2c_j1);
+  w2c_j0 = w2c_l8;
+  w2c_j1 = 552ull;
+  w2c_j0 += w2c_j1;
+  w2c_j1 = w2c_p0;
+  w2c_j2 = 4096ull;
+  w2c_j3 = 0ull;
+  w2c_j4 = w2c_p0;
+  w2c_i4 = !(w2c_j4);
+  w2c_j2 = w2c_i4 ? w2c_j2 : w2c_j3;
+  w2c_j1 += w2c_j2;
+  w2c_j2 = w2c_p1;
+  w2c_j3 = w2c_l8;
+  w2c_j4 = 256ull;
+  w2c_j3 += w2c_j4;
+  w2c_f10(instance, w2c_j0, w2c_j1, w2c_j2, w2c_j3);
+  w2c_i0 = 3u;
+  w2c_l9 = w2c_i0;
+  w2c_j0 = w2c_l8;
+  w2c_i0 = (u32)(w2c_j0);
+  w2c_i0 = i32_load8_u(memory, (u64)(w2c_i0) + 552u);
+  w2c_i1 = 1u;
+  w2c_i0 = w2c_i0 != w2c_i1;
+  if (w2c_i0) {goto w2c_B1;}
+  w2c_j0 = w2c_l8;
+  w2c_i0 = (u32)(w2c_j0);
+  w2c_j1 = w2c_l8;
+  w2c_i1 = (u32)(w2c_j1);
+  w2c_j1 = step_i64_load(memory, (u64)(w2c_i1) + 568u);
+  step_i64_store(memory, (u64)(w2c_i0) + 648, w2c_j1);
+  w2c_j0 = w2c_l8;
+  w2c_i0 = (u32)(w2c_j0);
+  w2c_j1 = w2c_l8;
+  w2c_i1 = (u32)(w2c_j1);
+  w2c_j1 = step_i64_load(memory, (u64)(w2c_i1) + 560u);
+  step_i64_store(memory, (u64)(w2c_i0) + 640, w2c_j1);
+  w2c_j0 = w2c_l8;
+  w2c_j1 = 528ull;
+  w2c_j0 += w2c_j1;
+  w2c_j1 = w2c_p2;
+  w2c_j2 = 4096ull;
+  w2c_j3 = 0ull;
+  w2c_j4 = w2c_p2;
+  w2c_i4 = !(w2c_j4);
+  w2c_j2 = w2c_i4 ? w2c_j2 : w2c_j3;
+  w2c_j1 += w2c_j2;
+  w2c_j2 = w2c_p3;
+  w2c_j3 = w2c_l8;
+  w2c_j4 = 16ull;
+  w2c_j3 += w2c_j4;
+  w2c_f10(instance, w2c_j0, w2c_j1, w2c_j2, w2c_j3);
+  w2c_j0 = w2c_l8;
+  w2c_i0 = (u32)(w2c_j0);
+  w2c_i0 = i32_load8_u(memory, (u64)(w2c_i0) + 528u);
+  w2c_i1 = 1u;
+  w2c_i0 = w2c_i0 != w2c_i1;
+  if (w2c_i0) {goto w2c_B1;}
+  w2c_j0 = w2c_l8;
+  w2c_i0 = (u32)(w2c_j0);
+  w2c_j1 = w2c_l8;
+  w2c_i1 = (u32)(w2c_j1);
+  w2c_j1 = step_i64_load(memory, (u64)(w2c_i1) + 544u);
+  step_i64_store(memory, (u64)(w2c_i0) + 632, w2c_j1);
+  w2c_j0 = w2c_l8;
+  w2c_i0 = (u32)(w2c_j0);
+  w2c_j1 = w2c_l8;
+  w2c_i1 = (u32)(w2c_j1);
+  w2c_j1 = step_i64_load(memory, (u64)(w2c_i1) + 536u);
+  step_i64_store(memory, (u64)(w2c_i0) + 624, w2c_j1);
+  w2c_i0 = 4u;
+  w2c_l9 = w2c_i0;
+  w2c_i0 = w2c_p6;
+  w2c_i1 = 12u;
+  w2c_i0 = w2c_i0 > w2c_i1;
+  if (w2c_i0) {goto w2c_B1;}
+  w2c_i0 = 7967u;
+  w2c_i1 = w2c_p6;
+  w2c_i2 = 65535u;
+  w2c_i1 &= w2c_i2;
+  w2c_i0 >>= (w2c_i1 & 31);
+  w2c_i1 = 1u;
+  w2c_i0 &= w2c_i1;
+  w2c_i0 = !(w2c_i0);
+  if (w2c_i0) {goto w2c_B1;}
+  w2c_i0 = 0u;
+  w2c_l9 = w2c_i0;
+  w2c_j0 = w2c_l8;
+  w2c_i0 = (u32)(w2c_j0);
+  w2c_i1 = 0u;
+  i32_store(memory, (u64)(w2c_i0) + 617, w2c_i1);
+  w2c_j0 = w2c_l8;
+  w2c_i0 = (u32)(w2c_j0);
+  w2c_i1 = 0u;
+  i32_store(memory, (u64)(w2c_i0) + 620, w2c_i1);
+  w2c_j0 = w2c_l8;
+  w2c_i0 = (u32)(w2c_j0);
+  w2c_j1 = 0ull;
+  step_i64_store(memory, (u64)(w2c_i0) + 520, w2c_j1);
+  w2c_j0 = w2c_l8;
+  w2c_i0 = (u32)(w2c_j0);
+  w2c_j1 = 0ull;
+  step_i64_store(memory, (u64)(w2c_i0) + 504, w2c_j1);
+  w2c_j0 = w2c_l8;
+  w2c_i0 = (u32)(w2c_j0);
+  w2c_i1 = w2c_p6;
+  w2c_i2 = 7u;
+  w2c_i1 = w2c_i1 > w2c_i2;
+  i32_store8(memory, (u64)(w2c_i0) + 616, w2c_i1);
+  w2c_j0 = w2c_l8;
+  w2c_i0 = (u32)(w2c_j0);
+  w2c_i1 = w2c_p6;
+  w2c_j1 = (u64)(w2c_i1);
+  w2c_j2 = 3ull;
+  w2c_j1 <<= (w2c_j2 & 63);
+  w2c_p0 = w2c_j1;
+  w2c_i1 = (u32)(w2c_j1);
+  w2c_j1 = constant_i64_load((u64)(w2c_i1) + 69240u);
+  step_i64_store(memory, (u64)(w2c_i0) + 608, w2c_j1);
+  w2c_j0 = w2c_l8;
+  w2c_i0 = (u32)(w2c_j0);
+  w2c_j1 = w2c_p0;
+  w2c_i1 = (u32)(w2c_j1);
+  w2c_j1 = constant_i64_load((u64)(w2c_i1) + 69136u);
+  step_i64_store(memory, (u64)(w2c_i0) + 600, w2c_j1);
+  w2c_j0 = w2c_l8;
+  w2c_i0 = (u32)(w2c_j0);
+  w2c_j1 = w2c_p0;
+  w2c_i1 = (u32)(w2c_j1);
+  w2c_j1 = constant_i64_load((u64)(w2c_i1) + 69032u);
+  step_i64_store(memory, (u64)(w2c_i0) + 592, w2c_j1);
+  w2c_j0 = w2c_l8;
+  w2c_i0 = (u32)(w2c_j0);
+  w2c_j1 = w2c_p0;
+  w2c_i1 = (u32)(w2c_j1);
+  w2c_j1 = constant_i64_load((u64)(w2c_i1) + 68928u);
+  step_i64_store(memory, (u64)(w2c_i0) + 584, w2c_j1);
+  w2c_j0 = w2c_l8;
+  w2c_i0 = (u32)(w2c_j0);
+  w2c_j1 = w2c_p0;
+  w2c_i1 = (u32)(w2c_j1);
+  w2c_j1 = constant_i64_load((u64)(w2c_i1) + 68824u);
+  step_i64_store(memory, (u64)(w2c_i0) + 576, w2c_j1);
+  w2c_j0 = w2c_l8;
+  w2c_i0 = (u32)(w2c_j0);
+  w2c_j1 = w2c_l8;
+  w2c_j2 = 640ull;
+  w2c_j1 += w2c_j2;
+  step_i64_store(memory, (u64)(w2c_i0) + 512, w2c_j1);
+  w2c_j0 = w2c_l8;
+  w2c_i0 = (u32)(w2c_j0);
+  w2c_j1 = w2c_l8;
+  w2c_j2 = 624ull;
+  w2c_j1 += w2c_j2;
+  step_i64_store(memory, (u64)(w2c_i0) + 496, w2c_j1);
+  w2c_j0 = w2c_l8;
+  w2c_j1 = 8ull;
+  w2c_j0 += w2c_j1;
+  w2c_j1 = w2c_l8;
+  w2c_j2 = 512ull;
+  w2c_j1 += w2c_j2;
+  w2c_j2 = w2c_l8;
+  w2c_j3 = 496ull;
+  w2c_j2 += w2c_j3;
+  w2c_j3 = w2c_l8;
+  w2c_j4 = 576ull;
+  w2c_j3 += w2c_j4;
+  w2c_j4 = w2c_p4;
+  w2c_j5 = 4096ull;
+  w2c_j6 = 0ull;
+  w2c_j7 = w2c_p4;
+  w2c_i7 = !(w2c_j7);
+  w2c_j5 = w2c_i7 ? w2c_j5 : w2c_j6;
+  w2c_j4 += w2c_j5;
+  w2c_j5 = w2c_p5;
+  w2c_f17(instance, w2c_j0, w2c_j1, w2c_j2, w2c_j3, w2c_j4, w2c_j5);
+  w2c_j0 = w2c_p7;
+  w2c_i0 = (u32)(w2c_j0);
+  w2c_j1 = w2c_l8;
+  w2c_i1 = (u32)(w2c_j1);
+  w2c_i1 = i32_load8_u(memory, (u64)(w2c_i1) + 8u);
+  w2c_p6 = w2c_i1;
+  w2c_i1 = !(w2c_i1);
+  w2c_j2 = w2c_l8;
+  w2c_i2 = (u32)(w2c_j2);
+  w2c_i2 = i32_load8_u(memory, (u64)(w2c_i2) + 9u);
+  w2c_l10 = w2c_i2;
+  w2c_i3 = 255u;
+  w2c_i2 &= w2c_i3;
+  w2c_i3 = 1u;
+  w2c_i2 = w2c_i2 == w2c_i3;
+  w2c_i1 &= w2c_i2;
+  i32_store(memory, (u64)(w2c_i0), w2c_i1);
+  w2c_i0 = w2c_p6;
+  w2c_i0 = !(w2c_i0);
+  if (w2c_i0) {goto w2c_B1;}
+  w2c_i0 = w2c_l10;
+  w2c_j0 = (u64)(w2c_i0);
+  w2c_j1 = 255ull;
+  w2c_j0 &= w2c_j1;
+  w2c_j1 = 2ull;
+  w2c_j0 <<= (w2c_j1 & 63);
+  w2c_i0 = (u32)(w2c_j0);
+  w2c_i0 = constant_i32_load((u64)(w2c_i0) + 69344u);
+  w2c_l9 = w2c_i0;
+  w2c_B1:;
+  w2c_j0 = w2c_l8;
+  w2c_j1 = 256ull;
+  w2c_j0 += w2c_j1;
+  leaf_clear(memory, w2c_j0);
+  w2c_j0 = w2c_l8;
+  w2c_j1 = 16ull;
+  w2c_j0 += w2c_j1;
+  leaf_clear(memory, w2c_j0);
+  w2c_j0 = w2c_l8;
+  w2c_j1 = 656ull;
+  w2c_j0 += w2c_j1;
+  instance->w2c_g0 = w2c_j0;
+  w2c_i0 = w2c_l9;
+  goto w2c_Bfunc;
+  w2c_B0:;
+  UNREACHABLE;
+  w2c_Bfunc:;
+  return w2c_i0;
+}
+static u32 w2c_aes_rewrap_in_place(struct instance *instance, u64 w2c_p0, u64 w2c_p1, u64 w2c_p2, u64 w2c_p3, u64 w2c_p4, u64 w2c_p5, u32 w2c_p6) {
+  const struct memory memory = instance->w2c_memory;
+  (void)memory;
+  u32 w2c_i0, w2c_i6;
+  u64 w2c_j0, w2c_j1, w2c_j2, w2c_j3, w2c_j4, w2c_j5;
+  w2c_i0 = w2c_f6(instance);
+  w2c_i0 = !(w2c_i0);
+  if (w2c_i0) {goto w2c_B0;}
+  w2c_f8(instance);
+  UNREACHABLE;
+  w2c_B0:;
+  w2c_j0 = w2c_p0;
+  w2c_j1 = w2c_p1;
+  w2c_j2 = w2c_p2;
+  w2c_j3 = w2c_p3;
+  w2c_j4 = w2c_p4;
+  w2c_j5 = w2c_p5;
+  w2c_i6 = w2c_p6;
+  w2c_i0 = w2c_f63(instance, w2c_j0, w2c_j1, w2c_j2, w2c_j3, w2c_j4, w2c_j5, w2c_i6);
+  w2c_p6 = w2c_i0;
+  w2c_f7(instance);
+  w2c_i0 = w2c_p6;
+  return w2c_i0;
+}
+static u32 w2c_f63(struct instance *instance, u64 w2c_p0, u64 w2c_p1, u64 w2c_p2, u64 w2c_p3, u64 w2c_p4, u64 w2c_p5, u32 w2c_p6) {
+  u32 w2c_l8 = 0;
+  u64 w2c_l7 = 0;
+  const struct memory memory = instance->w2c_memory;
+  (void)memory;
+  u32 w2c_i0, w2c_i1, w2c_i2, w2c_i4, w2c_i7;
+  u64 w2c_j0, w2c_j1, w2c_j2, w2c_j3, w2c_j4, w2c_j5, w2c_j6, w2c_j7;
+  w2c_j0 = instance->w2c_g0;
+  w2c_j1 = 656ull;
+  w2c_j0 -= w2c_j1;
+  w2c_l7 = w2c_j0;
+  instance->w2c_g0 = w2c_j0;
+  w2c_j0 = w2c_l7;
+  w2c_l7 = w2c_j0;
+  w2c_j1 = 16ull;
+  w2c_i0 = (u64)((s64)w2c_j0 < (s64)w2c_j1);
+  if (w2c_i0) {goto w2c_B0;}
+  w2c_j0 = w2c_l7;
+  w2c_j1 = 256ull;
+  w2c_j0 += w2c_j1;
+  w2c_i0 = (u32)(w2c_j0);
+  w2c_i1 = 0u;
+  w2c_j2 = 240ull;
+  w2c_i2 = (u32)(w2c_j2);
+  memory_fill(memory, w2c_i0, w2c_i1, w2c_i2);
+  w2c_j0 = w2c_l7;
+  w2c_j1 = 16ull;
+  w2c_j0 += w2c_j1;
+  w2c_i0 = (u32)(w2c_j0);
+  w2c_i1 = 0u;
+  w2c_j2 = 240ull;
+  w2c_i2 = (u32)(w2c_j2);
+  memory_fill(memory, w2c_i0, w2c_i1, w2c_i2);
+  w2c_j0 = w2c_l7;
+  w2c_i0 = (u32)(w2c_j0);
+  w2c_j1 = 0ull;
+  step_i64_store(memory, (u64)(w2c_i0) + 552, w2c_j1);
+  w2c_j0 = w2c_l7;
+  w2c_i0 = (u32)(w2c_j0);
+  w2c_j1 = 0ull;
+  step_i64_store(memory, (u64)(w2c_i0) + 560, w2c_j1);
+  w2c_j0 = w2c_l7;
+  w2c_i0 = (u32)(w2c_j0);
+  w2c_j1 = 0ull;
+  step_i64_store(memory, (u64)(w2c_i0) + 568, w2c_j1);
+  w2c_j0 = w2c_l7;
+  w2c_i0 = (u32)(w2c_j0);
+  w2c_j1 = 0ull;
+  step_i64_store(memory, (u64)(w2c_i0) + 528, w2c_j1);
+  w2c_j0 = w2c_l7;
+  w2c_i0 = (u32)(w2c_j0);
+  w2c_j1 = 0ull;
+  step_i64_store(memory, (u64)(w2c_i0) + 536, w2c_j1);
+  w2c_j0 = w2c_l7;
+  w2c_i0 = (u32)(w2c_j0);
+  w2c_j1 = 0ull;
+  step_i64_store(memory, (u64)(w2c_i0) + 544, w2c_j1);
+  w2c_j0 = w2c_l7;
+  w2c_j1 = 552ull;
+  w2c_j0 += w2c_j1;
+  w2c_j1 = w2c_p0;
+  w2c_j2 = 4096ull;
+  w2c_j3 = 0ull;
+  w2c_j4 = w2c_p0;
+  w2c_i4 = !(w2c_j4);
+  w2c_j2 = w2c_i4 ? w2c_j2 : w2c_j3;
+  w2c_j1 += w2c_j2;
+  w2c_j2 = w2c_p1;
+  w2c_j3 = w2c_l7;
+  w2c_j4 = 256ull;
+  w2c_j3 += w2c_j4;
+  w2c_f10(instance, w2c_j0, w2c_j1, w2c_j2, w2c_j3);
+  w2c_i0 = 3u;
+  w2c_l8 = w2c_i0;
+  w2c_j0 = w2c_l7;
+  w2c_i0 = (u32)(w2c_j0);
+  w2c_i0 = i32_load8_u(memory, (u64)(w2c_i0) + 552u);
+  w2c_i1 = 1u;
+  w2c_i0 = w2c_i0 != w2c_i1;
+  if (w2c_i0) {goto w2c_B1;}
+  w2c_j0 = w2c_l7;
+  w2c_i0 = (u32)(w2c_j0);
+  w2c_j1 = w2c_l7;
+  w2c_i1 = (u32)(w2c_j1);
+  w2c_j1 = step_i64_load(memory, (u64)(w2c_i1) + 568u);
+  step_i64_store(memory, (u64)(w2c_i0) + 648, w2c_j1);
+  w2c_j0 = w2c_l7;
+  w2c_i0 = (u32)(w2c_j0);
+  w2c_j1 = w2c_l7;
+  w2c_i1 = (u32)(w2c_j1);
+  w2c_j1 = step_i64_load(memory, (u64)(w2c_i1) + 560u);
+  step_i64_store(memory, (u64)(w2c_i0) + 640, w2c_j1);
+  w2c_j0 = w2c_l7;
+  w2c_j1 = 528ull;
+  w2c_j0 += w2c_j1;
+  w2c_j1 = w2c_p2;
+  w2c_j2 = 4096ull;
+  w2c_j3 = 0ull;
+  w2c_j4 = w2c_p2;
+  w2c_i4 = !(w2c_j4);
+  w2c_j2 = w2c_i4 ? w2c_j2 : w2c_j3;
+  w2c_j1 += w2c_j2;
+  w2c_j2 = w2c_p3;
+  w2c_j3 = w2c_l7;
+  w2c_j4 = 16ull;
+  w2c_j3 += w2c_j4;
+  w2c_f10(instance, w2c_j0, w2c_j1, w2c_j2, w2c_j3);
+  w2c_j0 = w2c_l7;
+  w2c_i0 = (u32)(w2c_j0);
+  w2c_i0 = i32_load8_u(memory, (u64)(w2c_i0) + 528u);
+  w2c_i1 = 1u;
+  w2c_i0 = w2c_i0 != w2c_i1;
+  if (w2c_i0) {goto w2c_B1;}
+  w2c_j0 = w2c_l7;
+  w2c_i0 = (u32)(w2c_j0);
+  w2c_j1 = w2c_l7;
+  w2c_i1 = (u32)(w2c_j1);
+  w2c_j1 = step_i64_load(memory, (u64)(w2c_i1) + 544u);
+  step_i64_store(memory, (u64)(w2c_i0) + 632, w2c_j1);
+  w2c_j0 = w2c_l7;
+  w2c_i0 = (u32)(w2c_j0);
+  w2c_j1 = w2c_l7;
+  w2c_i1 = (u32)(w2c_j1);
+  w2c_j1 = step_i64_load(memory, (u64)(w2c_i1) + 536u);
+  step_i64_store(memory, (u64)(w2c_i0) + 624, w2c_j1);
+  w2c_i0 = w2c_p6;
+  w2c_i1 = 3u;
+  w2c_i0 = w2c_i0 > w2c_i1;
+  if (w2c_i0) {goto w2c_B2;}
+  w2c_j0 = w2c_l7;
+  w2c_i0 = (u32)(w2c_j0);
+  w2c_j1 = 0ull;
+  step_i64_store(memory, (u64)(w2c_i0) + 616, w2c_j1);
+  w2c_j0 = w2c_l7;
+  w2c_i0 = (u32)(w2c_j0);
+  w2c_j1 = 1ull;
+  step_i64_store(memory, (u64)(w2c_i0) + 576, w2c_j1);
+  w2c_j0 = w2c_l7;
+  w2c_i0 = (u32)(w2c_j0);
+  w2c_j1 = 0ull;
+  step_i64_store(memory, (u64)(w2c_i0) + 520, w2c_j1);
+  w2c_j0 = w2c_l7;
+  w2c_i0 = (u32)(w2c_j0);
+  w2c_j1 = 0ull;
+  step_i64_store(memory, (u64)(w2c_i0) + 504, w2c_j1);
+  w2c_j0 = w2c_l7;
+  w2c_i0 = (u32)(w2c_j0);
+  w2c_i1 = w2c_p6;
+  w2c_j1 = (u64)(w2c_i1);
+  w2c_j2 = 3ull;
+  w2c_j1 <<= (w2c_j2 & 63);
+  w2c_p0 = w2c_j1;
+  w2c_i1 = (u32)(w2c_j1);
+  w2c_j1 = constant_i64_load((u64)(w2c_i1) + 69456u);
+  step_i64_store(memory, (u64)(w2c_i0) + 608, w2c_j1);
+  w2c_j0 = w2c_l7;
+  w2c_i0 = (u32)(w2c_j0);
+  w2c_j1 = w2c_p0;
+  w2c_i1 = (u32)(w2c_j1);
+  w2c_j1 = constant_i64_load((u64)(w2c_i1) + 69424u);
+  step_i64_store(memory, (u64)(w2c_i0) + 600, w2c_j1);
+  w2c_j0 = w2c_l7;
+  w2c_i0 = (u32)(w2c_j0);
+  w2c_j1 = w2c_p0;
+  w2c_i1 = (u32)(w2c_j1);
+  w2c_j1 = constant_i64_load((u64)(w2c_i1) + 69392u);
+  step_i64_store(memory, (u64)(w2c_i0) + 592, w2c_j1);
+  w2c_j0 = w2c_l7;
+  w2c_i0 = (u32)(w2c_j0);
+  w2c_j1 = w2c_p0;
+  w2c_i1 = (u32)(w2c_j1);
+  w2c_j1 = constant_i64_load((u64)(w2c_i1) + 69360u);
+  step_i64_store(memory, (u64)(w2c_i0) + 584, w2c_j1);
+  w2c_j0 = w2c_l7;
+  w2c_i0 = (u32)(w2c_j0);
+  w2c_j1 = w2c_l7;
+  w2c_j2 = 640ull;
+  w2c_j1 += w2c_j2;
+  step_i64_store(memory, (u64)(w2c_i0) + 512, w2c_j1);
+  w2c_j0 = w2c_l7;
+  w2c_i0 = (u32)(w2c_j0);
+  w2c_j1 = w2c_l7;
+  w2c_j2 = 624ull;
+  w2c_j1 += w2c_j2;
+  step_i64_store(memory, (u64)(w2c_i0) + 496, w2c_j1);
+  w2c_j0 = w2c_l7;
+  w2c_j1 = 8ull;
+  w2c_j0 += w2c_j1;
+  w2c_j1 = w2c_l7;
+  w2c_j2 = 512ull;
+  w2c_j1 += w2c_j2;
+  w2c_j2 = w2c_l7;
+  w2c_j3 = 496ull;
+  w2c_j2 += w2c_j3;
+  w2c_j3 = w2c_l7;
+  w2c_j4 = 576ull;
+  w2c_j3 += w2c_j4;
+  w2c_j4 = w2c_p4;
+  w2c_j5 = 4096ull;
+  w2c_j6 = 0ull;
+  w2c_j7 = w2c_p4;
+  w2c_i7 = !(w2c_j7);
+  w2c_j5 = w2c_i7 ? w2c_j5 : w2c_j6;
+  w2c_j4 += w2c_j5;
+  w2c_p0 = w2c_j4;
+  w2c_j5 = w2c_p5;
+  w2c_f17(instance, w2c_j0, w2c_j1, w2c_j2, w2c_j3, w2c_j4, w2c_j5);
+  w2c_i0 = 0u;
+  w2c_l8 = w2c_i0;
+  w2c_j0 = w2c_l7;
+  w2c_i0 = (u32)(w2c_j0);
+  w2c_i0 = i32_load8_u(memory, (u64)(w2c_i0) + 8u);
+  w2c_i1 = 1u;
+  w2c_i0 &= w2c_i1;
+  w2c_i0 = !(w2c_i0);
+  if (w2c_i0) {goto w2c_B1;}
+  w2c_i0 = 4u;
+  w2c_l8 = w2c_i0;
+  w2c_j0 = w2c_l7;
+  w2c_i0 = (u32)(w2c_j0);
+  w2c_i0 = i32_load8_u(memory, (u64)(w2c_i0) + 9u);
+  w2c_j0 = (u64)(w2c_i0);
+  w2c_j1 = 255ull;
+  w2c_j0 &= w2c_j1;
+  w2c_i0 = (u32)(w2c_j0);
+  switch (w2c_i0) {
+    case 0: goto w2c_B1;
+    case 1: goto w2c_B4;
+    case 2: goto w2c_B3;
+    default: goto w2c_B1;
+  }
+  w2c_B4:;
+  w2c_i0 = 5u;
+  w2c_l8 = w2c_i0;
+  w2c_j0 = w2c_p5;
+  w2c_i0 = !(w2c_j0);
+  if (w2c_i0) {goto w2c_B1;}
+  w2c_j0 = w2c_p5;
+  w2c_j1 = 18446744073709551615ull;
+  w2c_j0 += w2c_j1;
+  w2c_p2 = w2c_j0;
+  w2c_i0 = !(w2c_j0);
+  w2c_p6 = w2c_i0;
+  if (w2c_i0) {goto w2c_B5;}
+  w2c_i0 = w2c_p6;
+  if (w2c_i0) {goto w2c_B5;}
+  w2c_j0 = w2c_p0;
+  w2c_i0 = (u32)(w2c_j0);
+  w2c_i1 = 0u;
+  w2c_j2 = w2c_p2;
+  w2c_i2 = (u32)(w2c_j2);
+  memory_fill(memory, w2c_i0, w2c_i1, w2c_i2);
+  w2c_B5:;
+  w2c_j0 = w2c_p0;
+  w2c_j1 = w2c_p2;
+  w2c_j0 += w2c_j1;
+  w2c_i0 = (u32)(w2c_j0);
+  w2c_i1 = 0u;
+  i32_store8(memory, (u64)(w2c_i0), w2c_i1);
+  goto w2c_B1;
+  w2c_B3:;
+  w2c_j0 = w2c_p5;
+  w2c_i0 = !(w2c_j0);
+  if (w2c_i0) {goto w2c_B2;}
+  w2c_j0 = w2c_p5;
+  w2c_j1 = 18446744073709551615ull;
+  w2c_j0 += w2c_j1;
+  w2c_p2 = w2c_j0;
+  w2c_i0 = !(w2c_j0);
+  w2c_l8 = w2c_i0;
+  if (w2c_i0) {goto w2c_B6;}
+  w2c_i0 = w2c_l8;
+  if (w2c_i0) {goto w2c_B6;}
+  w2c_j0 = w2c_p0;
+  w2c_i0 = (u32)(w2c_j0);
+  w2c_i1 = 0u;
+  w2c_j2 = w2c_p2;
+  w2c_i2 = (u32)(w2c_j2);
+  memory_fill(memory, w2c_i0, w2c_i1, w2c_i2);
+  w2c_B6:;
+  w2c_j0 = w2c_p0;
+  w2c_j1 = w2c_p2;
+  w2c_j0 += w2c_j1;
+  w2c_i0 = (u32)(w2c_j0);
+  w2c_i1 = 0u;
+  i32_store8(memory, (u64)(w2c_i0), w2c_i1);
+  w2c_B2:;
+  w2c_i0 = 4u;
+  w2c_l8 = w2c_i0;
+  w2c_B1:;
+  w2c_j0 = w2c_l7;
+  w2c_j1 = 256ull;
+  w2c_j0 += w2c_j1;
+  leaf_clear(memory, w2c_j0);
+  w2c_j0 = w2c_l7;
+  w2c_j1 = 16ull;
+  w2c_j0 += w2c_j1;
+  leaf_clear(memory, w2c_j0);
+  w2c_j0 = w2c_l7;
+  w2c_j1 = 656ull;
+  w2c_j0 += w2c_j1;
+  instance->w2c_g0 = w2c_j0;
+  w2c_i0 = w2c_l8;
+  goto w2c_Bfunc;
+  w2c_B0:;
+  UNREACHABLE;
+  w2c_Bfunc:;
+  return w2c_i0;
+}
+static u32 w2c_aes_rewrap_many(struct instance *instance, u64 w2c_p0, u64 w2c_p1, u64 w2c_p2, u64 w2c_p3, u64 w2c_p4, u64 w2c_p5, u32 w2c_p6, u64 w2c_p7, 
+    u64 w2c_p8) {
+  const struct memory memory = instance->w2c_memory;
+  (void)memory;
+  u32 w2c_i0, w2c_i6;
+  u64 w2c_j0, w2c_j1, w2c_j2, w2c_j3, w2c_j4, w2c_j5, w2c_j7, w2c_j8;
+  w2c_i0 = w2c_f6(instance);
+  w2c_i0 = !(w2c_i0);
+  if (w2c_i0) {goto w2c_B0;}
+  w2c_f8(instance);
+  UNREACHABLE;
+  w2c_B0:;
+  w2c_j0 = w2c_p0;
+  w2c_j1 = w2c_p1;
+  w2c_j2 = w2c_p2;
+  w2c_j3 = w2c_p3;
+  w2c_j4 = w2c_p4;
+  w2c_j5 = w2c_p5;
+  w2c_i6 = w2c_p6;
+  w2c_j7 = w2c_p7;
+  w2c_j8 = w2c_p8;
+  w2c_i0 = w2c_f65(instance, w2c_j0, w2c_j1, w2c_j2, w2c_j3, w2c_j4, w2c_j5, w2c_i6, w2c_j7, w2c_j8);
+  w2c_p6 = w2c_i0;
+  w2c_f7(instance);
+  w2c_i0 = w2c_p6;
+  return w2c_i0;
+}
+static u32 w2c_f65(struct instance *instance, u64 w2c_p0, u64 w2c_p1, u64 w2c_p2, u64 w2c_p3, u64 w2c_p4, u64 w2c_p5, u32 w2c_p6, u64 w2c_p7, 
+    u64 w2c_p8) {
+  u32 w2c_l10 = 0, w2c_l11 = 0, w2c_l12 = 0;
+  u64 w2c_l9 = 0;
+  const struct memory memory = instance->w2c_memory;
+  (void)memory;
+  u32 w2c_i0, w2c_i1, w2c_i2, w2c_i3, w2c_i4;
+  u64 w2c_j0, w2c_j1, w2c_j2, w2c_j3, w2c_j4, w2c_j5, w2c_j6;
+  w2c_j0 = instance->w2c_g0;
+  w2c_j1 = 608ull;
+  w2c_j0 -= w2c_j1;
+  w2c_l9 = w2c_j0;
+  instance->w2c_g0 = w2c_j0;
+  w2c_j0 = w2c_l9;
+  w2c_l9 = w2c_j0;
+  w2c_j1 = 16ull;
+  w2c_i0 = (u64)((s64)w2c_j0 < (s64)w2c_j1);
+  if (w2c_i0) {goto w2c_B2;}
+  w2c_j0 = w2c_l9;
+  w2c_j1 = 240ull;
+  w2c_j0 += w2c_j1;
+  w2c_i0 = (u32)(w2c_j0);
+  w2c_i1 = 0u;
+  w2c_j2 = 240ull;
+  w2c_i2 = (u32)(w2c_j2);
+  memory_fill(memory, w2c_i0, w2c_i1, w2c_i2);
+  w2c_j0 = w2c_l9;
+  w2c_i0 = (u32)(w2c_j0);
+  w2c_i1 = 0u;
+  w2c_j2 = 240ull;
+  w2c_i2 = (u32)(w2c_j2);
+  memory_fill(memory, w2c_i0, w2c_i1, w2c_i2);
+  w2c_j0 = w2c_l9;
+  w2c_i0 = (u32)(w2c_j0);
+  w2c_j1 = 0ull;
+  step_i64_store(memory, (u64)(w2c_i0) + 504, w2c_j1);
+  w2c_j0 = w2c_l9;
+  w2c_i0 = (u32)(w2c_j0);
+  w2c_j1 = 0ull;
+  step_i64_store(memory, (u64)(w2c_i0) + 512, w2c_j1);
+  w2c_j0 = w2c_l9;
+  w2c_i0 = (u32)(w2c_j0);
+  w2c_j1 = 0ull;
+  step_i64_store(memory, (u64)(w2c_i0) + 520, w2c_j1);
+  w2c_j0 = w2c_l9;
+  w2c_i0 = (u32)(w2c_j0);
+  w2c_j1 = 0ull;
+  step_i64_store(memory, (u64)(w2c_i0) + 480, w2c_j1);
+  w2c_j0 = w2c_l9;
+  w2c_i0 = (u32)(w2c_j0);
+  w2c_j1 = 0ull;
+  step_i64_store(memory, (u64)(w2c_i0) + 488, w2c_j1);
+  w2c_j0 = w2c_l9;
+  w2c_i0 = (u32)(w2c_j0);
+  w2c_j1 = 0ull;
+  step_i64_store(memory, (u64)(w2c_i0) + 496, w2c_j1);
+  w2c_j0 = w2c_l9;
+  w2c_j1 = 504ull;
+  w2c_j0 += w2c_j1;
+  w2c_j1 = w2c_p0;
+  w2c_j2 = 4096ull;
+  w2c_j3 = 0ull;
+  w2c_j4 = w2c_p0;
+  w2c_i4 = !(w2c_j4);
+  w2c_j2 = w2c_i4 ? w2c_j2 : w2c_j3;
+  w2c_j1 += w2c_j2;
+  w2c_j2 = w2c_p1;
+  w2c_j3 = w2c_l9;
+  w2c_j4 = 240ull;
+  w2c_j3 += w2c_j4;
+  w2c_f10(instance, w2c_j0, w2c_j1, w2c_j2, w2c_j3);
+  w2c_i0 = 3u;
+  w2c_l10 = w2c_i0;
+  w2c_j0 = w2c_l9;
+  w2c_i0 = (u32)(w2c_j0);
+  w2c_i0 = i32_load8_u(memory, (u64)(w2c_i0) + 504u);
+  w2c_i1 = 1u;
+  w2c_i0 = w2c_i0 != w2c_i1;
+  if (w2c_i0) {goto w2c_B0;}
+  w2c_j0 = w2c_l9;
+  w2c_i0 = (u32)(w2c_j0);
+  w2c_j1 = w2c_l9;
+  w2c_i1 = (u32)(w2c_j1);
+  w2c_j1 = step_i64_load(memory, (u64)(w2c_i1) + 520u);
+  step_i64_store(memory, (u64)(w2c_i0) + 600, w2c_j1);
+  w2c_j0 = w2c_l9;
+  w2c_i0 = (u32)(w2c_j0);
+  w2c_j1 = w2c_l9;
+  w2c_i1 = (u32)(w2c_j1);
+  w2c_j1 = step_i64_load(memory, (u64)(w2c_i1) + 512u);
+  step_i64_store(memory, (u64)(w2c_i0) + 592, w2c_j1);
+  w2c_j0 = w2c_l9;
+  w2c_j1 = 480ull;
+  w2c_j0 += w2c_j1;
+  w2c_j1 = w2c_p2;
+  w2c_j2 = 4096ull;
+  w2c_j3 = 0ull;
+  w2c_j4 = w2c_p2;
+  w2c_i4 = !(w2c_j4);
+  w2c_j2 = w2c_i4 ? w2c_j2 : w2c_j3;
+  w2c_j1 += w2c_j2;
+  w2c_j2 = w2c_p3;
+  w2c_j3 = w2c_l9;
+  w2c_f10(instance, w2c_j0, w2c_j1, w2c_j2, w2c_j3);
+  w2c_j0 = w2c_l9;
+  w2c_i0 = (u32)(w2c_j0);
+  w2c_i0 = i32_load8_u(memory, (u64)(w2c_i0) + 480u);
+  w2c_i1 = 1u;
+  w2c_i0 = w2c_i0 != w2c_i1;
+  if (w2c_i0) {goto w2c_B0;}
+  w2c_j0 = w2c_l9;
+  w2c_i0 = (u32)(w2c_j0);
+  w2c_j1 = w2c_l9;
+  w2c_i1 = (u32)(w2c_j1);
+  w2c_j1 = step_i64_load(memory, (u64)(w2c_i1) + 496u);
+  step_i64_store(memory, (u64)(w2c_i0) + 584, w2c_j1);
+  w2c_j0 = w2c_l9;
+  w2c_i0 = (u32)(w2c_j0);
+  w2c_j1 = w2c_l9;
+  w2c_i1 = (u32)(w2c_j1);
+  w2c_j1 = step_i64_load(memory, (u64)(w2c_i1) + 488u);
+  step_i64_store(memory, (u64)(w2c_i0) + 576, w2c_j1);
+  w2c_i0 = 4u;
+  w2c_l10 = w2c_i0;
+  w2c_j0 = w2c_p8;
+  w2c_i0 = !(w2c_j0);
+  if (w2c_i0) {goto w2c_B0;}
+  w2c_j0 = 0ull;
+  w2c_p2 = w2c_j0;
+  w2c_j0 = w2c_p5;
+  w2c_j1 = w2c_p5;
+  w2c_j2 = w2c_p8;
+  w2c_j1 = DIV_U(w2c_j1, w2c_j2);
+  w2c_p0 = w2c_j1;
+  w2c_j2 = w2c_p8;
+  w2c_j1 *= w2c_j2;
+  w2c_j0 -= w2c_j1;
+  w2c_j1 = 0ull;
+  w2c_i0 = w2c_j0 != w2c_j1;
+  if (w2c_i0) {goto w2c_B0;}
+  w2c_j0 = 12008468691120727718ull;
+  w2c_p3 = w2c_j0;
+  w2c_j0 = 12008468691120727718ull;
+  w2c_p1 = w2c_j0;
+  w2c_i0 = w2c_p6;
+  switch (w2c_i0) {
+    case 0: goto w2c_B5;
+    case 1: goto w2c_B7;
+    case 2: goto w2c_B6;
+    case 3: goto w2c_B8;
+    case 4: goto w2c_B9;
+    case 5: goto w2c_B0;
+    case 6: goto w2c_B0;
+    case 7: goto w2c_B0;
+    case 8: goto w2c_B5;
+    case 9: goto w2c_B7;
+    case 10: goto w2c_B6;
+    case 11: goto w2c_B8;
+    case 12: goto w2c_B9;
+    default: goto w2c_B0;
+  }
+  w2c_B9:;
+  w2c_j0 = 0ull;
+  w2c_p1 = w2c_j0;
+  w2c_j0 = w2c_p0;
+  w2c_j1 = 7ull;
+  w2c_j0 &= w2c_j1;
+  w2c_j1 = 0ull;
+  w2c_i0 = w2c_j0 != w2c_j1;
+  if (w2c_i0) {goto w2c_B0;}
+  w2c_j0 = w2c_p0;
+  w2c_j1 = 18446744073709551600ull;
+  w2c_j0 += w2c_j1;
+  w2c_j1 = 1048569ull;
+  w2c_i0 = w2c_j0 >= w2c_j1;
+  if (w2c_i0) {goto w2c_B0;}
+  w2c_i0 = 0u;
+  w2c_l11 = w2c_i0;
+  w2c_j0 = 0ull;
+  w2c_p2 = w2c_j0;
+  w2c_j0 = 0ull;
+  w2c_p5 = w2c_j0;
+  w2c_i0 = 0u;
+  w2c_l12 = w2c_i0;
+  goto w2c_B3;
+  w2c_B8:;
+  w2c_j0 = 0ull;
+  w2c_p3 = w2c_j0;
+  w2c_j0 = 1ull;
+  w2c_p2 = w2c_j0;
+  w2c_B7:;
+  w2c_j0 = w2c_p0;
+  w2c_j1 = 18446744073709551600ull;
+  w2c_j0 += w2c_j1;
+  w2c_j1 = 1048569ull;
+  w2c_i0 = w2c_j0 < w2c_j1;
+  w2c_l12 = w2c_i0;
+  w2c_i0 = 1u;
+  w2c_l11 = w2c_i0;
+  w2c_j0 = 0ull;
+  w2c_p5 = w2c_j0;
+  w2c_j0 = w2c_p3;
+  w2c_p1 = w2c_j0;
+  goto w2c_B4;
+  w2c_B6:;
+  w2c_j0 = 0ull;
+  w2c_p1 = w2c_j0;
+  w2c_j0 = 1ull;
+  w2c_p2 = w2c_j0;
+  w2c_B5:;
+  w2c_j0 = w2c_p0;
+  w2c_j1 = 18446744073709551592ull;
+  w2c_j0 += w2c_j1;
+  w2c_j1 = 1048561ull;
+  w2c_i0 = w2c_j0 < w2c_j1;
+  w2c_l12 = w2c_i0;
+  w2c_i0 = 0u;
+  w2c_l11 = w2c_i0;
+  w2c_j0 = 12008468691120727718ull;
+  w2c_p5 = w2c_j0;
+  w2c_B4:;
+  w2c_j0 = w2c_p0;
+  w2c_j1 = 7ull;
+  w2c_j0 &= w2c_j1;
+  w2c_j1 = 0ull;
+  w2c_i0 = w2c_j0 != w2c_j1;
+  if (w2c_i0) {goto w2c_B0;}
+  w2c_i0 = w2c_l12;
+  w2c_i0 = !(w2c_i0);
+  if (w2c_i0) {goto w2c_B0;}
+  w2c_i0 = 1u;
+  w2c_l12 = w2c_i0;
+  w2c_B3:;
+  w2c_j0 = w2c_p7;
+  w2c_j1 = 4096ull;
+  w2c_j2 = 0ull;
+  w2c_j3 = w2c_p7;
+  w2c_i3 = !(w2c_j3);
+  w2c_j1 = w2c_i3 ? w2c_j1 : w2c_j2;
+  w2c_j0 += w2c_j1;
+  w2c_p3 = w2c_j0;
+  w2c_j0 = w2c_p4;
+  w2c_j1 = 4096ull;
+  w2c_j2 = 0ull;
+  w2c_j3 = w2c_p4;
+  w2c_i3 = !(w2c_j3);
+  w2c_j1 = w2c_i3 ? w2c_j1 : w2c_j2;
+  w2c_j0 += w2c_j1;
+  w2c_p7 = w2c_j0;
+  w2c_j0 = w2c_l9;
+  w2c_j1 = 543ull;
+  w2c_j0 += w2c_j1;
+  w2c_i0 = (u32)(w2c_j0);
+  w2c_j1 = 0ull;
+  i64_store8(memory, (u64)(w2c_i0), w2c_j1);
+  w2c_j0 = w2c_l9;
+  w2c_j1 = 541ull;
+  w2c_j0 += w2c_j1;
+  w2c_i0 = (u32)(w2c_j0);
+  w2c_j1 = 0ull;
+  i64_store16(memory, (u64)(w2c_i0), w2c_j1);
+  w2c_j0 = w2c_l9;
+  w2c_i0 = (u32)(w2c_j0);
+  w2c_j1 = 0ull;
+  i64_store32(memory, (u64)(w2c_i0) + 537, w2c_j1);
+  w2c_j0 = w2c_l9;
+  w2c_i0 = (u32)(w2c_j0);
+  w2c_j1 = 0ull;
+  i64_store8(memory, (u64)(w2c_i0) + 535, w2c_j1);
+  w2c_j0 = w2c_l9;
+  w2c_i0 = (u32)(w2c_j0);
+  w2c_j1 = 0ull;
+  i64_store16(memory, (u64)(w2c_i0) + 533, w2c_j1);
+  w2c_j0 = w2c_l9;
+  w2c_i0 = (u32)(w2c_j0);
+  w2c_j1 = 0ull;
+  i64_store32(memory, (u64)(w2c_i0) + 529, w2c_j1);
+  w2c_i0 = 0u;
+  w2c_l10 = w2c_i0;
+  w2c_j0 = w2c_l9;
+  w2c_i0 = (u32)(w2c_j0);
+  w2c_i1 = 0u;
+  i32_store(memory, (u64)(w2c_i0) + 569, w2c_i1);
+  w2c_j0 = w2c_l9;
+  w2c_i0 = (u32)(w2c_j0);
+  w2c_j1 = w2c_p1;
+  step_i64_store(memory, (u64)(w2c_i0) + 560, w2c_j1);
+  w2c_j0 = w2c_l9;
+  w2c_i0 = (u32)(w2c_j0);
+  w2c_j1 = w2c_p2;
+  step_i64_store(memory, (u64)(w2c_i0) + 552, w2c_j1);
+  w2c_j0 = w2c_l9;
+  w2c_i0 = (u32)(w2c_j0);
+  w2c_j1 = w2c_p5;
+  step_i64_store(memory, (u64)(w2c_i0) + 544, w2c_j1);
+  w2c_j0 = w2c_l9;
+  w2c_i0 = (u32)(w2c_j0);
+  w2c_i1 = w2c_l11;
+  i32_store8(memory, (u64)(w2c_i0) + 536, w2c_i1);
+  w2c_j0 = w2c_l9;
+  w2c_i0 = (u32)(w2c_j0);
+  w2c_i1 = w2c_l12;
+  i32_store8(memory, (u64)(w2c_i0) + 528, w2c_i1);
+  w2c_j0 = w2c_l9;
+  w2c_i0 = (u32)(w2c_j0);
+  w2c_i1 = 0u;
+  i32_store(memory, (u64)(w2c_i0) + 572, w2c_i1);
+  w2c_j0 = w2c_l9;
+  w2c_i0 = (u32)(w2c_j0);
+  w2c_i1 = w2c_p6;
+  w2c_i2 = 7u;
+  w2c_i1 = w2c_i1 > w2c_i2;
+  i32_store8(memory, (u64)(w2c_i0) + 568, w2c_i1);
+  w2c_j0 = w2c_p0;
+  w2c_j1 = 16ull;
+  w2c_i0 = w2c_j0 == w2c_j1;
+  if (w2c_i0) {goto w2c_B10;}
+  w2c_j0 = w2c_p0;
+  w2c_j1 = 265ull;
+  w2c_i0 = w2c_j0 < w2c_j1;
+  if (w2c_i0) {goto w2c_B1;}
+  w2c_B10:;
+  w2c_j0 = w2c_l9;
+  w2c_j1 = 592ull;
+  w2c_j0 += w2c_j1;
+  w2c_j1 = w2c_l9;
+  w2c_j2 = 576ull;
+  w2c_j1 += w2c_j2;
+  w2c_j2 = w2c_l9;
+  w2c_j3 = 528ull;
+  w2c_j2 += w2c_j3;
+  w2c_j3 = w2c_p0;
+  w2c_j4 = w2c_p7;
+  w2c_j5 = w2c_p3;
+  w2c_j6 = w2c_p8;
+  w2c_f21(instance, w2c_j0, w2c_j1, w2c_j2, w2c_j3, w2c_j4, w2c_j5, w2c_j6);
+  goto w2c_B0;
+  w2c_B2:;
+  UNREACHABLE;
+  w2c_B1:;
+  w2c_j0 = w2c_l9;
+  w2c_j1 = 504ull;
+  w2c_j0 += w2c_j1;
+  w2c_j1 = 8ull;
+  w2c_j0 += w2c_j1;
+  w2c_j1 = w2c_l9;
+  w2c_j2 = 480ull;
+  w2c_j1 += w2c_j2;
+  w2c_j2 = 8ull;
+  w2c_j1 += w2c_j2;
+  w2c_j2 = w2c_l9;
+  w2c_j3 = 528ull;
+  w2c_j2 += w2c_j3;
+  w2c_j3 = w2c_p0;
+  w2c_j4 = w2c_p7;
+  w2c_j5 = w2c_p3;
+  w2c_j6 = w2c_p8;
+  w2c_f22(instance, w2c_j0, w2c_j1, w2c_j2, w2c_j3, w2c_j4, w2c_j5, w2c_j6);
+  w2c_i0 = 0u;
+  w2c_l10 = w2c_i0;
+  w2c_B0:;
+  w2c_j0 = w2c_l9;
+  w2c_j1 = 240ull;
+  w2c_j0 += w2c_j1;
+  leaf_clear(memory, w2c_j0);
+  w2c_j0 = w2c_l9;
+  leaf_clear(memory, w2c_j0);
+  w2c_j0 = w2c_l9;
+  w2c_j1 = 608ull;
+  w2c_j0 += w2c_j1;
+  instance->w2c_g0 = w2c_j0;
+  w2c_i0 = w2c_l10;
+  return w2c_i0;
+}
+static u32 w2c_aes_self_test(struct instance *instance) {
+  u32 w2c_l0 = 0;
+  const struct memory memory = instance->w2c_memory;
+  (void)memory;
+  u32 w2c_i0;
+  w2c_i0 = w2c_f6(instance);
+  w2c_i0 = !(w2c_i0);
+  if (w2c_i0) {goto w2c_B0;}
+  w2c_f8(instance);
+  UNREACHABLE;
+  w2c_B0:;
+  w2c_i0 = w2c_f67(instance);
+  w2c_l0 = w2c_i0;
+  w2c_f7(instance);
+  w2c_i0 = w2c_l0;
+  return w2c_i0;
+}
+static u32 w2c_f67(struct instance *instance) {
+  u32 w2c_l1 = 0, w2c_l2 = 0, w2c_l3 = 0, w2c_l4 = 0, w2c_l5 = 0, w2c_l6 = 0, w2c_l7 = 0, w2c_l8 = 0, 
+      w2c_l9 = 0;
+  u64 w2c_l0 = 0;
+  const struct memory memory = instance->w2c_memory;
+  (void)memory;
+  u32 w2c_i0, w2c_i1, w2c_i2, w2c_i3;
+  u64 w2c_j0, w2c_j1, w2c_j2, w2c_j3, w2c_j4, w2c_j5;
+  w2c_j0 = instance->w2c_g0;
+  w2c_j1 = 16ull;
+  w2c_j0 -= w2c_j1;
+  w2c_l0 = w2c_j0;
+  instance->w2c_g0 = w2c_j0;
+  w2c_j0 = w2c_l0;
+  w2c_l0 = w2c_j0;
+  w2c_j1 = 15ull;
+  w2c_i0 = (u64)((s64)w2c_j0 > (s64)w2c_j1);
+  if (w2c_i0) {goto w2c_B0;}
+  UNREACHABLE;
+  w2c_B0:;
+  w2c_j0 = 65576ull;
+  w2c_j1 = 16ull;
+  w2c_j2 = 65592ull;
+  w2c_j3 = 16ull;
+  w2c_j4 = 65608ull;
+  w2c_j5 = 24ull;
+  w2c_i0 = w2c_f26(instance, w2c_j0, w2c_j1, w2c_j2, w2c_j3, w2c_j4, w2c_j5);
+  w2c_l1 = w2c_i0;
+  w2c_j0 = 65632ull;
+  w2c_j1 = 24ull;
+  w2c_j2 = 65592ull;
+  w2c_j3 = 16ull;
+  w2c_j4 = 65656ull;
+  w2c_j5 = 24ull;
+  w2c_i0 = w2c_f26(instance, w2c_j0, w2c_j1, w2c_j2, w2c_j3, w2c_j4, w2c_j5);
+  w2c_l2 = w2c_i0;
+  w2c_j0 = 65680ull;
+  w2c_j1 = 32ull;
+  w2c_j2 = 65592ull;
+  w2c_j3 = 16ull;
+  w2c_j4 = 65712ull;
+  w2c_j5 = 24ull;
+  w2c_i0 = w2c_f26(instance, w2c_j0, w2c_j1, w2c_j2, w2c_j3, w2c_j4, w2c_j5);
+  w2c_l3 = w2c_i0;
+  w2c_j0 = 65632ull;
+  w2c_j1 = 24ull;
+  w2c_j2 = 65736ull;
+  w2c_j3 = 24ull;
+  w2c_j4 = 65760ull;
+  w2c_j5 = 32ull;
+  w2c_i0 = w2c_f26(instance, w2c_j0, w2c_j1, w2c_j2, w2c_j3, w2c_j4, w2c_j5);
+  w2c_l4 = w2c_i0;
+  w2c_j0 = 65680ull;
+  w2c_j1 = 32ull;
+  w2c_j2 = 65736ull;
+  w2c_j3 = 24ull;
+  w2c_j4 = 65792ull;
+  w2c_j5 = 32ull;
+  w2c_i0 = w2c_f26(instance, w2c_j0, w2c_j1, w2c_j2, w2c_j3, w2c_j4, w2c_j5);
+  w2c_l5 = w2c_i0;
+  w2c_j0 = 65680ull;
+  w2c_j1 = 32ull;
+  w2c_j2 = 65824ull;
+  w2c_j3 = 32ull;
+  w2c_j4 = 65856ull;
+  w2c_j5 = 40ull;
+  w2c_i0 = w2c_f26(instance, w2c_j0, w2c_j1, w2c_j2, w2c_j3, w2c_j4, w2c_j5);
+  w2c_l6 = w2c_i0;
+  w2c_j0 = 65920ull;
+  w2c_j1 = 20ull;
+  w2c_j2 = 65940ull;
+  w2c_j3 = 32ull;
+  w2c_i0 = w2c_f30(instance, w2c_j0, w2c_j1, w2c_j2, w2c_j3);
+  w2c_l7 = w2c_i0;
+  w2c_j0 = 65972ull;
+  w2c_j1 = 7ull;
+  w2c_j2 = 65979ull;
+  w2c_j3 = 16ull;
+  w2c_i0 = w2c_f30(instance, w2c_j0, w2c_j1, w2c_j2, w2c_j3);
+  w2c_l8 = w2c_i0;
+  w2c_j0 = w2c_l0;
+  w2c_i0 = (u32)(w2c_j0);
+  w2c_j1 = 0ull;
+  step_i64_store(memory, (u64)(w2c_i0) + 8, w2c_j1);
+  w2c_j0 = w2c_l0;
+  w2c_i0 = (u32)(w2c_j0);
+  w2c_j1 = 0ull;
+  step_i64_store(memory, (u64)(w2c_i0), w2c_j1);
+  w2c_j0 = 65576ull;
+  w2c_j1 = 16ull;
+  w2c_j2 = 65995ull;
+  w2c_j3 = 24ull;
+  w2c_j4 = w2c_l0;
+  w2c_j5 = 16ull;
+  w2c_i0 = w2c_f29(instance, w2c_j0, w2c_j1, w2c_j2, w2c_j3, w2c_j4, w2c_j5);
+  w2c_l9 = w2c_i0;
+  w2c_j0 = w2c_l0;
+  w2c_j1 = 16ull;
+  w2c_j0 += w2c_j1;
+  instance->w2c_g0 = w2c_j0;
+  w2c_i0 = 0u;
+  w2c_i1 = 5u;
+  w2c_i2 = w2c_l9;
+  w2c_i3 = 5u;
+  w2c_i2 = w2c_i2 == w2c_i3;
+  w2c_i0 = w2c_i2 ? w2c_i0 : w2c_i1;
+  w2c_i1 = 5u;
+  w2c_i2 = w2c_l8;
+  w2c_i0 = w2c_i2 ? w2c_i0 : w2c_i1;
+  w2c_i1 = 5u;
+  w2c_i2 = w2c_l7;
+  w2c_i0 = w2c_i2 ? w2c_i0 : w2c_i1;
+  w2c_i1 = 5u;
+  w2c_i2 = w2c_l6;
+  w2c_i0 = w2c_i2 ? w2c_i0 : w2c_i1;
+  w2c_i1 = 5u;
+  w2c_i2 = w2c_l5;
+  w2c_i0 = w2c_i2 ? w2c_i0 : w2c_i1;
+  w2c_i1 = 5u;
+  w2c_i2 = w2c_l4;
+  w2c_i0 = w2c_i2 ? w2c_i0 : w2c_i1;
+  w2c_i1 = 5u;
+  w2c_i2 = w2c_l3;
+  w2c_i0 = w2c_i2 ? w2c_i0 : w2c_i1;
+  w2c_i1 = 5u;
+  w2c_i2 = w2c_l2;
+  w2c_i0 = w2c_i2 ? w2c_i0 : w2c_i1;
+  w2c_i1 = 5u;
+  w2c_i2 = w2c_l1;
+  w2c_i0 = w2c_i2 ? w2c_i0 : w2c_i1;
+  return w2c_i0;
+}
+static u32 w2c_aes_unwrap(struct instance *instance, u64 w2c_p0, u64 w2c_p1, u64 w2c_p2, u64 w2c_p3, u64 w2c_p4, u64 w2c_p5) {
+  u32 w2c_l6 = 0;
+  const struct memory memory = instance->w2c_memory;
+  (void)memory;
+  u32 w2c_i0;
+  u64 w2c_j0, w2c_j1, w2c_j2, w2c_j3, w2c_j4, w2c_j5;
+  w2c_i0 = w2c_f6(instance);
+  w2c_i0 = !(w2c_i0);
+  if (w2c_i0) {goto w2c_B0;}
+  w2c_f8(instance);
+  UNREACHABLE;
+  w2c_B0:;
+  w2c_j0 = w2c_p0;
+  w2c_j1 = w2c_p1;
+  w2c_j2 = w2c_p2;
+  w2c_j3 = w2c_p3;
+  w2c_j4 = w2c_p4;
+  w2c_j5 = w2c_p5;
+  w2c_i0 = w2c_f69(instance, w2c_j0, w2c_j1, w2c_j2, w2c_j3, w2c_j4, w2c_j5);
+  w2c_l6 = w2c_i0;
+  w2c_f7(instance);
+  w2c_i0 = w2c_l6;
+  return w2c_i0;
+}
+static u32 w2c_f69(struct instance *instance, u64 w2c_p0, u64 w2c_p1, u64 w2c_p2, u64 w2c_p3, u64 w2c_p4, u64 w2c_p5) {
+  const struct memory memory = instance->w2c_memory;
+  (void)memory;
+  u32 w2c_i0, w2c_i3, w2c_i5, w2c_i7;
+  u64 w2c_j0, w2c_j1, w2c_j2, w2c_j3, w2c_j4, w2c_j5, w2c_j6, w2c_j7;
+  w2c_j0 = w2c_p0;
+  w2c_j1 = 4096ull;
+  w2c_j2 = 0ull;
+  w2c_j3 = w2c_p0;
+  w2c_i3 = !(w2c_j3);
+  w2c_j1 = w2c_i3 ? w2c_j1 : w2c_j2;
+  w2c_j0 += w2c_j1;
+  w2c_j1 = w2c_p1;
+  w2c_j2 = w2c_p2;
+  w2c_j3 = 4096ull;
+  w2c_j4 = 0ull;
+  w2c_j5 = w2c_p2;
+  w2c_i5 = !(w2c_j5);
+  w2c_j3 = w2c_i5 ? w2c_j3 : w2c_j4;
+  w2c_j2 += w2c_j3;
+  w2c_j3 = w2c_p3;
+  w2c_j4 = w2c_p4;
+  w2c_j5 = 4096ull;
+  w2c_j6 = 0ull;
+  w2c_j7 = w2c_p4;
+  w2c_i7 = !(w2c_j7);
+  w2c_j5 = w2c_i7 ? w2c_j5 : w2c_j6;
+  w2c_j4 += w2c_j5;
+  w2c_j5 = w2c_p5;
+  w2c_i0 = w2c_f29(instance, w2c_j0, w2c_j1, w2c_j2, w2c_j3, w2c_j4, w2c_j5);
+  return w2c_i0;
+}
+static u32 w2c_aes_unwrap_any(struct instance *instance, u64 w2c_p0, u64 w2c_p1, u64 w2c_p2, u64 w2c_p3, u64 w2c_p4, u64 w2c_p5, u64 w2c_p6, u64 w2c_p7) {
+  u32 w2c_l8 = 0;
+  const struct memory memory = instance->w2c_memory;
+  (void)memory;
+  u32 w2c_i0;
+  u64 w2c_j0, w2c_j1, w2c_j2, w2c_j3, w2c_j4, w2c_j5, w2c_j6, w2c_j7;
+  w2c_i0 = w2c_f6(instance);
+  w2c_i0 = !(w2c_i0);
+  if (w2c_i0) {goto w2c_B0;}
+  w2c_f8(instance);
+  UNREACHABLE;
+  w2c_B0:;
+  w2c_j0 = w2c_p0;
+  w2c_j1 = w2c_p1;
+  w2c_j2 = w2c_p2;
+  w2c_j3 = w2c_p3;
+  w2c_j4 = w2c_p4;
+  w2c_j5 = w2c_p5;
+  w2c_j6 = w2c_p6;
+  w2c_j7 = w2c_p7;
+  w2c_i0 = w2c_f71(instance, w2c_j0, w2c_j1, w2c_j2, w2c_j3, w2c_j4, w2c_j5, w2c_j6, w2c_j7);
+  w2c_l8 = w2c_i0;
+  w2c_f7(instance);
+  w2c_i0 = w2c_l8;
+  return w2c_i0;
+}
+static u32 w2c_f71(struct instance *instance, u64 w2c_p0, u64 w2c_p1, u64 w2c_p2, u64 w2c_p3, u64 w2c_p4, u64 w2c_p5, u64 w2c_p6, u64 w2c_p7) {
+  u32 w2c_l9 = 0;
+  u64 w2c_l8 = 0;
+  const struct memory memory = instance->w2c_memory;
+  (void)memory;
+  u32 w2c_i0, w2c_i1, w2c_i2, w2c_i4, w2c_i6, w2c_i8;
+  u64 w2c_j0, w2c_j1, w2c_j2, w2c_j3, w2c_j4, w2c_j5, w2c_j6, w2c_j7, 
+      w2c_j8;
+  w2c_j0 = instance->w2c_g0;
+  w2c_j1 = 336ull;
+  w2c_j0 -= w2c_j1;
+  w2c_l8 = w2c_j0;
+  instance->w2c_g0 = w2c_j0;
+  w2c_j0 = w2c_l8;
+  w2c_l8 = w2c_j0;
+  w2c_j1 = 16ull;
+  w2c_i0 = (u64)((s64)w2c_j0 < (s64)w2c_j1);
+  if (w2c_i0) {goto w2c_B2;}
+  w2c_j0 = w2c_l8;
+  w2c_j1 = 8ull;
+  w2c_j0 += w2c_j1;
+  w2c_i0 = (u32)(w2c_j0);
+  w2c_i1 = 0u;
+  w2c_j2 = 240ull;
+  w2c_i2 = (u32)(w2c_j2);
+  memory_fill(memory, w2c_i0, w2c_i1, w2c_i2);
+  w2c_j0 = w2c_p6;
+  w2c_i0 = (u32)(w2c_j0);
+  w2c_i1 = 0u;
+  i32_store(memory, (u64)(w2c_i0), w2c_i1);
+  w2c_j0 = w2c_p7;
+  w2c_i0 = (u32)(w2c_j0);
+  w2c_j1 = 0ull;
+  step_i64_store(memory, (u64)(w2c_i0), w2c_j1);
+  w2c_j0 = w2c_l8;
+  w2c_i0 = (u32)(w2c_j0);
+  w2c_j1 = 0ull;
+  step_i64_store(memory, (u64)(w2c_i0) + 296, w2c_j1);
+  w2c_j0 = w2c_l8;
+  w2c_i0 = (u32)(w2c_j0);
+  w2c_j1 = 0ull;
+  step_i64_store(memory, (u64)(w2c_i0) + 304, w2c_j1);
+  w2c_j0 = w2c_l8;
+  w2c_i0 = (u32)(w2c_j0);
+  w2c_j1 = 0ull;
+  step_i64_store(memory, (u64)(w2c_i0) + 312, w2c_j1);
+  w2c_j0 = w2c_l8;
+  w2c_i0 = (u32)(w2c_j0);
+  w2c_j1 = 0ull;
+  step_i64_store(memory, (u64)(w2c_i0) + 272, w2c_j1);
+  w2c_j0 = w2c_l8;
+  w2c_i0 = (u32)(w2c_j0);
+  w2c_j1 = 0ull;
+  step_i64_store(memory, (u64)(w2c_i0) + 280, w2c_j1);
+  w2c_j0 = w2c_l8;
+  w2c_i0 = (u32)(w2c_j0);
+  w2c_j1 = 0ull;
+  step_i64_store(memory, (u64)(w2c_i0) + 288, w2c_j1);
+  w2c_j0 = w2c_l8;
+  w2c_j1 = 296ull;
+  w2c_j0 += w2c_j1;
+  w2c_j1 = w2c_p0;
+  w2c_j2 = 4096ull;
+  w2c_j3 = 0ull;
+  w2c_j4 = w2c_p0;
+  w2c_i4 = !(w2c_j4);
+  w2c_j2 = w2c_i4 ? w2c_j2 : w2c_j3;
+  w2c_j1 += w2c_j2;
+  w2c_j2 = w2c_p1;
+  w2c_j3 = w2c_l8;
+  w2c_j4 = 8ull;
+  w2c_j3 += w2c_j4;
+  w2c_f10(instance, w2c_j0, w2c_j1, w2c_j2, w2c_j3);
+  w2c_i0 = 3u;
+  w2c_l9 = w2c_i0;
+  w2c_j0 = w2c_l8;
+  w2c_i0 = (u32)(w2c_j0);
+  w2c_i0 = i32_load8_u(memory, (u64)(w2c_i0) + 296u);
+  w2c_i1 = 1u;
+  w2c_i0 = w2c_i0 != w2c_i1;
+  if (w2c_i0) {goto w2c_B0;}
+  w2c_j0 = w2c_l8;
+  w2c_i0 = (u32)(w2c_j0);
+  w2c_j1 = w2c_l8;
+  w2c_i1 = (u32)(w2c_j1);
+  w2c_j1 = step_i64_load(memory, (u64)(w2c_i1) + 312u);
+  step_i64_store(memory, (u64)(w2c_i0) + 328, w2c_j1);
+  w2c_j0 = w2c_l8;
+  w2c_i0 = (u32)(w2c_j0);
+  w2c_j1 = w2c_l8;
+  w2c_i1 = (u32)(w2c_j1);
+  w2c_j1 = step_i64_load(memory, (u64)(w2c_i1) + 304u);
+  step_i64_store(memory, (u64)(w2c_i0) + 320, w2c_j1);
+  w2c_j0 = w2c_l8;
+  w2c_i0 = (u32)(w2c_j0);
+  w2c_j1 = 0ull;
+  step_i64_store(memory, (u64)(w2c_i0) + 264, w2c_j1);
+  w2c_j0 = w2c_l8;
+  w2c_i0 = (u32)(w2c_j0);
+  w2c_j1 = 12008468691120727718ull;
+  step_i64_store(memory, (u64)(w2c_i0) + 248, w2c_j1);
+  w2c_j0 = w2c_l8;
+  w2c_i0 = (u32)(w2c_j0);
+  w2c_j1 = w2c_l8;
+  w2c_j2 = 320ull;
+  w2c_j1 += w2c_j2;
+  step_i64_store(memory, (u64)(w2c_i0) + 256, w2c_j1);
+  w2c_j0 = w2c_l8;
+  w2c_j1 = 272ull;
+  w2c_j0 += w2c_j1;
+  w2c_j1 = w2c_l8;
+  w2c_j2 = 256ull;
+  w2c_j1 += w2c_j2;
+  w2c_j2 = w2c_l8;
+  w2c_j3 = 248ull;
+  w2c_j2 += w2c_j3;
+  w2c_j3 = w2c_p2;
+  w2c_j4 = 4096ull;
+  w2c_j5 = 0ull;
+  w2c_j6 = w2c_p2;
+  w2c_i6 = !(w2c_j6);
+  w2c_j4 = w2c_i6 ? w2c_j4 : w2c_j5;
+  w2c_j3 += w2c_j4;
+  w2c_j4 = w2c_p3;
+  w2c_j5 = w2c_p4;
+  w2c_j6 = 4096ull;
+  w2c_j7 = 0ull;
+  w2c_j8 = w2c_p4;
+  w2c_i8 = !(w2c_j8);
+  w2c_j6 = w2c_i8 ? w2c_j6 : w2c_j7;
+  w2c_j5 += w2c_j6;
+  w2c_j6 = w2c_p5;
+  w2c_f11(instance, w2c_j0, w2c_j1, w2c_j2, w2c_j3, w2c_j4, w2c_j5, w2c_j6);
+  w2c_j0 = w2c_l8;
+  w2c_i0 = (u32)(w2c_j0);
+  w2c_i0 = i32_load8_u(memory, (u64)(w2c_i0) + 272u);
+  if (w2c_i0) {goto w2c_B1;}
+  w2c_j0 = w2c_p7;
+  w2c_i0 = (u32)(w2c_j0);
+  w2c_j1 = w2c_l8;
+  w2c_i1 = (u32)(w2c_j1);
+  w2c_j1 = step_i64_load(memory, (u64)(w2c_i1) + 288u);
+  step_i64_store(memory, (u64)(w2c_i0), w2c_j1);
+  w2c_i0 = 0u;
+  w2c_l9 = w2c_i0;
+  w2c_j0 = w2c_p6;
+  w2c_i0 = (u32)(w2c_j0);
+  w2c_j1 = w2c_l8;
+  w2c_i1 = (u32)(w2c_j1);
+  w2c_i1 = i32_load8_u(memory, (u64)(w2c_i1) + 280u);
+  w2c_i2 = 0u;
+  w2c_i1 = w2c_i1 != w2c_i2;
+  i32_store(memory, (u64)(w2c_i0), w2c_i1);
+  goto w2c_B0;
+  w2c_B2:;
+  UNREACHABLE;
+  w2c_B1:;
+  w2c_i0 = 5u;
+  w2c_i1 = 4u;
+  w2c_j2 = w2c_l8;
+  w2c_i2 = (u32)(w2c_j2);
+  w2c_i2 = i32_load8_u(memory, (u64)(w2c_i2) + 273u);
+  w2c_i0 = w2c_i2 ? w2c_i0 : w2c_i1;
+  w2c_l9 = w2c_i0;
+  w2c_B0:;
+  w2c_j0 = w2c_l8;
+  w2c_j1 = 8ull;
+  w2c_j0 += w2c_j1;
+  leaf_clear(memory, w2c_j0);
+  w2c_j0 = w2c_l8;
+  w2c_j1 = 336ull;
+  w2c_j0 += w2c_j1;
+  instance->w2c_g0 = w2c_j0;
+  w2c_i0 = w2c_l9;
+  return w2c_i0;
+}
+static u32 w2c_aes_unwrap_in_place(struct instance *instance, u64 w2c_p0, u64 w2c_p1, u64 w2c_p2, u64 w2c_p3) {
+  u32 w2c_l4 = 0;
+  const struct memory memory = instance->w2c_memory;
+  (void)memory;
+  u32 w2c_i0;
+  u64 w2c_j0, w2c_j1, w2c_j2, w2c_j3;
+  w2c_i0 = w2c_f6(instance);
+  w2c_i0 = !(w2c_i0);
+  if (w2c_i0) {goto w2c_B0;}
+  w2c_f8(instance);
+  UNREACHABLE;
+  w2c_B0:;
+  w2c_j0 = w2c_p0;
+  w2c_j1 = w2c_p1;
+  w2c_j2 = w2c_p2;
+  w2c_j3 = w2c_p3;
+  w2c_i0 = w2c_f73(instance, w2c_j0, w2c_j1, w2c_j2, w2c_j3);
+  w2c_l4 = w2c_i0;
+  w2c_f7(instance);
+  w2c_i0 = w2c_l4;
+  return w2c_i0;
+}
+static u32 w2c_f73(struct instance *instance, u64 w2c_p0, u64 w2c_p1, u64 w2c_p2, u64 w2c_p3) {
+  u32 w2c_l5 = 0;
+  u64 w2c_l4 = 0;
+  const struct memory memory = instance->w2c_memory;
+  (void)memory;
+  u32 w2c_i0, w2c_i1, w2c_i2, w2c_i3, w2c_i4;
+  u64 w2c_j0, w2c_j1, w2c_j2, w2c_j3, w2c_j4, w2c_j5, w2c_j6;
+  w2c_j0 = instance->w2c_g0;
+  w2c_j1 = 304ull;
+  w2c_j0 -= w2c_j1;
+  w2c_l4 = w2c_j0;
+  instance->w2c_g0 = w2c_j0;
+  w2c_j0 = w2c_l4;
+  w2c_l4 = w2c_j0;
+  w2c_j1 = 16ull;
+  w2c_i0 = (u64)((s64)w2c_j0 < (s64)w2c_j1);
+  if (w2c_i0) {goto w2c_B0;}
+  w2c_j0 = w2c_l4;
+  w2c_j1 = 8ull;
+  w2c_j0 += w2c_j1;
+  w2c_i0 = (u32)(w2c_j0);
+  w2c_i1 = 0u;
+  w2c_j2 = 240ull;
+  w2c_i2 = (u32)(w2c_j2);
+  memory_fill(memory, w2c_i0, w2c_i1, w2c_i2);
+  w2c_j0 = w2c_l4;
+  w2c_i0 = (u32)(w2c_j0);
+  w2c_j1 = 0ull;
+  step_i64_store(memory, (u64)(w2c_i0) + 264, w2c_j1);
+  w2c_j0 = w2c_l4;
+  w2c_i0 = (u32)(w2c_j0);
+  w2c_j1 = 0ull;
+  step_i64_store(memory, (u64)(w2c_i0) + 256, w2c_j1);
+  w2c_j0 = w2c_l4;
+  w2c_i0 = (u32)(w2c_j0);
+  w2c_j1 = 0ull;
+  step_i64_store(memory, (u64)(w2c_i0) + 248, w2c_j1);
+  w2c_j0 = w2c_l4;
+  w2c_j1 = 248ull;
+  w2c_j0 += w2c_j1;
+  w2c_j1 = w2c_p0;
+  w2c_j2 = 4096ull;
+  w2c_j3 = 0ull;
+  w2c_j4 = w2c_p0;
+  w2c_i4 = !(w2c_j4);
+  w2c_j2 = w2c_i4 ? w2c_j2 : w2c_j3;
+  w2c_j1 += w2c_j2;
+  w2c_j2 = w2c_p1;
+  w2c_j3 = w2c_l4;
+  w2c_j4 = 8ull;
+  w2c_j3 += w2c_j4;
+  w2c_f10(instance, w2c_j0, w2c_j1, w2c_j2, w2c_j3);
+  w2c_i0 = 3u;
+  w2c_l5 = w2c_i0;
+  w2c_j0 = w2c_l4;
+  w2c_i0 = (u32)(w2c_j0);
+  w2c_i0 = i32_load8_u(memory, (u64)(w2c_i0) + 248u);
+  w2c_i1 = 1u;
+  w2c_i0 = w2c_i0 != w2c_i1;
+  if (w2c_i0) {goto w2c_B1;}
+  w2c_j0 = w2c_l4;
+  w2c_i0 = (u32)(w2c_j0);
+  w2c_j1 = w2c_l4;
+  w2c_i1 = (u32)(w2c_j1);
+  w2c_j1 = step_i64_load(memory, (u64)(w2c_i1) + 264u);
+  step_i64_store(memory, (u64)(w2c_i0) + 280, w2c_j1);
+  w2c_j0 = w2c_l4;
+  w2c_i0 = (u32)(w2c_j0);
+  w2c_j1 = w2c_l4;
+  w2c_i1 = (u32)(w2c_j1);
+  w2c_j1 = step_i64_load(memory, (u64)(w2c_i1) + 256u);
+  step_i64_store(memory, (u64)(w2c_i0) + 272, w2c_j1);
+  w2c_j0 = w2c_l4;
+  w2c_i0 = (u32)(w2c_j0);
+  w2c_j1 = 0ull;
+  step_i64_store(memory, (u64)(w2c_i0) + 296, w2c_j1);
+  w2c_j0 = w2c_l4;
+  w2c_i0 = (u32)(w2c_j0);
+  w2c_j1 = w2c_l4;
+  w2c_j2 = 272ull;
+  w2c_j1 += w2c_j2;
+  step_i64_store(memory, (u64)(w2c_i0) + 288, w2c_j1);
+  w2c_i0 = 4u;
+  w2c_l5 = w2c_i0;
+  w2c_j0 = w2c_p3;
+  w2c_j1 = 7ull;
+  w2c_j0 &= w2c_j1;
+  w2c_j1 = 0ull;
+  w2c_i0 = w2c_j0 != w2c_j1;
+  if (w2c_i0) {goto w2c_B1;}
+  w2c_j0 = w2c_p3;
+  w2c_j1 = 18446744073709551592ull;
+  w2c_j0 += w2c_j1;
+  w2c_j1 = 1048560ull;
+  w2c_i0 = w2c_j0 > w2c_j1;
+  if (w2c_i0) {goto w2c_B1;}
+  w2c_j0 = w2c_p2;
+  w2c_j1 = 4096ull;
+  w2c_j2 = 0ull;
+  w2c_j3 = w2c_p2;
+  w2c_i3 = !(w2c_j3);
+  w2c_j1 = w2c_i3 ? w2c_j1 : w2c_j2;
+  w2c_j0 += w2c_j1;
+  w2c_p1 = w2c_j0;
+  w2c_i0 = (u32)(w2c_j0);
+  w2c_j0 = step_i64_load(memory, (u64)(w2c_i0));
+  w2c_p0 = w2c_j0;
+  w2c_j0 = w2c_p1;
+  w2c_i0 = (u32)(w2c_j0);
+  w2c_j1 = 0ull;
+  step_i64_store(memory, (u64)(w2c_i0), w2c_j1);
+  w2c_j0 = w2c_l4;
+  w2c_j1 = w2c_l4;
+  w2c_j2 = 288ull;
+  w2c_j1 += w2c_j2;
+  w2c_j2 = w2c_p0;
+  w2c_j3 = 56ull;
+  w2c_j2 <<= (w2c_j3 & 63);
+  w2c_j3 = w2c_p0;
+  w2c_j4 = 65280ull;
+  w2c_j3 &= w2c_j4;
+  w2c_j4 = 40ull;
+  w2c_j3 <<= (w2c_j4 & 63);
+  w2c_j2 |= w2c_j3;
+  w2c_j3 = w2c_p0;
+  w2c_j4 = 16711680ull;
+  w2c_j3 &= w2c_j4;
+  w2c_j4 = 24ull;
+  w2c_j3 <<= (w2c_j4 & 63);
+  w2c_j4 = w2c_p0;
+  w2c_j5 = 4278190080ull;
+  w2c_j4 &= w2c_j5;
+  w2c_j5 = 8ull;
+  w2c_j4 <<= (w2c_j5 & 63);
+  w2c_j3 |= w2c_j4;
+  w2c_j2 |= w2c_j3;
+  w2c_j3 = w2c_p0;
+  w2c_j4 = 8ull;
+  w2c_j3 >>= (w2c_j4 & 63);
+  w2c_j4 = 4278190080ull;
+  w2c_j3 &= w2c_j4;
+  w2c_j4 = w2c_p0;
+  w2c_j5 = 24ull;
+  w2c_j4 >>= (w2c_j5 & 63);
+  w2c_j5 = 16711680ull;
+  w2c_j4 &= w2c_j5;
+  w2c_j3 |= w2c_j4;
+  w2c_j4 = w2c_p0;
+  w2c_j5 = 40ull;
+  w2c_j4 >>= (w2c_j5 & 63);
+  w2c_j5 = 65280ull;
+  w2c_j4 &= w2c_j5;
+  w2c_j5 = w2c_p0;
+  w2c_j6 = 56ull;
+  w2c_j5 >>= (w2c_j6 & 63);
+  w2c_j4 |= w2c_j5;
+  w2c_j3 |= w2c_j4;
+  w2c_j2 |= w2c_j3;
+  w2c_j3 = w2c_p1;
+  w2c_j4 = 8ull;
+  w2c_j3 += w2c_j4;
+  w2c_p0 = w2c_j3;
+  w2c_j4 = w2c_p3;
+  w2c_j5 = 18446744073709551608ull;
+  w2c_j4 += w2c_j5;
+  w2c_p3 = w2c_j4;
+  w2c_j1 = w2c_f12(instance, w2c_j1, w2c_j2, w2c_j3, w2c_j4);
+  w2c_j2 = 12008468691120727718ull;
+  w2c_j1 ^= w2c_j2;
+  w2c_j2 = w2c_p0;
+  w2c_j3 = w2c_p3;
+  w2c_f13(instance, w2c_j0, w2c_j1, w2c_j2, w2c_j3);
+  w2c_i0 = 5u;
+  w2c_i1 = 4u;
+  w2c_j2 = w2c_l4;
+  w2c_i2 = (u32)(w2c_j2);
+  w2c_i2 = i32_load8_u(memory, (u64)(w2c_i2) + 1u);
+  w2c_i3 = 255u;
+  w2c_i2 &= w2c_i3;
+  w2c_i0 = w2c_i2 ? w2c_i0 : w2c_i1;
+  w2c_i1 = 0u;
+  w2c_j2 = w2c_l4;
+  w2c_i2 = (u32)(w2c_j2);
+  w2c_i2 = i32_load8_u(memory, (u64)(w2c_i2));
+  w2c_i3 = 1u;
+  w2c_i2 &= w2c_i3;
+  w2c_i0 = w2c_i2 ? w2c_i0 : w2c_i1;
+  w2c_l5 = w2c_i0;
+  w2c_B1:;
+  w2c_j0 = w2c_l4;
+  w2c_j1 = 8ull;
+  w2c_j0 += w2c_j1;
+  leaf_clear(memory, w2c_j0);
+  w2c_j0 = w2c_l4;
+  w2c_j1 = 304ull;
+  w2c_j0 += w2c_j1;
+  instance->w2c_g0 = w2c_j0;
+  w2c_i0 = w2c_l5;
+  goto w2c_Bfunc;
+  w2c_B0:;
+  UNREACHABLE;
+  w2c_Bfunc:;
+  return w2c_i0;
+}
+static u32 w2c_aes_unwrap_many(struct instance *instance, u64 w2c_p0, u64 w2c_p1, u64 w2c_p2, u64 w2c_p3, u32 w2c_p4, u64 w2c_p5, u64 w2c_p6, u64 w2c_p7, 
+    u64 w2c_p8) {
+  const struct memory memory = instance->w2c_memory;
+  (void)memory;
+  u32 w2c_i0, w2c_i4;
+  u64 w2c_j0, w2c_j1, w2c_j2, w2c_j3, w2c_j5, w2c_j6, w2c_j7, w2c_j8;
+  w2c_i0 = w2c_f6(instance);
+  w2c_i0 = !(w2c_i0);
+  if (w2c_i0) {goto w2c_B0;}
+  w2c_f8(instance);
+  UNREACHABLE;
+  w2c_B0:;
+  w2c_j0 = w2c_p0;
+  w2c_j1 = w2c_p1;
+  w2c_j2 = w2c_p2;
+  w2c_j3 = w2c_p3;
+  w2c_i4 = w2c_p4;
+  w2c_j5 = w2c_p5;
+  w2c_j6 = w2c_p6;
+  w2c_j7 = w2c_p7;
+  w2c_j8 = w2c_p8;
+  w2c_i0 = w2c_f75(instance, w2c_j0, w2c_j1, w2c_j2, w2c_j3, w2c_i4, w2c_j5, w2c_j6, w2c_j7, w2c_j8);
+  w2c_p4 = w2c_i0;
+  w2c_f7(instance);
+  w2c_i0 = w2c_p4;
+  return w2c_i0;
+}
+static u32 w2c_f75(struct instance *instance, u64 w2c_p0, u64 w2c_p1, u64 w2c_p2, u64 w2c_p3, u32 w2c_p4, u64 w2c_p5, u64 w2c_p6, u64 w2c_p7, 
+    u64 w2c_p8) {
+  u32 w2c_l10 = 0, w2c_l11 = 0, w2c_l12 = 0;
+  u64 w2c_l9 = 0;
+  const struct memory memory = instance->w2c_memory;
+  (void)memory;
+  u32 w2c_i0, w2c_i1, w2c_i2, w2c_i3, w2c_i4;
+  u64 w2c_j0, w2c_j1, w2c_j2, w2c_j3, w2c_j4, w2c_j5, w2c_j6;
+  w2c_j0 = instance->w2c_g0;
+  w2c_j1 = 288ull;
+  w2c_j0 -= w2c_j1;
+  w2c_l9 = w2c_j0;
+  instance->w2c_g0 = w2c_j0;
+  w2c_j0 = w2c_l9;
+  w2c_l9 = w2c_j0;
+  w2c_j1 = 16ull;
+  w2c_i0 = (u64)((s64)w2c_j0 < (s64)w2c_j1);
+  if (w2c_i0) {goto w2c_B3;}
+  w2c_j0 = w2c_l9;
+  w2c_j1 = 8ull;
+  w2c_j0 += w2c_j1;
+  w2c_i0 = (u32)(w2c_j0);
+  w2c_i1 = 0u;
+  w2c_j2 = 240ull;
+  w2c_i2 = (u32)(w2c_j2);
+  memory_fill(memory, w2c_i0, w2c_i1, w2c_i2);
+  w2c_j0 = w2c_l9;
+  w2c_i0 = (u32)(w2c_j0);
+  w2c_j1 = 0ull;
+  step_i64_store(memory, (u64)(w2c_i0) + 264, w2c_j1);
+  w2c_j0 = w2c_l9;
+  w2c_i0 = (u32)(w2c_j0);
+  w2c_j1 = 0ull;
+  step_i64_store(memory, (u64)(w2c_i0) + 256, w2c_j1);
+  w2c_j0 = w2c_l9;
+  w2c_i0 = (u32)(w2c_j0);
+  w2c_j1 = 0ull;
+  step_i64_store(memory, (u64)(w2c_i0) + 248, w2c_j1);
+  w2c_j0 = w2c_l9;
+  w2c_j1 = 248ull;
+  w2c_j0 += w2c_j1;
+  w2c_j1 = w2c_p0;
+  w2c_j2 = 4096ull;
+  w2c_j3 = 0ull;
+  w2c_j4 = w2c_p0;
+  w2c_i4 = !(w2c_j4);
+  w2c_j2 = w2c_i4 ? w2c_j2 : w2c_j3;
+  w2c_j1 += w2c_j2;
+  w2c_j2 = w2c_p1;
+  w2c_j3 = w2c_l9;
+  w2c_j4 = 8ull;
+  w2c_j3 += w2c_j4;
+  w2c_f10(instance, w2c_j0, w2c_j1, w2c_j2, w2c_j3);
+  w2c_i0 = 3u;
+  w2c_l10 = w2c_i0;
+  w2c_j0 = w2c_l9;
+  w2c_i0 = (u32)(w2c_j0);
+  w2c_i0 = i32_load8_u(memory, (u64)(w2c_i0) + 248u);
+  w2c_i1 = 1u;
+  w2c_i0 = w2c_i0 != w2c_i1;
+  if (w2c_i0) {goto w2c_B0;}
+  w2c_j0 = w2c_l9;
+  w2c_i0 = (u32)(w2c_j0);
+  w2c_j1 = w2c_l9;
+  w2c_i1 = (u32)(w2c_j1);
+  w2c_j1 = step_i64_load(memory, (u64)(w2c_i1) + 264u);
+  step_i64_store(memory, (u64)(w2c_i0) + 280, w2c_j1);
+  w2c_j0 = w2c_l9;
+  w2c_i0 = (u32)(w2c_j0);
+  w2c_j1 = w2c_l9;
+  w2c_i1 = (u32)(w2c_j1);
+  w2c_j1 = step_i64_load(memory, (u64)(w2c_i1) + 256u);
+  step_i64_store(memory, (u64)(w2c_i0) + 272, w2c_j1);
+  w2c_i0 = 4u;
+  w2c_l10 = w2c_i0;
+  w2c_j0 = w2c_p8;
+  w2c_i0 = !(w2c_j0);
+  if (w2c_i0) {goto w2c_B0;}
+  w2c_j0 = w2c_p3;
+  w2c_j1 = w2c_p3;
+  w2c_j2 = w2c_p8;
+  w2c_j1 = DIV_U(w2c_j1, w2c_j2);
+  w2c_p0 = w2c_j1;
+  w2c_j2 = w2c_p8;
+  w2c_j1 *= w2c_j2;
+  w2c_j0 -= w2c_j1;
+  w2c_j1 = 0ull;
+  w2c_i0 = w2c_j0 != w2c_j1;
+  if (w2c_i0) {goto w2c_B0;}
+  w2c_i0 = 1u;
+  w2c_l11 = w2c_i0;
+  w2c_i0 = 0u;
+  w2c_l12 = w2c_i0;
+  w2c_i0 = w2c_p4;
+  switch (w2c_i0) {
+    case 0: goto w2c_B4;
+    case 1: goto w2c_B5;
+    default: goto w2c_B0;
+  }
+  w2c_B5:;
+  w2c_i0 = 1u;
+  w2c_l12 = w2c_i0;
+  w2c_i0 = 0u;
+  w2c_l11 = w2c_i0;
+  w2c_B4:;
+  w2c_j0 = w2c_p6;
+  w2c_j1 = w2c_p8;
+  w2c_i0 = w2c_j0 != w2c_j1;
+  if (w2c_i0) {goto w2c_B0;}
+  w2c_j0 = w2c_p0;
+  w2c_j1 = 7ull;
+  w2c_j0 &= w2c_j1;
+  w2c_j1 = 0ull;
+  w2c_i0 = w2c_j0 != w2c_j1;
+  if (w2c_i0) {goto w2c_B0;}
+  w2c_j0 = w2c_p0;
+  w2c_j1 = 18446744073709551592ull;
+  w2c_j0 += w2c_j1;
+  w2c_j1 = 1048561ull;
+  w2c_i0 = w2c_j0 < w2c_j1;
+  w2c_j1 = w2c_p0;
+  w2c_j2 = 18446744073709551600ull;
+  w2c_j1 += w2c_j2;
+  w2c_j2 = 1048569ull;
+  w2c_i1 = w2c_j1 < w2c_j2;
+  w2c_i2 = w2c_l11;
+  w2c_i0 = w2c_i2 ? w2c_i0 : w2c_i1;
+  w2c_i0 = !(w2c_i0);
+  if (w2c_i0) {goto w2c_B0;}
+  w2c_j0 = w2c_p7;
+  w2c_j1 = 4096ull;
+  w2c_j2 = 0ull;
+  w2c_j3 = w2c_p7;
+  w2c_i3 = !(w2c_j3);
+  w2c_j1 = w2c_i3 ? w2c_j1 : w2c_j2;
+  w2c_j0 += w2c_j1;
+  w2c_p1 = w2c_j0;
+  w2c_j0 = w2c_p5;
+  w2c_j1 = 4096ull;
+  w2c_j2 = 0ull;
+  w2c_j3 = w2c_p5;
+  w2c_i3 = !(w2c_j3);
+  w2c_j1 = w2c_i3 ? w2c_j1 : w2c_j2;
+  w2c_j0 += w2c_j1;
+  w2c_p3 = w2c_j0;
+  w2c_j0 = w2c_p2;
+  w2c_j1 = 4096ull;
+  w2c_j2 = 0ull;
+  w2c_j3 = w2c_p2;
+  w2c_i3 = !(w2c_j3);
+  w2c_j1 = w2c_i3 ? w2c_j1 : w2c_j2;
+  w2c_j0 += w2c_j1;
+  w2c_p6 = w2c_j0;
+  w2c_j0 = w2c_p0;
+  w2c_j1 = 16ull;
+  w2c_i0 = w2c_j0 != w2c_j1;
+  if (w2c_i0) {goto w2c_B2;}
+  w2c_j0 = w2c_l9;
+  w2c_j1 = 272ull;
+  w2c_j0 += w2c_j1;
+  w2c_i1 = w2c_l12;
+  w2c_j2 = w2c_p6;
+  w2c_j3 = w2c_p3;
+  w2c_j4 = w2c_p1;
+  w2c_j5 = w2c_p8;
+  w2c_f33(instance, w2c_j0, w2c_i1, w2c_j2, w2c_j3, w2c_j4, w2c_j5);
+  goto w2c_B1;
+  w2c_B3:;
+  UNREACHABLE;
+  w2c_B2:;
+  w2c_j0 = w2c_l9;
+  w2c_j1 = 256ull;
+  w2c_j0 += w2c_j1;
+  w2c_i1 = w2c_l12;
+  w2c_j2 = w2c_p0;
+  w2c_j3 = w2c_p6;
+  w2c_j4 = w2c_p3;
+  w2c_j5 = w2c_p1;
+  w2c_j6 = w2c_p8;
+  w2c_f34(instance, w2c_j0, w2c_i1, w2c_j2, w2c_j3, w2c_j4, w2c_j5, w2c_j6);
+  w2c_B1:;
+  w2c_i0 = 0u;
+  w2c_l10 = w2c_i0;
+  w2c_B0:;
+  w2c_j0 = w2c_l9;
+  w2c_j1 = 8ull;
+  w2c_j0 += w2c_j1;
+  leaf_clear(memory, w2c_j0);
+  w2c_j0 = w2c_l9;
+  w2c_j1 = 288ull;
+  w2c_j0 += w2c_j1;
+  instance->w2c_g0 = w2c_j0;
+  w2c_i0 = w2c_l10;
+  return w2c_i0;
+}
+static u32 w2c_aes_unwrap_padded(struct instance *instance, u64 w2c_p0, u64 w2c_p1, u64 w2c_p2, u64 w2c_p3, u64 w2c_p4, u64 w2c_p5, u64 w2c_p6) {
+  u32 w2c_l7 = 0;
+  const struct memory memory = instance->w2c_memory;
+  (void)memory;
+  u32 w2c_i0;
+  u64 w2c_j0, w2c_j1, w2c_j2, w2c_j3, w2c_j4, w2c_j5, w2c_j6;
+  w2c_i0 = w2c_f6(instance);
+  w2c_i0 = !(w2c_i0);
+  if (w2c_i0) {goto w2c_B0;}
+  w2c_f8(instance);
+  UNREACHABLE;
+  w2c_B0:;
+  w2c_j0 = w2c_p0;
+  w2c_j1 = w2c_p1;
+  w2c_j2 = w2c_p2;
+  w2c_j3 = w2c_p3;
+  w2c_j4 = w2c_p4;
+  w2c_j5 = w2c_p5;
+  w2c_j6 = w2c_p6;
+  w2c_i0 = w2c_f77(instance, w2c_j0, w2c_j1, w2c_j2, w2c_j3, w2c_j4, w2c_j5, w2c_j6);
+  w2c_l7 = w2c_i0;
+  w2c_f7(instance);
+  w2c_i0 = w2c_l7;
+  return w2c_i0;
+}
+static u32 w2c_f77(struct instance *instance, u64 w2c_p0, u64 w2c_p1, u64 w2c_p2, u64 w2c_p3, u64 w2c_p4, u64 w2c_p5, u64 w2c_p6) {
+  const struct memory memory = instance->w2c_memory;
+  (void)memory;
+  u32 w2c_i0, w2c_i3, w2c_i5, w2c_i7;
+  u64 w2c_j0, w2c_j1, w2c_j2, w2c_j3, w2c_j4, w2c_j5, w2c_j6, w2c_j7;
+  w2c_j0 = w2c_p0;
+  w2c_j1 = 4096ull;
+  w2c_j2 = 0ull;
+  w2c_j3 = w2c_p0;
+  w2c_i3 = !(w2c_j3);
+  w2c_j1 = w2c_i3 ? w2c_j1 : w2c_j2;
+  w2c_j0 += w2c_j1;
+  w2c_j1 = w2c_p1;
+  w2c_j2 = w2c_p2;
+  w2c_j3 = 4096ull;
+  w2c_j4 = 0ull;
+  w2c_j5 = w2c_p2;
+  w2c_i5 = !(w2c_j5);
+  w2c_j3 = w2c_i5 ? w2c_j3 : w2c_j4;
+  w2c_j2 += w2c_j3;
+  w2c_j3 = w2c_p3;
+  w2c_j4 = w2c_p4;
+  w2c_j5 = 4096ull;
+  w2c_j6 = 0ull;
+  w2c_j7 = w2c_p4;
+  w2c_i7 = !(w2c_j7);
+  w2c_j5 = w2c_i7 ? w2c_j5 : w2c_j6;
+  w2c_j4 += w2c_j5;
+  w2c_j5 = w2c_p5;
+  w2c_j6 = w2c_p6;
+  w2c_i0 = w2c_f32(instance, w2c_j0, w2c_j1, w2c_j2, w2c_j3, w2c_j4, w2c_j5, w2c_j6);
+  return w2c_i0;
+}
+static u32 w2c_aes_unwrap_padded_in_place(struct instance *instance, u64 w2c_p0, u64 w2c_p1, u64 w2c_p2, u64 w2c_p3, u64 w2c_p4) {
+  u32 w2c_l5 = 0;
+  const struct memory memory = instance->w2c_memory;
+  (void)memory;
+  u32 w2c_i0;
+  u64 w2c_j0, w2c_j1, w2c_j2, w2c_j3, w2c_j4;
+  w2c_i0 = w2c_f6(instance);
+  w2c_i0 = !(w2c_i0);
+  if (w2c_i0) {goto w2c_B0;}
+  w2c_f8(instance);
+  UNREACHABLE;
+  w2c_B0:;
+  w2c_j0 = w2c_p0;
+  w2c_j1 = w2c_p1;
+  w2c_j2 = w2c_p2;
+  w2c_j3 = w2c_p3;
+  w2c_j4 = w2c_p4;
+  w2c_i0 = w2c_f79(instance, w2c_j0, w2c_j1, w2c_j2, w2c_j3, w2c_j4);
+  w2c_l5 = w2c_i0;
+  w2c_f7(instance);
+  w2c_i0 = w2c_l5;
+  return w2c_i0;
+}
+static u32 w2c_f79(struct instance *instance, u64 w2c_p0, u64 w2c_p1, u64 w2c_p2, u64 w2c_p3, u64 w2c_p4) {
+  u32 w2c_l8 = 0;
+  u64 w2c_l5 = 0, w2c_l6 = 0, w2c_l7 = 0;
+  const struct memory memory = instance->w2c_memory;
+  (void)memory;
+  u32 w2c_i0, w2c_i1, w2c_i2, w2c_i3, w2c_i4;
+  u64 w2c_j0, w2c_j1, w2c_j2, w2c_j3, w2c_j4, w2c_j5, w2c_j6, w2c_j7;
+  w2c_j0 = instance->w2c_g0;
+  w2c_j1 = 304ull;
+  w2c_j0 -= w2c_j1;
+  w2c_l5 = w2c_j0;
+  instance->w2c_g0 = w2c_j0;
+  w2c_j0 = w2c_l5;
+  w2c_l5 = w2c_j0;
+  w2c_j1 = 16ull;
+  w2c_i0 = (u64)((s64)w2c_j0 < (s64)w2c_j1);
+  if (w2c_i0) {goto w2c_B0;}
+  w2c_j0 = w2c_l5;
+  w2c_j1 = 8ull;
+  w2c_j0 += w2c_j1;
+  w2c_i0 = (u32)(w2c_j0);
+  w2c_i1 = 0u;
+  w2c_j2 = 240ull;
+  w2c_i2 = (u32)(w2c_j2);
+  memory_fill(memory, w2c_i0, w2c_i1, w2c_i2);
+  w2c_j0 = w2c_p4;
+  w2c_i0 = (u32)(w2c_j0);
+  w2c_j1 = 0ull;
+  step_i64_store(memory, (u64)(w2c_i0), w2c_j1);
+  w2c_j0 = w2c_l5;
+  w2c_i0 = (u32)(w2c_j0);
+  w2c_j1 = 0ull;
+  step_i64_store(memory, (u64)(w2c_i0) + 264, w2c_j1);
+  w2c_j0 = w2c_l5;
+  w2c_i0 = (u32)(w2c_j0);
+  w2c_j1 = 0ull;
+  step_i64_store(memory, (u64)(w2c_i0) + 256, w2c_j1);
+  w2c_j0 = w2c_l5;
+  w2c_i0 = (u32)(w2c_j0);
+  w2c_j1 = 0ull;
+  step_i64_store(memory, (u64)(w2c_i0) + 248, w2c_j1);
+  w2c_j0 = w2c_l5;
+  w2c_j1 = 248ull;
+  w2c_j0 += w2c_j1;
+  w2c_j1 = w2c_p0;
+  w2c_j2 = 4096ull;
+  w2c_j3 = 0ull;
+  w2c_j4 = w2c_p0;
+  w2c_i4 = !(w2c_j4);
+  w2c_j2 = w2c_i4 ? w2c_j2 : w2c_j3;
+  w2c_j1 += w2c_j2;
+  w2c_j2 = w2c_p1;
+  w2c_j3 = w2c_l5;
+  w2c_j4 = 8ull;
+  w2c_j3 += w2c_j4;
+  w2c_f10(instance, w2c_j0, w2c_j1, w2c_j2, w2c_j3);
+  w2c_i0 = 3u;
+  w2c_l8 = w2c_i0;
+  w2c_j0 = w2c_l5;
+  w2c_i0 = (u32)(w2c_j0);
+  w2c_i0 = i32_load8_u(memory, (u64)(w2c_i0) + 248u);
+  w2c_i1 = 1u;
+  w2c_i0 = w2c_i0 != w2c_i1;
+  if (w2c_i0) {goto w2c_B1;}
+  w2c_j0 = w2c_l5;
+  w2c_i0 = (u32)(w2c_j0);
+  w2c_j1 = w2c_l5;
+  w2c_i1 = (u32)(w2c_j1);
+  w2c_j1 = step_i64_load(memory, (u64)(w2c_i1) + 264u);
+  step_i64_store(memory, (u64)(w2c_i0) + 280, w2c_j1);
+  w2c_j0 = w2c_l5;
+  w2c_i0 = (u32)(w2c_j0);
+  w2c_j1 = w2c_l5;
+  w2c_i1 = (u32)(w2c_j1);
+  w2c_j1 = step_i64_load(memory, (u64)(w2c_i1) + 256u);
+  step_i64_store(memory, (u64)(w2c_i0) + 272, w2c_j1);
+  w2c_j0 = w2c_p4;
+  w2c_i0 = (u32)(w2c_j0);
+  w2c_j1 = 0ull;
+  step_i64_store(memory, (u64)(w2c_i0), w2c_j1);
+  w2c_j0 = w2c_l5;
+  w2c_i0 = (u32)(w2c_j0);
+  w2c_j1 = 0ull;
+  step_i64_store(memory, (u64)(w2c_i0) + 296, w2c_j1);
+  w2c_j0 = w2c_l5;
+  w2c_i0 = (u32)(w2c_j0);
+  w2c_j1 = w2c_l5;
+  w2c_j2 = 272ull;
+  w2c_j1 += w2c_j2;
+  step_i64_store(memory, (u64)(w2c_i0) + 288, w2c_j1);
+  w2c_j0 = w2c_p3;
+  w2c_j1 = 7ull;
+  w2c_j0 &= w2c_j1;
+  w2c_j1 = 0ull;
+  w2c_i0 = w2c_j0 != w2c_j1;
+  if (w2c_i0) {goto w2c_B2;}
+  w2c_j0 = w2c_p3;
+  w2c_j1 = 18446744073709551600ull;
+  w2c_j0 += w2c_j1;
+  w2c_j1 = 1048568ull;
+  w2c_i0 = w2c_j0 > w2c_j1;
+  if (w2c_i0) {goto w2c_B2;}
+  w2c_j0 = w2c_p2;
+  w2c_j1 = 4096ull;
+  w2c_j2 = 0ull;
+  w2c_j3 = w2c_p2;
+  w2c_i3 = !(w2c_j3);
+  w2c_j1 = w2c_i3 ? w2c_j1 : w2c_j2;
+  w2c_j0 += w2c_j1;
+  w2c_p1 = w2c_j0;
+  w2c_i0 = (u32)(w2c_j0);
+  w2c_j0 = step_i64_load(memory, (u64)(w2c_i0));
+  w2c_p0 = w2c_j0;
+  w2c_j0 = w2c_p1;
+  w2c_i0 = (u32)(w2c_j0);
+  w2c_j1 = 0ull;
+  step_i64_store(memory, (u64)(w2c_i0), w2c_j1);
+  w2c_j0 = w2c_p3;
+  w2c_j1 = 18446744073709551608ull;
+  w2c_j0 += w2c_j1;
+  w2c_p3 = w2c_j0;
+  w2c_j0 = w2c_l5;
+  w2c_j1 = w2c_p3;
+  w2c_j2 = w2c_l5;
+  w2c_j3 = 288ull;
+  w2c_j2 += w2c_j3;
+  w2c_j3 = w2c_p0;
+  w2c_j4 = 56ull;
+  w2c_j3 <<= (w2c_j4 & 63);
+  w2c_j4 = w2c_p0;
+  w2c_j5 = 65280ull;
+  w2c_j4 &= w2c_j5;
+  w2c_j5 = 40ull;
+  w2c_j4 <<= (w2c_j5 & 63);
+  w2c_j3 |= w2c_j4;
+  w2c_j4 = w2c_p0;
+  w2c_j5 = 16711680ull;
+  w2c_j4 &= w2c_j5;
+  w2c_j5 = 24ull;
+  w2c_j4 <<= (w2c_j5 & 63);
+  w2c_j5 = w2c_p0;
+  w2c_j6 = 4278190080ull;
+  w2c_j5 &= w2c_j6;
+  w2c_j6 = 8ull;
+  w2c_j5 <<= (w2c_j6 & 63);
+  w2c_j4 |= w2c_j5;
+  w2c_j3 |= w2c_j4;
+  w2c_j4 = w2c_p0;
+  w2c_j5 = 8ull;
+  w2c_j4 >>= (w2c_j5 & 63);
+  w2c_j5 = 4278190080ull;
+  w2c_j4 &= w2c_j5;
+  w2c_j5 = w2c_p0;
+  w2c_j6 = 24ull;
+  w2c_j5 >>= (w2c_j6 & 63);
+  w2c_j6 = 16711680ull;
+  w2c_j5 &= w2c_j6;
+  w2c_j4 |= w2c_j5;
+  w2c_j5 = w2c_p0;
+  w2c_j6 = 40ull;
+  w2c_j5 >>= (w2c_j6 & 63);
+  w2c_j6 = 65280ull;
+  w2c_j5 &= w2c_j6;
+  w2c_j6 = w2c_p0;
+  w2c_j7 = 56ull;
+  w2c_j6 >>= (w2c_j7 & 63);
+  w2c_j5 |= w2c_j6;
+  w2c_j4 |= w2c_j5;
+  w2c_j3 |= w2c_j4;
+  w2c_j4 = w2c_p1;
+  w2c_j5 = 8ull;
+  w2c_j4 += w2c_j5;
+  w2c_p2 = w2c_j4;
+  w2c_j5 = w2c_p3;
+  w2c_j2 = w2c_f12(instance, w2c_j2, w2c_j3, w2c_j4, w2c_j5);
+  w2c_p0 = w2c_j2;
+  w2c_j3 = 4294967295ull;
+  w2c_j2 &= w2c_j3;
+  w2c_l6 = w2c_j2;
+  w2c_j1 -= w2c_j2;
+  w2c_l7 = w2c_j1;
+  w2c_j2 = 3ull;
+  w2c_j1 >>= (w2c_j2 & 63);
+  w2c_j2 = w2c_p0;
+  w2c_j3 = 32ull;
+  w2c_j2 >>= (w2c_j3 & 63);
+  w2c_j3 = 2790873510ull;
+  w2c_j2 ^= w2c_j3;
+  w2c_j1 |= w2c_j2;
+  w2c_j2 = w2c_p3;
+  w2c_j3 = w2c_p1;
+  w2c_j2 += w2c_j3;
+  w2c_i2 = (u32)(w2c_j2);
+  w2c_j2 = step_i64_load(memory, (u64)(w2c_i2));
+  w2c_p0 = w2c_j2;
+  w2c_j3 = 56ull;
+  w2c_j2 <<= (w2c_j3 & 63);
+  w2c_j3 = w2c_p0;
+  w2c_j4 = 65280ull;
+  w2c_j3 &= w2c_j4;
+  w2c_j4 = 40ull;
+  w2c_j3 <<= (w2c_j4 & 63);
+  w2c_j2 |= w2c_j3;
+  w2c_j3 = w2c_p0;
+  w2c_j4 = 16711680ull;
+  w2c_j3 &= w2c_j4;
+  w2c_j4 = 24ull;
+  w2c_j3 <<= (w2c_j4 & 63);
+  w2c_j4 = w2c_p0;
+  w2c_j5 = 4278190080ull;
+  w2c_j4 &= w2c_j5;
+  w2c_j5 = 8ull;
+  w2c_j4 <<= (w2c_j5 & 63);
+  w2c_j3 |= w2c_j4;
+  w2c_j2 |= w2c_j3;
+  w2c_j3 = w2c_p0;
+  w2c_j4 = 8ull;
+  w2c_j3 >>= (w2c_j4 & 63);
+  w2c_j4 = 4278190080ull;
+  w2c_j3 &= w2c_j4;
+  w2c_j4 = w2c_p0;
+  w2c_j5 = 24ull;
+  w2c_j4 >>= (w2c_j5 & 63);
+  w2c_j5 = 16711680ull;
+  w2c_j4 &= w2c_j5;
+  w2c_j3 |= w2c_j4;
+  w2c_j4 = w2c_p0;
+  w2c_j5 = 40ull;
+  w2c_j4 >>= (w2c_j5 & 63);
+  w2c_j5 = 65280ull;
+  w2c_j4 &= w2c_j5;
+  w2c_j5 = w2c_p0;
+  w2c_j6 = 56ull;
+  w2c_j5 >>= (w2c_j6 & 63);
+  w2c_j4 |= w2c_j5;
+  w2c_j3 |= w2c_j4;
+  w2c_j2 |= w2c_j3;
+  w2c_j3 = 18446744073709551615ull;
+  w2c_j4 = w2c_l7;
+  w2c_j5 = 3ull;
+  w2c_j4 <<= (w2c_j5 & 63);
+  w2c_j3 <<= (w2c_j4 & 63);
+  w2c_j4 = 18446744073709551615ull;
+  w2c_j3 ^= w2c_j4;
+  w2c_j2 &= w2c_j3;
+  w2c_j1 |= w2c_j2;
+  w2c_j2 = w2c_p2;
+  w2c_j3 = w2c_p3;
+  w2c_f13(instance, w2c_j0, w2c_j1, w2c_j2, w2c_j3);
+  w2c_j0 = w2c_l5;
+  w2c_i0 = (u32)(w2c_j0);
+  w2c_i0 = i32_load8_u(memory, (u64)(w2c_i0));
+  w2c_i1 = 255u;
+  w2c_i0 &= w2c_i1;
+  if (w2c_i0) {goto w2c_B3;}
+  w2c_j0 = w2c_p4;
+  w2c_i0 = (u32)(w2c_j0);
+  w2c_j1 = w2c_l6;
+  step_i64_store(memory, (u64)(w2c_i0), w2c_j1);
+  w2c_i0 = 0u;
+  w2c_l8 = w2c_i0;
+  goto w2c_B1;
+  w2c_B3:;
+  w2c_i0 = 5u;
+  w2c_l8 = w2c_i0;
+  w2c_j0 = w2c_l5;
+  w2c_i0 = (u32)(w2c_j0);
+  w2c_i0 = i32_load8_u(memory, (u64)(w2c_i0) + 1u);
+  w2c_i1 = 255u;
+  w2c_i0 &= w2c_i1;
+  if (w2c_i0) {goto w2c_B1;}
+  w2c_B2:;
+  w2c_i0 = 4u;
+  w2c_l8 = w2c_i0;
+  w2c_B1:;
+  w2c_j0 = w2c_l5;
+  w2c_j1 = 8ull;
+  w2c_j0 += w2c_j1;
+  leaf_clear(memory, w2c_j0);
+  w2c_j0 = w2c_l5;
+  w2c_j1 = 304ull;
+  w2c_j0 += w2c_j1;
+  instance->w2c_g0 = w2c_j0;
+  w2c_i0 = w2c_l8;
+  goto w2c_Bfunc;
+  w2c_B0:;
+  UNREACHABLE;
+  w2c_Bfunc:;
+  return w2c_i0;
+}
+static u32 w2c_aes_unwrap_with(struct instance *instance, u64 w2c_p0, u64 w2c_p1, u64 w2c_p2, u64 w2c_p3, u64 w2c_p4, u64 w2c_p5, u64 w2c_p6, u64 w2c_p7) {
+  u32 w2c_l8 = 0;
+  const struct memory memory = instance->w2c_memory;
+  (void)memory;
+  u32 w2c_i0;
+  u64 w2c_j0, w2c_j1, w2c_j2, w2c_j3, w2c_j4, w2c_j5, w2c_j6, w2c_j7;
+  w2c_i0 = w2c_f6(instance);
+  w2c_i0 = !(w2c_i0);
+  if (w2c_i0) {goto w2c_B0;}
+  w2c_f8(instance);
+  UNREACHABLE;
+  w2c_B0:;
+  w2c_j0 = w2c_p0;
+  w2c_j1 = w2c_p1;
+  w2c_j2 = w2c_p2;
+  w2c_j3 = w2c_p3;
+  w2c_j4 = w2c_p4;
+  w2c_j5 = w2c_p5;
+  w2c_j6 = w2c_p6;
+  w2c_j7 = w2c_p7;
+  w2c_i0 = w2c_f81(instance, w2c_j0, w2c_j1, w2c_j2, w2c_j3, w2c_j4, w2c_j5, w2c_j6, w2c_j7);
+  w2c_l8 = w2c_i0;
+  w2c_f7(instance);
+  w2c_i0 = w2c_l8;
+  return w2c_i0;
+}
+static u32 w2c_f81(struct instance *instance, u64 w2c_p0, u64 w2c_p1, u64 w2c_p2, u64 w2c_p3, u64 w2c_p4, u64 w2c_p5, u64 w2c_p6, u64 w2c_p7) {
+  u32 w2c_l14 = 0;
+  u64 w2c_l8 = 0, w2c_l9 = 0, w2c_l10 = 0, w2c_l11 = 0, w2c_l12 = 0, w2c_l13 = 0;
+  const struct memory memory = instance->w2c_memory;
+  (void)memory;
+  u32 w2c_i0, w2c_i1, w2c_i2, w2c_i3, w2c_i4;
+  u64 w2c_j0, w2c_j1, w2c_j2, w2c_j3, w2c_j4, w2c_j5, w2c_j6;
+  w2c_j0 = instance->w2c_g0;
+  w2c_j1 = 304ull;
+  w2c_j0 -= w2c_j1;
+  w2c_l8 = w2c_j0;
+  instance->w2c_g0 = w2c_j0;
+  w2c_j0 = w2c_l8;
+  w2c_l8 = w2c_j0;
+  w2c_j1 = 16ull;
+  w2c_i0 = (u64)((s64)w2c_j0 < (s64)w2c_j1);
+  if (w2c_i0) {goto w2c_B0;}
+  w2c_j0 = w2c_l8;
+  w2c_j1 = 8ull;
+  w2c_j0 += w2c_j1;
+  w2c_i0 = (u32)(w2c_j0);
+  w2c_i1 = 0u;
+  w2c_j2 = 240ull;
+  w2c_i2 = (u32)(w2c_j2);
+  memory_fill(memory, w2c_i0, w2c_i1, w2c_i2);
+  w2c_j0 = w2c_l8;
+  w2c_i0 = (u32)(w2c_j0);
+  w2c_j1 = 0ull;
+  step_i64_store(memory, (u64)(w2c_i0) + 264, w2c_j1);
+  w2c_j0 = w2c_l8;
+  w2c_i0 = (u32)(w2c_j0);
+  w2c_j1 = 0ull;
+  step_i64_store(memory, (u64)(w2c_i0) + 272, w2c_j1);
+  w2c_j0 = w2c_l8;
+  w2c_i0 = (u32)(w2c_j0);
+  w2c_j1 = 0ull;
+  step_i64_store(memory, (u64)(w2c_i0) + 280, w2c_j1);
+  w2c_i0 = 2u;
+  w2c_l14 = w2c_i0;
+  w2c_j0 = w2c_p3;
+  w2c_j1 = 8ull;
+  w2c_i0 = w2c_j0 != w2c_j1;
+  if (w2c_i0) {goto w2c_B1;}
+  w2c_j0 = w2c_p2;
+  w2c_j1 = 4096ull;
+  w2c_j2 = 0ull;
+  w2c_j3 = w2c_p2;
+  w2c_i3 = !(w2c_j3);
+  w2c_j1 = w2c_i3 ? w2c_j1 : w2c_j2;
+  w2c_j0 += w2c_j1;
+  w2c_i0 = (u32)(w2c_j0);
+  w2c_j0 = step_i64_load(memory, (u64)(w2c_i0));
+  w2c_p2 = w2c_j0;
+  w2c_j1 = 56ull;
+  w2c_j0 <<= (w2c_j1 & 63);
+  w2c_j1 = w2c_p2;
+  w2c_j2 = 65280ull;
+  w2c_j1 &= w2c_j2;
+  w2c_j2 = 40ull;
+  w2c_j1 <<= (w2c_j2 & 63);
+  w2c_j0 |= w2c_j1;
+  w2c_j1 = w2c_p2;
+  w2c_j2 = 16711680ull;
+  w2c_j1 &= w2c_j2;
+  w2c_j2 = 24ull;
+  w2c_j1 <<= (w2c_j2 & 63);
+  w2c_j2 = w2c_p2;
+  w2c_j3 = 4278190080ull;
+  w2c_j2 &= w2c_j3;
+  w2c_j3 = 8ull;
+  w2c_j2 <<= (w2c_j3 & 63);
+  w2c_j1 |= w2c_j2;
+  w2c_j0 |= w2c_j1;
+  w2c_j1 = w2c_p2;
+  w2c_j2 = 8ull;
+  w2c_j1 >>= (w2c_j2 & 63);
+  w2c_j2 = 4278190080ull;
+  w2c_j1 &= w2c_j2;
+  w2c_j2 = w2c_p2;
+  w2c_j3 = 24ull;
+  w2c_j2 >>= (w2c_j3 & 63);
+  w2c_j3 = 16711680ull;
+  w2c_j2 &= w2c_j3;
+  w2c_j1 |= w2c_j2;
+  w2c_j2 = w2c_p2;
+  w2c_j3 = 40ull;
+  w2c_j2 >>= (w2c_j3 & 63);
+  w2c_j3 = 65280ull;
+  w2c_j2 &= w2c_j3;
+  w2c_j3 = w2c_p2;
+  w2c_j4 = 56ull;
+  w2c_j3 >>= (w2c_j4 & 63);
+  w2c_j2 |= w2c_j3;
+  w2c_j1 |= w2c_j2;
+  w2c_j0 |= w2c_j1;
+  w2c_l9 = w2c_j0;
+  w2c_j1 = 18446744069414584320ull;
+  w2c_j0 &= w2c_j1;
+  w2c_j1 = 11986710452722728960ull;
+  w2c_i0 = w2c_j0 == w2c_j1;
+  if (w2c_i0) {goto w2c_B1;}
+  w2c_j0 = w2c_l8;
+  w2c_j1 = 264ull;
+  w2c_j0 += w2c_j1;
+  w2c_j1 = w2c_p0;
+  w2c_j2 = 4096ull;
+  w2c_j3 = 0ull;
+  w2c_j4 = w2c_p0;
+  w2c_i4 = !(w2c_j4);
+  w2c_j2 = w2c_i4 ? w2c_j2 : w2c_j3;
+  w2c_j1 += w2c_j2;
+  w2c_j2 = w2c_p1;
+  w2c_j3 = w2c_l8;
+  w2c_j4 = 8ull;
+  w2c_j3 += w2c_j4;
+  w2c_f10(instance, w2c_j0, w2c_j1, w2c_j2, w2c_j3);
+  w2c_i0 = 3u;
+  w2c_l14 = w2c_i0;
+  w2c_j0 = w2c_l8;
+  w2c_i0 = (u32)(w2c_j0);
+  w2c_i0 = i32_load8_u(memory, (u64)(w2c_i0) + 264u);
+  w2c_i1 = 1u;
+  w2c_i0 = w2c_i0 != w2c_i1;
+  if (w2c_i0) {goto w2c_B1;}
+  w2c_j0 = w2c_l8;
+  w2c_i0 = (u32)(w2c_j0);
+  w2c_j1 = w2c_l8;
+  w2c_i1 = (u32)(w2c_j1);
+  w2c_j1 = step_i64_load(memory, (u64)(w2c_i1) + 280u);
+  step_i64_store(memory, (u64)(w2c_i0) + 296, w2c_j1);
+  w2c_j0 = w2c_l8;
+  w2c_i0 = (u32)(w2c_j0);
+  w2c_j1 = w2c_l8;
+  w2c_i1 = (u32)(w2c_j1);
+  w2c_j1 = step_i64_load(memory, (u64)(w2c_i1) + 272u);
+  step_i64_store(memory, (u64)(w2c_i0) + 288, w2c_j1);
+  w2c_j0 = w2c_l8;
+  w2c_i0 = (u32)(w2c_j0);
+  w2c_j1 = 0ull;
+  step_i64_store(memory, (u64)(w2c_i0) + 256, w2c_j1);
+  w2c_j0 = w2c_l8;
+  w2c_i0 = (u32)(w2c_j0);
+  w2c_j1 = w2c_l8;
+  w2c_j2 = 288ull;
+  w2c_j1 += w2c_j2;
+  step_i64_store(memory, (u64)(w2c_i0) + 248, w2c_j1);
+  w2c_i0 = 4u;
+  w2c_l14 = w2c_i0;
+  w2c_j0 = w2c_p5;
+  w2c_j1 = 7ull;
+  w2c_j0 &= w2c_j1;
+  w2c_j1 = 0ull;
+  w2c_i0 = w2c_j0 != w2c_j1;
+  if (w2c_i0) {goto w2c_B1;}
+  w2c_j0 = w2c_p5;
+  w2c_j1 = 18446744073709551592ull;
+  w2c_j0 += w2c_j1;
+  w2c_j1 = 1048560ull;
+  w2c_i0 = w2c_j0 > w2c_j1;
+  if (w2c_i0) {goto w2c_B1;}
+  w2c_j0 = w2c_p7;
+  w2c_j1 = w2c_p5;
+  w2c_j2 = 18446744073709551608ull;
+  w2c_j1 += w2c_j2;
+  w2c_i0 = w2c_j0 != w2c_j1;
+  if (w2c_i0) {goto w2c_B1;}
+  w2c_j0 = w2c_p6;
+  w2c_j1 = 4096ull;
+  w2c_j2 = 0ull;
+  w2c_j3 = w2c_p6;
+  w2c_i3 = !(w2c_j3);
+  w2c_j1 = w2c_i3 ? w2c_j1 : w2c_j2;
+  w2c_l10 = w2c_j1;
+  w2c_j0 += w2c_j1;
+  w2c_p1 = w2c_j0;
+  w2c_j1 = w2c_p4;
+  w2c_j2 = 4096ull;
+  w2c_j3 = 0ull;
+  w2c_j4 = w2c_p4;
+  w2c_i4 = !(w2c_j4);
+  w2c_j2 = w2c_i4 ? w2c_j2 : w2c_j3;
+  w2c_l11 = w2c_j2;
+  w2c_j1 += w2c_j2;
+  w2c_l12 = w2c_j1;
+  w2c_j2 = 8ull;
+  w2c_j1 += w2c_j2;
+  w2c_p2 = w2c_j1;
+  w2c_j0 -= w2c_j1;
+  w2c_j1 = w2c_p7;
+  w2c_i0 = w2c_j0 >= w2c_j1;
+  if (w2c_i0) {goto w2c_B3;}
+  w2c_j0 = w2c_p7;
+  w2c_j1 = 3ull;
+  w2c_j0 &= w2c_j1;
+  w2c_p5 = w2c_j0;
+  w2c_j0 = 0ull;
+  w2c_p3 = w2c_j0;
+  w2c_j0 = w2c_p7;
+  w2c_j1 = 4ull;
+  w2c_i0 = w2c_j0 < w2c_j1;
+  if (w2c_i0) {goto w2c_B4;}
+  w2c_j0 = w2c_p7;
+  w2c_j1 = 18446744073709551612ull;
+  w2c_j0 &= w2c_j1;
+  w2c_l13 = w2c_j0;
+  w2c_j0 = 0ull;
+  w2c_p3 = w2c_j0;
+  w2c_L5: 
+    w2c_j0 = w2c_p1;
+    w2c_j1 = w2c_p3;
+    w2c_j0 += w2c_j1;
+    w2c_p2 = w2c_j0;
+    w2c_i0 = (u32)(w2c_j0);
+    w2c_j1 = w2c_l12;
+    w2c_j2 = w2c_p3;
+    w2c_j1 += w2c_j2;
+    w2c_p0 = w2c_j1;
+    w2c_j2 = 8ull;
+    w2c_j1 += w2c_j2;
+    w2c_i1 = (u32)(w2c_j1);
+    w2c_i1 = i32_load8_u(memory, (u64)(w2c_i1));
+    i32_store8(memory, (u64)(w2c_i0), w2c_i1);
+    w2c_j0 = w2c_p2;
+    w2c_j1 = 1ull;
+    w2c_j0 += w2c_j1;
+    w2c_i0 = (u32)(w2c_j0);
+    w2c_j1 = w2c_p0;
+    w2c_j2 = 9ull;
+    w2c_j1 += w2c_j2;
+    w2c_i1 = (u32)(w2c_j1);
+    w2c_i1 = i32_load8_u(memory, (u64)(w2c_i1));
+    i32_store8(memory, (u64)(w2c_i0), w2c_i1);
+    w2c_j0 = w2c_p2;
+    w2c_j1 = 2ull;
+    w2c_j0 += w2c_j1;
+    w2c_i0 = (u32)(w2c_j0);
+    w2c_j1 = w2c_p0;
+    w2c_j2 = 10ull;
+    w2c_j1 += w2c_j2;
+    w2c_i1 = (u32)(w2c_j1);
+    w2c_i1 = i32_load8_u(memory, (u64)(w2c_i1));
+    i32_store8(memory, (u64)(w2c_i0), w2c_i1);
+    w2c_j0 = w2c_p2;
+    w2c_j1 = 3ull;
+    w2c_j0 += w2c_j1;
+    w2c_i0 = (u32)(w2c_j0);
+    w2c_j1 = w2c_p0;
+    w2c_j2 = 11ull;
+    w2c_j1 += w2c_j2;
+    w2c_i1 = (u32)(w2c_j1);
+    w2c_i1 = i32_load8_u(memory, (u64)(w2c_i1));
+    i32_store8(memory, (u64)(w2c_i0), w2c_i1);
+    w2c_j0 = w2c_l13;
+    w2c_j1 = w2c_p3;
+    w2c_j2 = 4ull;
+    w2c_j1 += w2c_j2;
+    w2c_p3 = w2c_j1;
+    w2c_i0 = w2c_j0 != w2c_j1;
+    if (w2c_i0) {goto w2c_L5;}
+  w2c_j0 = w2c_p5;
+  w2c_i0 = !(w2c_j0);
+  if (w2c_i0) {goto w2c_B2;}
+  w2c_B4:;
+  w2c_j0 = w2c_p6;
+  w2c_j1 = w2c_l10;
+  w2c_j2 = w2c_p3;
+  w2c_j1 += w2c_j2;
+  w2c_j0 += w2c_j1;
+  w2c_p2 = w2c_j0;
+  w2c_j0 = w2c_l11;
+  w2c_j1 = w2c_p3;
+  w2c_j0 += w2c_j1;
+  w2c_j1 = w2c_p4;
+  w2c_j0 += w2c_j1;
+  w2c_j1 = 8ull;
+  w2c_j0 += w2c_j1;
+  w2c_p3 = w2c_j0;
+  w2c_L6: 
+    w2c_j0 = w2c_p2;
+    w2c_i0 = (u32)(w2c_j0);
+    w2c_j1 = w2c_p3;
+    w2c_i1 = (u32)(w2c_j1);
+    w2c_i1 = i32_load8_u(memory, (u64)(w2c_i1));
+    i32_store8(memory, (u64)(w2c_i0), w2c_i1);
+    w2c_j0 = w2c_p2;
+    w2c_j1 = 1ull;
+    w2c_j0 += w2c_j1;
+    w2c_p2 = w2c_j0;
+    w2c_j0 = w2c_p3;
+    w2c_j1 = 1ull;
+    w2c_j0 += w2c_j1;
+    w2c_p3 = w2c_j0;
+    w2c_j0 = w2c_p5;
+    w2c_j1 = 18446744073709551615ull;
+    w2c_j0 += w2c_j1;
+    w2c_p5 = w2c_j0;
+    w2c_j1 = 0ull;
+    w2c_i0 = w2c_j0 != w2c_j1;
+    if (w2c_i0) {goto w2c_L6;}
+    goto w2c_B2;
+  UNREACHABLE;
+  w2c_B3:;
+  w2c_j0 = w2c_p7;
+  w2c_i0 = !(w2c_j0);
+  if (w2c_i0) {goto w2c_B2;}
+  w2c_j0 = w2c_p1;
+  w2c_i0 = (u32)(w2c_j0);
+  w2c_j1 = w2c_p2;
+  w2c_i1 = (u32)(w2c_j1);
+  w2c_j2 = w2c_p7;
+  w2c_i2 = (u32)(w2c_j2);
+  memory_copy(memory, memory, w2c_i0, w2c_i1, w2c_i2);
+  w2c_B2:;
+  w2c_j0 = w2c_l8;
+  w2c_j1 = w2c_l8;
+  w2c_j2 = 248ull;
+  w2c_j1 += w2c_j2;
+  w2c_j2 = w2c_l12;
+  w2c_i2 = (u32)(w2c_j2);
+  w2c_j2 = step_i64_load(memory, (u64)(w2c_i2));
+  w2c_p2 = w2c_j2;
+  w2c_j3 = 56ull;
+  w2c_j2 <<= (w2c_j3 & 63);
+  w2c_j3 = w2c_p2;
+  w2c_j4 = 65280ull;
+  w2c_j3 &= w2c_j4;
+  w2c_j4 = 40ull;
+  w2c_j3 <<= (w2c_j4 & 63);
+  w2c_j2 |= w2c_j3;
+  w2c_j3 = w2c_p2;
+  w2c_j4 = 16711680ull;
+  w2c_j3 &= w2c_j4;
+  w2c_j4 = 24ull;
+  w2c_j3 <<= (w2c_j4 & 63);
+  w2c_j4 = w2c_p2;
+  w2c_j5 = 4278190080ull;
+  w2c_j4 &= w2c_j5;
+  w2c_j5 = 8ull;
+  w2c_j4 <<= (w2c_j5 & 63);
+  w2c_j3 |= w2c_j4;
+  w2c_j2 |= w2c_j3;
+  w2c_j3 = w2c_p2;
+  w2c_j4 = 8ull;
+  w2c_j3 >>= (w2c_j4 & 63);
+  w2c_j4 = 4278190080ull;
+  w2c_j3 &= w2c_j4;
+  w2c_j4 = w2c_p2;
+  w2c_j5 = 24ull;
+  w2c_j4 >>= (w2c_j5 & 63);
+  w2c_j5 = 16711680ull;
+  w2c_j4 &= w2c_j5;
+  w2c_j3 |= w2c_j4;
+  w2c_j4 = w2c_p2;
+  w2c_j5 = 40ull;
+  w2c_j4 >>= (w2c_j5 & 63);
+  w2c_j5 = 65280ull;
+  w2c_j4 &= w2c_j5;
+  w2c_j5 = w2c_p2;
+  w2c_j6 = 56ull;
+  w2c_j5 >>= (w2c_j6 & 63);
+  w2c_j4 |= w2c_j5;
+  w2c_j3 |= w2c_j4;
+  w2c_j2 |= w2c_j3;
+  w2c_j3 = w2c_p1;
+  w2c_j4 = w2c_p7;
+  w2c_j1 = w2c_f12(instance, w2c_j1, w2c_j2, w2c_j3, w2c_j4);
+  w2c_j2 = w2c_l9;
+  w2c_j1 ^= w2c_j2;
+  w2c_j2 = w2c_p1;
+  w2c_j3 = w2c_p7;
+  w2c_f13(instance, w2c_j0, w2c_j1, w2c_j2, w2c_j3);
+  w2c_i0 = 5u;
+  w2c_i1 = 4u;
+  w2c_j2 = w2c_l8;
+  w2c_i2 = (u32)(w2c_j2);
+  w2c_i2 = i32_load8_u(memory, (u64)(w2c_i2) + 1u);
+  w2c_i3 = 255u;
+  w2c_i2 &= w2c_i3;
+  w2c_i0 = w2c_i2 ? w2c_i0 : w2c_i1;
+  w2c_i1 = 0u;
+  w2c_j2 = w2c_l8;
+  w2c_i2 = (u32)(w2c_j2);
+  w2c_i2 = i32_load8_u(memory, (u64)(w2c_i2));
+  w2c_i3 = 1u;
+  w2c_i2 &= w2c_i3;
+  w2c_i0 = w2c_i2 ? w2c_i0 : w2c_i1;
+  w2c_l14 = w2c_i0;
+  w2c_B1:;
+  w2c_j0 = w2c_l8;
+  w2c_j1 = 8ull;
+  w2c_j0 += w2c_j1;
+  leaf_clear(memory, w2c_j0);
+  w2c_j0 = w2c_l8;
+  w2c_j1 = 304ull;
+  w2c_j0 += w2c_j1;
+  instance->w2c_g0 = w2c_j0;
+  w2c_i0 = w2c_l14;
+  goto w2c_Bfunc;
+  w2c_B0:;
+  UNREACHABLE;
+  w2c_Bfunc:;
+  return w2c_i0;
+}
+static u32 w2c_aes_wrap(struct instance *instance, u64 w2c_p0, u64 w2c_p1, u64 w2c_p2, u64 w2c_p3, u64 w2c_p4, u64 w2c_p5) {
+  u32 w2c_l6 = 0;
+  const struct memory memory = instance->w2c_memory;
+  (void)memory;
+  u32 w2c_i0;
+  u64 w2c_j0, w2c_j1, w2c_j2, w2c_j3, w2c_j4, w2c_j5;
+  w2c_i0 = w2c_f6(instance);
+  w2c_i0 = !(w2c_i0);
+  if (w2c_i0) {goto w2c_B0;}
+  w2c_f8(instance);
+  UNREACHABLE;
+  w2c_B0:;
+  w2c_j0 = w2c_p0;
+  w2c_j1 = w2c_p1;
+  w2c_j2 = w2c_p2;
+  w2c_j3 = w2c_p3;
+  w2c_j4 = w2c_p4;
+  w2c_j5 = w2c_p5;
+  w2c_i0 = w2c_f83(instance, w2c_j0, w2c_j1, w2c_j2, w2c_j3, w2c_j4, w2c_j5);
+  w2c_l6 = w2c_i0;
+  w2c_f7(instance);
+  w2c_i0 = w2c_l6;
+  return w2c_i0;
+}
+static u32 w2c_f83(struct instance *instance, u64 w2c_p0, u64 w2c_p1, u64 w2c_p2, u64 w2c_p3, u64 w2c_p4, u64 w2c_p5) {
+  const struct memory memory = instance->w2c_memory;
+  (void)memory;
+  u32 w2c_i0, w2c_i3, w2c_i5, w2c_i7;
+  u64 w2c_j0, w2c_j1, w2c_j2, w2c_j3, w2c_j4, w2c_j5, w2c_j6, w2c_j7;
+  w2c_j0 = w2c_p0;
+  w2c_j1 = 4096ull;
+  w2c_j2 = 0ull;
+  w2c_j3 = w2c_p0;
+  w2c_i3 = !(w2c_j3);
+  w2c_j1 = w2c_i3 ? w2c_j1 : w2c_j2;
+  w2c_j0 += w2c_j1;
+  w2c_j1 = w2c_p1;
+  w2c_j2 = w2c_p2;
+  w2c_j3 = 4096ull;
+  w2c_j4 = 0ull;
+  w2c_j5 = w2c_p2;
+  w2c_i5 = !(w2c_j5);
+  w2c_j3 = w2c_i5 ? w2c_j3 : w2c_j4;
+  w2c_j2 += w2c_j3;
+  w2c_j3 = w2c_p3;
+  w2c_j4 = w2c_p4;
+  w2c_j5 = 4096ull;
+  w2c_j6 = 0ull;
+  w2c_j7 = w2c_p4;
+  w2c_i7 = !(w2c_j7);
+  w2c_j5 = w2c_i7 ? w2c_j5 : w2c_j6;
+  w2c_j4 += w2c_j5;
+  w2c_j5 = w2c_p5;
+  w2c_i0 = w2c_f27(instance, w2c_j0, w2c_j1, w2c_j2, w2c_j3, w2c_j4, w2c_j5);
+  return w2c_i0;
+}
+static u32 w2c_aes_wrap_in_place(struct instance *instance, u64 w2c_p0, u64 w2c_p1, u64 w2c_p2, u64 w2c_p3) {
+  u32 w2c_l4 = 0;
+  const struct memory memory = instance->w2c_memory;
+  (void)memory;
+  u32 w2c_i0;
+  u64 w2c_j0, w2c_j1, w2c_j2, w2c_j3;
+  w2c_i0 = w2c_f6(instance);
+  w2c_i0 = !(w2c_i0);
+  if (w2c_i0) {goto w2c_B0;}
+  w2c_f8(instance);
+  UNREACHABLE;
+  w2c_B0:;
+  w2c_j0 = w2c_p0;
+  w2c_j1 = w2c_p1;
+  w2c_j2 = w2c_p2;
+  w2c_j3 = w2c_p3;
+  w2c_i0 = w2c_f85(instance, w2c_j0, w2c_j1, w2c_j2, w2c_j3);
+  w2c_l4 = w2c_i0;
+  w2c_f7(instance);
+  w2c_i0 = w2c_l4;
+  return w2c_i0;
+}
+static u32 w2c_f85(struct instance *instance, u64 w2c_p0, u64 w2c_p1, u64 w2c_p2, u64 w2c_p3) {
+  u32 w2c_l5 = 0;
+  u64 w2c_l4 = 0;
+  const struct memory memory = instance->w2c_memory;
+  (void)memory;
+  u32 w2c_i0, w2c_i1, w2c_i2, w2c_i4, w2c_i5;
+  u64 w2c_j0, w2c_j1, w2c_j2, w2c_j3, w2c_j4, w2c_j5;
+  w2c_j0 = instance->w2c_g0;
+  w2c_j1 = 304ull;
+  w2c_j0 -= w2c_j1;
+  w2c_l4 = w2c_j0;
+  instance->w2c_g0 = w2c_j0;
+  w2c_j0 = w2c_l4;
+  w2c_l4 = w2c_j0;
+  w2c_j1 = 16ull;
+  w2c_i0 = (u64)((s64)w2c_j0 < (s64)w2c_j1);
+  if (w2c_i0) {goto w2c_B0;}
+  w2c_j0 = w2c_l4;
+  w2c_j1 = 8ull;
+  w2c_j0 += w2c_j1;
+  w2c_i0 = (u32)(w2c_j0);
+  w2c_i1 = 0u;
+  w2c_j2 = 240ull;
+  w2c_i2 = (u32)(w2c_j2);
+  memory_fill(memory, w2c_i0, w2c_i1, w2c_i2);
+  w2c_j0 = w2c_l4;
+  w2c_i0 = (u32)(w2c_j0);
+  w2c_j1 = 0ull;
+  step_i64_store(memory, (u64)(w2c_i0) + 264, w2c_j1);
+  w2c_j0 = w2c_l4;
+  w2c_i0 = (u32)(w2c_j0);
+  w2c_j1 = 0ull;
+  step_i64_store(memory, (u64)(w2c_i0) + 256, w2c_j1);
+  w2c_j0 = w2c_l4;
+  w2c_i0 = (u32)(w2c_j0);
+  w2c_j1 = 0ull;
+  step_i64_store(memory, (u64)(w2c_i0) + 248, w2c_j1);
+  w2c_j0 = w2c_l4;
+  w2c_j1 = 248ull;
+  w2c_j0 += w2c_j1;
+  w2c_j1 = w2c_p0;
+  w2c_j2 = 4096ull;
+  w2c_j3 = 0ull;
+  w2c_j4 = w2c_p0;
+  w2c_i4 = !(w2c_j4);
+  w2c_j2 = w2c_i4 ? w2c_j2 : w2c_j3;
+  w2c_j1 += w2c_j2;
+  w2c_j2 = w2c_p1;
+  w2c_j3 = w2c_l4;
+  w2c_j4 = 8ull;
+  w2c_j3 += w2c_j4;
+  w2c_f10(instance, w2c_j0, w2c_j1, w2c_j2, w2c_j3);
+  w2c_i0 = 3u;
+  w2c_l5 = w2c_i0;
+  w2c_j0 = w2c_l4;
+  w2c_i0 = (u32)(w2c_j0);
+  w2c_i0 = i32_load8_u(memory, (u64)(w2c_i0) + 248u);
+  w2c_i1 = 1u;
+  w2c_i0 = w2c_i0 != w2c_i1;
+  if (w2c_i0) {goto w2c_B1;}
+  w2c_j0 = w2c_l4;
+  w2c_i0 = (u32)(w2c_j0);
+  w2c_j1 = w2c_l4;
+  w2c_i1 = (u32)(w2c_j1);
+  w2c_j1 = step_i64_load(memory, (u64)(w2c_i1) + 264u);
+  step_i64_store(memory, (u64)(w2c_i0) + 280, w2c_j1);
+  w2c_j0 = w2c_l4;
+  w2c_i0 = (u32)(w2c_j0);
+  w2c_j1 = w2c_l4;
+  w2c_i1 = (u32)(w2c_j1);
+  w2c_j1 = step_i64_load(memory, (u64)(w2c_i1) + 256u);
+  step_i64_store(memory, (u64)(w2c_i0) + 272, w2c_j1);
+  w2c_j0 = w2c_l4;
+  w2c_i0 = (u32)(w2c_j0);
+  w2c_j1 = 0ull;
+  step_i64_store(memory, (u64)(w2c_i0) + 296, w2c_j1);
+  w2c_j0 = w2c_l4;
+  w2c_i0 = (u32)(w2c_j0);
+  w2c_j1 = w2c_l4;
+  w2c_j2 = 272ull;
+  w2c_j1 += w2c_j2;
+  step_i64_store(memory, (u64)(w2c_i0) + 288, w2c_j1);
+  w2c_i0 = 4u;
+  w2c_l5 = w2c_i0;
+  w2c_j0 = w2c_p3;
+  w2c_j1 = 7ull;
+  w2c_j0 &= w2c_j1;
+  w2c_j1 = 0ull;
+  w2c_i0 = w2c_j0 != w2c_j1;
+  if (w2c_i0) {goto w2c_B1;}
+  w2c_j0 = w2c_p3;
+  w2c_j1 = 18446744073709551592ull;
+  w2c_j0 += w2c_j1;
+  w2c_j1 = 1048560ull;
+  w2c_i0 = w2c_j0 > w2c_j1;
+  if (w2c_i0) {goto w2c_B1;}
+  w2c_j0 = w2c_l4;
+  w2c_j1 = 288ull;
+  w2c_j0 += w2c_j1;
+  w2c_j1 = 12008468691120727718ull;
+  w2c_j2 = w2c_p2;
+  w2c_j3 = 4096ull;
+  w2c_j4 = 0ull;
+  w2c_j5 = w2c_p2;
+  w2c_i5 = !(w2c_j5);
+  w2c_j3 = w2c_i5 ? w2c_j3 : w2c_j4;
+  w2c_j2 += w2c_j3;
+  w2c_j3 = w2c_p3;
+  w2c_f20(instance, w2c_j0, w2c_j1, w2c_j2, w2c_j3);
+  w2c_i0 = 0u;
+  w2c_l5 = w2c_i0;
+  w2c_B1:;
+  w2c_j0 = w2c_l4;
+  w2c_j1 = 8ull;
+  w2c_j0 += w2c_j1;
+  leaf_clear(memory, w2c_j0);
+  w2c_j0 = w2c_l4;
+  w2c_j1 = 304ull;
+  w2c_j0 += w2c_j1;
+  instance->w2c_g0 = w2c_j0;
+  w2c_i0 = w2c_l5;
+  goto w2c_Bfunc;
+  w2c_B0:;
+  UNREACHABLE;
+  w2c_Bfunc:;
+  return w2c_i0;
+}
+static u32 w2c_aes_wrap_many(struct instance *instance, u64 w2c_p0, u64 w2c_p1, u64 w2c_p2, u64 w2c_p3, u64 w2c_p4, u32 w2c_p5, u64 w2c_p6, u64 w2c_p7) {
+  const struct memory memory = instance->w2c_memory;
+  (void)memory;
+  u32 w2c_i0, w2c_i5;
+  u64 w2c_j0, w2c_j1, w2c_j2, w2c_j3, w2c_j4, w2c_j6, w2c_j7;
+  w2c_i0 = w2c_f6(instance);
+  w2c_i0 = !(w2c_i0);
+  if (w2c_i0) {goto w2c_B0;}
+  w2c_f8(instance);
+  UNREACHABLE;
+  w2c_B0:;
+  w2c_j0 = w2c_p0;
+  w2c_j1 = w2c_p1;
+  w2c_j2 = w2c_p2;
+  w2c_j3 = w2c_p3;
+  w2c_j4 = w2c_p4;
+  w2c_i5 = w2c_p5;
+  w2c_j6 = w2c_p6;
+  w2c_j7 = w2c_p7;
+  w2c_i0 = w2c_f87(instance, w2c_j0, w2c_j1, w2c_j2, w2c_j3, w2c_j4, w2c_i5, w2c_j6, w2c_j7);
+  w2c_p5 = w2c_i0;
+  w2c_f7(instance);
+  w2c_i0 = w2c_p5;
+  return w2c_i0;
+}
+static u32 w2c_f87(struct instance *instance, u64 w2c_p0, u64 w2c_p1, u64 w2c_p2, u64 w2c_p3, u64 w2c_p4, u32 w2c_p5, u64 w2c_p6, u64 w2c_p7) {
+  u32 w2c_l9 = 0;
+  u64 w2c_l8 = 0;
+  const struct memory memory = instance->w2c_memory;
+  (void)memory;
+  u32 w2c_i0, w2c_i1, w2c_i2, w2c_i3, w2c_i4;
+  u64 w2c_j0, w2c_j1, w2c_j2, w2c_j3, w2c_j4, w2c_j5, w2c_j6;
+  w2c_j0 = instance->w2c_g0;
+  w2c_j1 = 272ull;
+  w2c_j0 -= w2c_j1;
+  w2c_l8 = w2c_j0;
+  instance->w2c_g0 = w2c_j0;
+  w2c_j0 = w2c_l8;
+  w2c_l8 = w2c_j0;
+  w2c_j1 = 16ull;
+  w2c_i0 = (u64)((s64)w2c_j0 < (s64)w2c_j1);
+  if (w2c_i0) {goto w2c_B3;}
+  w2c_j0 = w2c_l8;
+  w2c_j1 = 8ull;
+  w2c_j0 += w2c_j1;
+  w2c_i0 = (u32)(w2c_j0);
+  w2c_i1 = 0u;
+  w2c_j2 = 240ull;
+  w2c_i2 = (u32)(w2c_j2);
+  memory_fill(memory, w2c_i0, w2c_i1, w2c_i2);
+  w2c_j0 = w2c_l8;
+  w2c_i0 = (u32)(w2c_j0);
+  w2c_j1 = 0ull;
+  step_i64_store(memory, (u64)(w2c_i0) + 264, w2c_j1);
+  w2c_j0 = w2c_l8;
+  w2c_i0 = (u32)(w2c_j0);
+  w2c_j1 = 0ull;
+  step_i64_store(memory, (u64)(w2c_i0) + 256, w2c_j1);
+  w2c_j0 = w2c_l8;
+  w2c_i0 = (u32)(w2c_j0);
+  w2c_j1 = 0ull;
+  step_i64_store(memory, (u64)(w2c_i0) + 248, w2c_j1);
+  w2c_j0 = w2c_l8;
+  w2c_j1 = 248ull;
+  w2c_j0 += w2c_j1;
+  w2c_j1 = w2c_p0;
+  w2c_j2 = 4096ull;
+  w2c_j3 = 0ull;
+  w2c_j4 = w2c_p0;
+  w2c_i4 = !(w2c_j4);
+  w2c_j2 = w2c_i4 ? w2c_j2 : w2c_j3;
+  w2c_j1 += w2c_j2;
+  w2c_j2 = w2c_p1;
+  w2c_j3 = w2c_l8;
+  w2c_j4 = 8ull;
+  w2c_j3 += w2c_j4;
+  w2c_f10(instance, w2c_j0, w2c_j1, w2c_j2, w2c_j3);
+  w2c_i0 = 3u;
+  w2c_l9 = w2c_i0;
+  w2c_j0 = w2c_l8;
+  w2c_i0 = (u32)(w2c_j0);
+  w2c_i0 = i32_load8_u(memory, (u64)(w2c_i0) + 248u);
+  w2c_i1 = 1u;
+  w2c_i0 = w2c_i0 != w2c_i1;
+  if (w2c_i0) {goto w2c_B0;}
+  w2c_i0 = 4u;
+  w2c_l9 = w2c_i0;
+  w2c_j0 = w2c_p7;
+  w2c_i0 = !(w2c_j0);
+  if (w2c_i0) {goto w2c_B0;}
+  w2c_j0 = w2c_p3;
+  w2c_j1 = w2c_p3;
+  w2c_j2 = w2c_p7;
+  w2c_j1 = DIV_U(w2c_j1, w2c_j2);
+  w2c_p0 = w2c_j1;
+  w2c_j2 = w2c_p7;
+  w2c_j1 *= w2c_j2;
+  w2c_j0 -= w2c_j1;
+  w2c_j1 = 0ull;
+  w2c_i0 = w2c_j0 != w2c_j1;
+  if (w2c_i0) {goto w2c_B0;}
+  w2c_j0 = w2c_p6;
+  w2c_j1 = 4096ull;
+  w2c_j2 = 0ull;
+  w2c_j3 = w2c_p6;
+  w2c_i3 = !(w2c_j3);
+  w2c_j1 = w2c_i3 ? w2c_j1 : w2c_j2;
+  w2c_j0 += w2c_j1;
+  w2c_p1 = w2c_j0;
+  w2c_j0 = w2c_p2;
+  w2c_j1 = 4096ull;
+  w2c_j2 = 0ull;
+  w2c_j3 = w2c_p2;
+  w2c_i3 = !(w2c_j3);
+  w2c_j1 = w2c_i3 ? w2c_j1 : w2c_j2;
+  w2c_j0 += w2c_j1;
+  w2c_p3 = w2c_j0;
+  w2c_j0 = w2c_l8;
+  w2c_j1 = 256ull;
+  w2c_j0 += w2c_j1;
+  w2c_p6 = w2c_j0;
+  w2c_i0 = w2c_p5;
+  switch (w2c_i0) {
+    case 0: goto w2c_B4;
+    case 1: goto w2c_B0;
+    case 2: goto w2c_B5;
+    default: goto w2c_B0;
+  }
+  w2c_B5:;
+  w2c_j0 = w2c_p4;
+  w2c_j1 = 18446744073709551615ull;
+  w2c_j0 += w2c_j1;
+  w2c_j1 = 1048576ull;
+  w2c_i0 = w2c_j0 >= w2c_j1;
+  if (w2c_i0) {goto w2c_B0;}
+  w2c_j0 = w2c_p0;
+  w2c_j1 = w2c_p4;
+  w2c_j2 = 15ull;
+  w2c_j1 += w2c_j2;
+  w2c_j2 = 4194296ull;
+  w2c_j1 &= w2c_j2;
+  w2c_i0 = w2c_j0 != w2c_j1;
+  if (w2c_i0) {goto w2c_B0;}
+  w2c_j0 = w2c_p0;
+  w2c_j1 = 16ull;
+  w2c_i0 = w2c_j0 == w2c_j1;
+  if (w2c_i0) {goto w2c_B2;}
+  w2c_j0 = w2c_p6;
+  w2c_i1 = 1u;
+  w2c_j2 = w2c_p4;
+  w2c_j3 = w2c_p0;
+  w2c_j4 = w2c_p3;
+  w2c_j5 = w2c_p1;
+  w2c_j6 = w2c_p7;
+  w2c_f36(instance, w2c_j0, w2c_i1, w2c_j2, w2c_j3, w2c_j4, w2c_j5, w2c_j6);
+  goto w2c_B1;
+  w2c_B4:;
+  w2c_j0 = w2c_p4;
+  w2c_j1 = 7ull;
+  w2c_j0 &= w2c_j1;
+  w2c_j1 = 0ull;
+  w2c_i0 = w2c_j0 != w2c_j1;
+  if (w2c_i0) {goto w2c_B0;}
+  w2c_j0 = w2c_p4;
+  w2c_j1 = 18446744073709551600ull;
+  w2c_j0 += w2c_j1;
+  w2c_j1 = 1048561ull;
+  w2c_i0 = w2c_j0 >= w2c_j1;
+  if (w2c_i0) {goto w2c_B0;}
+  w2c_j0 = w2c_p0;
+  w2c_j1 = w2c_p4;
+  w2c_j2 = 15ull;
+  w2c_j1 += w2c_j2;
+  w2c_j2 = 4194296ull;
+  w2c_j1 &= w2c_j2;
+  w2c_i0 = w2c_j0 != w2c_j1;
+  if (w2c_i0) {goto w2c_B0;}
+  w2c_j0 = w2c_p6;
+  w2c_i1 = 0u;
+  w2c_j2 = w2c_p4;
+  w2c_j3 = w2c_p0;
+  w2c_j4 = w2c_p3;
+  w2c_j5 = w2c_p1;
+  w2c_j6 = w2c_p7;
+  w2c_f36(instance, w2c_j0, w2c_i1, w2c_j2, w2c_j3, w2c_j4, w2c_j5, w2c_j6);
+  goto w2c_B1;
+  w2c_B3:;
+  UNREACHABLE;
+  w2c_B2:;
+  w2c_j0 = w2c_p6;
+  w2c_i1 = 1u;
+  w2c_j2 = w2c_p4;
+  w2c_j3 = w2c_p3;
+  w2c_j4 = w2c_p1;
+  w2c_j5 = w2c_p7;
+  w2c_f35(instance, w2c_j0, w2c_i1, w2c_j2, w2c_j3, w2c_j4, w2c_j5);
+  w2c_B1:;
+  w2c_i0 = 0u;
+  w2c_l9 = w2c_i0;
+  w2c_B0:;
+  w2c_j0 = w2c_l8;
+  w2c_j1 = 8ull;
+  w2c_j0 += w2c_j1;
+  leaf_clear(memory, w2c_j0);
+  w2c_j0 = w2c_l8;
+  w2c_j1 = 272ull;
+  w2c_j0 += w2c_j1;
+  instance->w2c_g0 = w2c_j0;
+  w2c_i0 = w2c_l9;
+  return w2c_i0;
+}
+static u32 w2c_aes_wrap_padded(struct instance *instance, u64 w2c_p0, u64 w2c_p1, u64 w2c_p2, u64 w2c_p3, u64 w2c_p4, u64 w2c_p5) {
+  u32 w2c_l6 = 0;
+  const struct memory memory = instance->w2c_memory;
+  (void)memory;
+  u32 w2c_i0;
+  u64 w2c_j0, w2c_j1, w2c_j2, w2c_j3, w2c_j4, w2c_j5;
+  w2c_i0 = w2c_f6(instance);
+  w2c_i0 = !(w2c_i0);
+  if (w2c_i0) {goto w2c_B0;}
+  w2c_f8(instance);
+  UNREACHABLE;
+  w2c_B0:;
+  w2c_j0 = w2c_p0;
+  w2c_j1 = w2c_p1;
+  w2c_j2 = w2c_p2;
+  w2c_j3 = w2c_p3;
+  w2c_j4 = w2c_p4;
+  w2c_j5 = w2c_p5;
+  w2c_i0 = w2c_f89(instance, w2c_j0, w2c_j1, w2c_j2, w2c_j3, w2c_j4, w2c_j5);
+  w2c_l6 = w2c_i0;
+  w2c_f7(instance);
+  w2c_i0 = w2c_l6;
+  return w2c_i0;
+}
+static u32 w2c_f89(struct instance *instance, u64 w2c_p0, u64 w2c_p1, u64 w2c_p2, u64 w2c_p3, u64 w2c_p4, u64 w2c_p5) {
+  const struct memory memory = instance->w2c_memory;
+  (void)memory;
+  u32 w2c_i0, w2c_i3, w2c_i5, w2c_i7;
+  u64 w2c_j0, w2c_j1, w2c_j2, w2c_j3, w2c_j4, w2c_j5, w2c_j6, w2c_j7;
+  w2c_j0 = w2c_p0;
+  w2c_j1 = 4096ull;
+  w2c_j2 = 0ull;
+  w2c_j3 = w2c_p0;
+  w2c_i3 = !(w2c_j3);
+  w2c_j1 = w2c_i3 ? w2c_j1 : w2c_j2;
+  w2c_j0 += w2c_j1;
+  w2c_j1 = w2c_p1;
+  w2c_j2 = w2c_p2;
+  w2c_j3 = 4096ull;
+  w2c_j4 = 0ull;
+  w2c_j5 = w2c_p2;
+  w2c_i5 = !(w2c_j5);
+  w2c_j3 = w2c_i5 ? w2c_j3 : w2c_j4;
+  w2c_j2 += w2c_j3;
+  w2c_j3 = w2c_p3;
+  w2c_j4 = w2c_p4;
+  w2c_j5 = 4096ull;
+  w2c_j6 = 0ull;
+  w2c_j7 = w2c_p4;
+  w2c_i7 = !(w2c_j7);
+  w2c_j5 = w2c_i7 ? w2c_j5 : w2c_j6;
+  w2c_j4 += w2c_j5;
+  w2c_j5 = w2c_p5;
+  w2c_i0 = w2c_f31(instance, w2c_j0, w2c_j1, w2c_j2, w2c_j3, w2c_j4, w2c_j5);
+  return w2c_i0;
+}
+static u32 w2c_aes_wrap_padded_in_place(struct instance *instance, u64 w2c_p0, u64 w2c_p1, u64 w2c_p2, u64 w2c_p3, u64 w2c_p4) {
+  u32 w2c_l5 = 0;
+  const struct memory memory = instance->w2c_memory;
+  (void)memory;
+  u32 w2c_i0;
+  u64 w2c_j0, w2c_j1, w2c_j2, w2c_j3, w2c_j4;
+  w2c_i0 = w2c_f6(instance);
+  w2c_i0 = !(w2c_i0);
+  if (w2c_i0) {goto w2c_B0;}
+  w2c_f8(instance);
+  UNREACHABLE;
+  w2c_B0:;
+  w2c_j0 = w2c_p0;
+  w2c_j1 = w2c_p1;
+  w2c_j2 = w2c_p2;
+  w2c_j3 = w2c_p3;
+  w2c_j4 = w2c_p4;
+  w2c_i0 = w2c_f91(instance, w2c_j0, w2c_j1, w2c_j2, w2c_j3, w2c_j4);
+  w2c_l5 = w2c_i0;
+  w2c_f7(instance);
+  w2c_i0 = w2c_l5;
+  return w2c_i0;
+}
+static u32 w2c_f91(struct instance *instance, u64 w2c_p0, u64 w2c_p1, u64 w2c_p2, u64 w2c_p3, u64 w2c_p4) {
+  u32 w2c_l6 = 0;
+  u64 w2c_l5 = 0;
+  const struct memory memory = instance->w2c_memory;
+  (void)memory;
+  u32 w2c_i0, w2c_i1, w2c_i2, w2c_i3, w2c_i4;
+  u64 w2c_j0, w2c_j1, w2c_j2, w2c_j3, w2c_j4;
+  w2c_j0 = instance->w2c_g0;
+  w2c_j1 = 304ull;
+  w2c_j0 -= w2c_j1;
+  w2c_l5 = w2c_j0;
+  instance->w2c_g0 = w2c_j0;
+  w2c_j0 = w2c_l5;
+  w2c_l5 = w2c_j0;
+  w2c_j1 = 16ull;
+  w2c_i0 = (u64)((s64)w2c_j0 < (s64)w2c_j1);
+  if (w2c_i0) {goto w2c_B0;}
+  w2c_j0 = w2c_l5;
+  w2c_j1 = 8ull;
+  w2c_j0 += w2c_j1;
+  w2c_i0 = (u32)(w2c_j0);
+  w2c_i1 = 0u;
+  w2c_j2 = 240ull;
+  w2c_i2 = (u32)(w2c_j2);
+  memory_fill(memory, w2c_i0, w2c_i1, w2c_i2);
+  w2c_j0 = w2c_l5;
+  w2c_i0 = (u32)(w2c_j0);
+  w2c_j1 = 0ull;
+  step_i64_store(memory, (u64)(w2c_i0) + 264, w2c_j1);
+  w2c_j0 = w2c_l5;
+  w2c_i0 = (u32)(w2c_j0);
+  w2c_j1 = 0ull;
+  step_i64_store(memory, (u64)(w2c_i0) + 256, w2c_j1);
+  w2c_j0 = w2c_l5;
+  w2c_i0 = (u32)(w2c_j0);
+  w2c_j1 = 0ull;
+  step_i64_store(memory, (u64)(w2c_i0) + 248, w2c_j1);
+  w2c_j0 = w2c_l5;
+  w2c_j1 = 248ull;
+  w2c_j0 += w2c_j1;
+  w2c_j1 = w2c_p0;
+  w2c_j2 = 4096ull;
+  w2c_j3 = 0ull;
+  w2c_j4 = w2c_p0;
+  w2c_i4 = !(w2c_j4);
+  w2c_j2 = w2c_i4 ? w2c_j2 : w2c_j3;
+  w2c_j1 += w2c_j2;
+  w2c_j2 = w2c_p1;
+  w2c_j3 = w2c_l5;
+  w2c_j4 = 8ull;
+  w2c_j3 += w2c_j4;
+  w2c_f10(instance, w2c_j0, w2c_j1, w2c_j2, w2c_j3);
+  w2c_i0 = 3u;
+  w2c_l6 = w2c_i0;
+  w2c_j0 = w2c_l5;
+  w2c_i0 = (u32)(w2c_j0);
+  w2c_i0 = i32_load8_u(memory, (u64)(w2c_i0) + 248u);
+  w2c_i1 = 1u;
+  w2c_i0 = w2c_i0 != w2c_i1;
+  if (w2c_i0) {goto w2c_B1;}
+  w2c_j0 = w2c_l5;
+  w2c_i0 = (u32)(w2c_j0);
+  w2c_j1 = w2c_l5;
+  w2c_i1 = (u32)(w2c_j1);
+  w2c_j1 = step_i64_load(memory, (u64)(w2c_i1) + 264u);
+  step_i64_store(memory, (u64)(w2c_i0) + 280, w2c_j1);
+  w2c_j0 = w2c_l5;
+  w2c_i0 = (u32)(w2c_j0);
+  w2c_j1 = w2c_l5;
+  w2c_i1 = (u32)(w2c_j1);
+  w2c_j1 = step_i64_load(memory, (u64)(w2c_i1) + 256u);
+  step_i64_store(memory, (u64)(w2c_i0) + 272, w2c_j1);
+  w2c_j0 = w2c_l5;
+  w2c_i0 = (u32)(w2c_j0);
+  w2c_j1 = 0ull;
+  step_i64_store(memory, (u64)(w2c_i0) + 296, w2c_j1);
+  w2c_j0 = w2c_l5;
+  w2c_i0 = (u32)(w2c_j0);
+  w2c_j1 = w2c_l5;
+  w2c_j2 = 272ull;
+  w2c_j1 += w2c_j2;
+  step_i64_store(memory, (u64)(w2c_i0) + 288, w2c_j1);
+  w2c_i0 = 4u;
+  w2c_l6 = w2c_i0;
+  w2c_j0 = w2c_p4;
+  w2c_j1 = 18446744073709551615ull;
+  w2c_j0 += w2c_j1;
+  w2c_j1 = 1048575ull;
+  w2c_i0 = w2c_j0 > w2c_j1;
+  if (w2c_i0) {goto w2c_B1;}
+  w2c_j0 = w2c_p3;
+  w2c_j1 = w2c_p4;
+  w2c_j2 = 15ull;
+  w2c_j1 += w2c_j2;
+  w2c_j2 = 4194296ull;
+  w2c_j1 &= w2c_j2;
+  w2c_i0 = w2c_j0 != w2c_j1;
+  if (w2c_i0) {goto w2c_B1;}
+  w2c_j0 = w2c_p2;
+  w2c_j1 = 4096ull;
+  w2c_j2 = 0ull;
+  w2c_j3 = w2c_p2;
+  w2c_i3 = !(w2c_j3);
+  w2c_j1 = w2c_i3 ? w2c_j1 : w2c_j2;
+  w2c_j0 += w2c_j1;
+  w2c_p0 = w2c_j0;
+  w2c_j0 = w2c_p3;
+  w2c_j1 = w2c_p4;
+  w2c_j2 = 8ull;
+  w2c_j1 += w2c_j2;
+  w2c_p1 = w2c_j1;
+  w2c_i0 = w2c_j0 == w2c_j1;
+  if (w2c_i0) {goto w2c_B2;}
+  w2c_j0 = w2c_p0;
+  w2c_j1 = w2c_p1;
+  w2c_j0 += w2c_j1;
+  w2c_p1 = w2c_j0;
+  w2c_j0 = w2c_p3;
+  w2c_j1 = w2c_p4;
+  w2c_j0 -= w2c_j1;
+  w2c_j1 = 18446744073709551607ull;
+  w2c_j0 += w2c_j1;
+  w2c_p2 = w2c_j0;
+  w2c_i0 = !(w2c_j0);
+  w2c_l6 = w2c_i0;
+  if (w2c_i0) {goto w2c_B3;}
+  w2c_i0 = w2c_l6;
+  if (w2c_i0) {goto w2c_B3;}
+  w2c_j0 = w2c_p1;
+  w2c_i0 = (u32)(w2c_j0);
+  w2c_i1 = 0u;
+  w2c_j2 = w2c_p2;
+  w2c_i2 = (u32)(w2c_j2);
+  memory_fill(memory, w2c_i0, w2c_i1, w2c_i2);
+  w2c_B3:;
+  w2c_j0 = w2c_p1;
+  w2c_j1 = w2c_p2;
+  w2c_j0 += w2c_j1;
+  w2c_i0 = (u32)(w2c_j0);
+  w2c_i1 = 0u;
+  i32_store8(memory, (u64)(w2c_i0), w2c_i1);
+  w2c_B2:;
+  w2c_j0 = w2c_l5;
+  w2c_j1 = 288ull;
+  w2c_j0 += w2c_j1;
+  w2c_j1 = w2c_p4;
+  w2c_j2 = 11986710452722728960ull;
+  w2c_j1 |= w2c_j2;
+  w2c_j2 = w2c_p0;
+  w2c_j3 = w2c_p3;
+  w2c_f20(instance, w2c_j0, w2c_j1, w2c_j2, w2c_j3);
+  w2c_i0 = 0u;
+  w2c_l6 = w2c_i0;
+  w2c_B1:;
+  w2c_j0 = w2c_l5;
+  w2c_j1 = 8ull;
+  w2c_j0 += w2c_j1;
+  leaf_clear(memory, w2c_j0);
+  w2c_j0 = w2c_l5;
+  w2c_j1 = 304ull;
+  w2c_j0 += w2c_j1;
+  instance->w2c_g0 = w2c_j0;
+  w2c_i0 = w2c_l6;
+  goto w2c_Bfunc;
+  w2c_B0:;
+  UNREACHABLE;
+  w2c_Bfunc:;
+  return w2c_i0;
+}
+static u32 w2c_aes_wrap_with(struct instance *instance, u64 w2c_p0, u64 w2c_p1, u64 w2c_p2, u64 w2c_p3, u64 w2c_p4, u64 w2c_p5, u64 w2c_p6, u64 w2c_p7) {
+  u32 w2c_l8 = 0;
+  const struct memory memory = instance->w2c_memory;
+  (void)memory;
+  u32 w2c_i0;
+  u64 w2c_j0, w2c_j1, w2c_j2, w2c_j3, w2c_j4, w2c_j5, w2c_j6, w2c_j7;
+  w2c_i0 = w2c_f6(instance);
+  w2c_i0 = !(w2c_i0);
+  if (w2c_i0) {goto w2c_B0;}
+  w2c_f8(instance);
+  UNREACHABLE;
+  w2c_B0:;
+  w2c_j0 = w2c_p0;
+  w2c_j1 = w2c_p1;
+  w2c_j2 = w2c_p2;
+  w2c_j3 = w2c_p3;
+  w2c_j4 = w2c_p4;
+  w2c_j5 = w2c_p5;
+  w2c_j6 = w2c_p6;
+  w2c_j7 = w2c_p7;
+  w2c_i0 = w2c_f93(instance, w2c_j0, w2c_j1, w2c_j2, w2c_j3, w2c_j4, w2c_j5, w2c_j6, w2c_j7);
+  w2c_l8 = w2c_i0;
+  w2c_f7(instance);
+  w2c_i0 = w2c_l8;
+  return w2c_i0;
+}
+static u32 w2c_f93(struct instance *instance, u64 w2c_p0, u64 w2c_p1, u64 w2c_p2, u64 w2c_p3, u64 w2c_p4, u64 w2c_p5, u64 w2c_p6, u64 w2c_p7) {
+  u32 w2c_l10 = 0;
+  u64 w2c_l8 = 0, w2c_l9 = 0;
+  const struct memory memory = instance->w2c_memory;
+  (void)memory;
+  u32 w2c_i0, w2c_i1, w2c_i2, w2c_i3, w2c_i4;
+  u64 w2c_j0, w2c_j1, w2c_j2, w2c_j3, w2c_j4;
+  w2c_j0 = instance->w2c_g0;
+  w2c_j1 = 304ull;
+  w2c_j0 -= w2c_j1;
+  w2c_l8 = w2c_j0;
+  instance->w2c_g0 = w2c_j0;
+  w2c_j0 = w2c_l8;
+  w2c_l8 = w2c_j0;
+  w2c_j1 = 16ull;
+  w2c_i0 = (u64)((s64)w2c_j0 < (s64)w2c_j1);
+  if (w2c_i0) {goto w2c_B0;}
+  w2c_j0 = w2c_l8;
+  w2c_j1 = 8ull;
+  w2c_j0 += w2c_j1;
+  w2c_i0 = (u32)(w2c_j0);
+  w2c_i1 = 0u;
+  w2c_j2 = 240ull;
+  w2c_i2 = (u32)(w2c_j2);
+  memory_fill(memory, w2c_i0, w2c_i1, w2c_i2);
+  w2c_j0 = w2c_l8;
+  w2c_i0 = (u32)(w2c_j0);
+  w2c_j1 = 0ull;
+  step_i64_store(memory, (u64)(w2c_i0) + 264, w2c_j1);
+  w2c_j0 = w2c_l8;
+  w2c_i0 = (u32)(w2c_j0);
+  w2c_j1 = 0ull;
+  step_i64_store(memory, (u64)(w2c_i0) + 272, w2c_j1);
+  w2c_j0 = w2c_l8;
+  w2c_i0 = (u32)(w2c_j0);
+  w2c_j1 = 0ull;
+  step_i64_store(memory, (u64)(w2c_i0) + 280, w2c_j1);
+  w2c_i0 = 2u;
+  w2c_l10 = w2c_i0;
+  w2c_j0 = w2c_p3;
+  w2c_j1 = 8ull;
+  w2c_i0 = w2c_j0 != w2c_j1;
+  if (w2c_i0) {goto w2c_B1;}
+  w2c_j0 = w2c_p2;
+  w2c_j1 = 4096ull;
+  w2c_j2 = 0ull;
+  w2c_j3 = w2c_p2;
+  w2c_i3 = !(w2c_j3);
+  w2c_j1 = w2c_i3 ? w2c_j1 : w2c_j2;
+  w2c_j0 += w2c_j1;
+  w2c_i0 = (u32)(w2c_j0);
+  w2c_j0 = step_i64_load(memory, (u64)(w2c_i0));
+  w2c_p2 = w2c_j0;
+  w2c_j1 = 56ull;
+  w2c_j0 <<= (w2c_j1 & 63);
+  w2c_j1 = w2c_p2;
+  w2c_j2 = 65280ull;
+  w2c_j1 &= w2c_j2;
+  w2c_j2 = 40ull;
+  w2c_j1 <<= (w2c_j2 & 63);
+  w2c_j0 |= w2c_j1;
+  w2c_j1 = w2c_p2;
+  w2c_j2 = 16711680ull;
+  w2c_j1 &= w2c_j2;
+  w2c_j2 = 24ull;
+  w2c_j1 <<= (w2c_j2 & 63);
+  w2c_j2 = w2c_p2;
+  w2c_j3 = 4278190080ull;
+  w2c_j2 &= w2c_j3;
+  w2c_j3 = 8ull;
+  w2c_j2 <<= (w2c_j3 & 63);
+  w2c_j1 |= w2c_j2;
+  w2c_j0 |= w2c_j1;
+  w2c_j1 = w2c_p2;
+  w2c_j2 = 8ull;
+  w2c_j1 >>= (w2c_j2 & 63);
+  w2c_j2 = 4278190080ull;
+  w2c_j1 &= w2c_j2;
+  w2c_j2 = w2c_p2;
+  w2c_j3 = 24ull;
+  w2c_j2 >>= (w2c_j3 & 63);
+  w2c_j3 = 16711680ull;
+  w2c_j2 &= w2c_j3;
+  w2c_j1 |= w2c_j2;
+  w2c_j2 = w2c_p2;
+  w2c_j3 = 40ull;
+  w2c_j2 >>= (w2c_j3 & 63);
+  w2c_j3 = 65280ull;
+  w2c_j2 &= w2c_j3;
+  w2c_j3 = w2c_p2;
+  w2c_j4 = 56ull;
+  w2c_j3 >>= (w2c_j4 & 63);
+  w2c_j2 |= w2c_j3;
+  w2c_j1 |= w2c_j2;
+  w2c_j0 |= w2c_j1;
+  w2c_l9 = w2c_j0;
+  w2c_j1 = 18446744069414584320ull;
+  w2c_j0 &= w2c_j1;
+  w2c_j1 = 11986710452722728960ull;
+  w2c_i0 = w2c_j0 == w2c_j1;
+  if (w2c_i0) {goto w2c_B1;}
+  w2c_j0 = w2c_l8;
+  w2c_j1 = 264ull;
+  w2c_j0 += w2c_j1;
+  w2c_j1 = w2c_p0;
+  w2c_j2 = 4096ull;
+  w2c_j3 = 0ull;
+  w2c_j4 = w2c_p0;
+  w2c_i4 = !(w2c_j4);
+  w2c_j2 = w2c_i4 ? w2c_j2 : w2c_j3;
+  w2c_j1 += w2c_j2;
+  w2c_j2 = w2c_p1;
+  w2c_j3 = w2c_l8;
+  w2c_j4 = 8ull;
+  w2c_j3 += w2c_j4;
+  w2c_f10(instance, w2c_j0, w2c_j1, w2c_j2, w2c_j3);
+  w2c_i0 = 3u;
+  w2c_l10 = w2c_i0;
+  w2c_j0 = w2c_l8;
+  w2c_i0 = (u32)(w2c_j0);
+  w2c_i0 = i32_load8_u(memory, (u64)(w2c_i0) + 264u);
+  w2c_i1 = 1u;
+  w2c_i0 = w2c_i0 != w2c_i1;
+  if (w2c_i0) {goto w2c_B1;}
+  w2c_j0 = w2c_l8;
+  w2c_i0 = (u32)(w2c_j0);
+  w2c_j1 = w2c_l8;
+  w2c_i1 = (u32)(w2c_j1);
+  w2c_j1 = step_i64_load(memory, (u64)(w2c_i1) + 280u);
+  step_i64_store(memory, (u64)(w2c_i0) + 296, w2c_j1);
+  w2c_j0 = w2c_l8;
+  w2c_i0 = (u32)(w2c_j0);
+  w2c_j1 = w2c_l8;
+  w2c_i1 = (u32)(w2c_j1);
+  w2c_j1 = step_i64_load(memory, (u64)(w2c_i1) + 272u);
+  step_i64_store(memory, (u64)(w2c_i0) + 288, w2c_j1);
+  w2c_j0 = w2c_l8;
+  w2c_i0 = (u32)(w2c_j0);
+  w2c_j1 = 0ull;
+  step_i64_store(memory, (u64)(w2c_i0) + 256, w2c_j1);
+  w2c_j0 = w2c_l8;
+  w2c_i0 = (u32)(w2c_j0);
+  w2c_j1 = w2c_l8;
+  w2c_j2 = 288ull;
+  w2c_j1 += w2c_j2;
+  step_i64_store(memory, (u64)(w2c_i0) + 248, w2c_j1);
+  w2c_i0 = 4u;
+  w2c_l10 = w2c_i0;
+  w2c_j0 = w2c_p5;
+  w2c_j1 = 7ull;
+  w2c_j0 &= w2c_j1;
+  w2c_j1 = 0ull;
+  w2c_i0 = w2c_j0 != w2c_j1;
+  if (w2c_i0) {goto w2c_B1;}
+  w2c_j0 = w2c_p5;
+  w2c_j1 = 18446744073709551600ull;
+  w2c_j0 += w2c_j1;
+  w2c_j1 = 1048560ull;
+  w2c_i0 = w2c_j0 > w2c_j1;
+  if (w2c_i0) {goto w2c_B1;}
+  w2c_j0 = w2c_p7;
+  w2c_j1 = w2c_p5;
+  w2c_j2 = 8ull;
+  w2c_j1 += w2c_j2;
+  w2c_i0 = w2c_j0 != w2c_j1;
+  if (w2c_i0) {goto w2c_B1;}
+  w2c_j0 = w2c_p6;
+  w2c_j1 = 4096ull;
+  w2c_j2 = 0ull;
+  w2c_j3 = w2c_p6;
+  w2c_i3 = !(w2c_j3);
+  w2c_j1 = w2c_i3 ? w2c_j1 : w2c_j2;
+  w2c_j0 += w2c_j1;
+  w2c_p1 = w2c_j0;
+  w2c_j1 = 8ull;
+  w2c_j0 += w2c_j1;
+  w2c_p2 = w2c_j0;
+  w2c_j1 = w2c_p4;
+  w2c_j2 = 4096ull;
+  w2c_j3 = 0ull;
+  w2c_j4 = w2c_p4;
+  w2c_i4 = !(w2c_j4);
+  w2c_j2 = w2c_i4 ? w2c_j2 : w2c_j3;
+  w2c_j1 += w2c_j2;
+  w2c_p6 = w2c_j1;
+  w2c_j0 -= w2c_j1;
+  w2c_j1 = w2c_p5;
+  w2c_i0 = w2c_j0 >= w2c_j1;
+  if (w2c_i0) {goto w2c_B3;}
+  w2c_j0 = 0ull;
+  w2c_p2 = w2c_j0;
+  w2c_L4: 
+    w2c_j0 = w2c_p1;
+    w2c_j1 = w2c_p2;
+    w2c_j0 += w2c_j1;
+    w2c_p3 = w2c_j0;
+    w2c_j1 = 8ull;
+    w2c_j0 += w2c_j1;
+    w2c_i0 = (u32)(w2c_j0);
+    w2c_j1 = w2c_p6;
+    w2c_j2 = w2c_p2;
+    w2c_j1 += w2c_j2;
+    w2c_p0 = w2c_j1;
+    w2c_i1 = (u32)(w2c_j1);
+    w2c_i1 = i32_load8_u(memory, (u64)(w2c_i1));
+    i32_store8(memory, (u64)(w2c_i0), w2c_i1);
+    w2c_j0 = w2c_p3;
+    w2c_j1 = 9ull;
+    w2c_j0 += w2c_j1;
+    w2c_i0 = (u32)(w2c_j0);
+    w2c_j1 = w2c_p0;
+    w2c_j2 = 1ull;
+    w2c_j1 += w2c_j2;
+    w2c_i1 = (u32)(w2c_j1);
+    w2c_i1 = i32_load8_u(memory, (u64)(w2c_i1));
+    i32_store8(memory, (u64)(w2c_i0), w2c_i1);
+    w2c_j0 = w2c_p3;
+    w2c_j1 = 10ull;
+    w2c_j0 += w2c_j1;
+    w2c_i0 = (u32)(w2c_j0);
+    w2c_j1 = w2c_p0;
+    w2c_j2 = 2ull;
+    w2c_j1 += w2c_j2;
+    w2c_i1 = (u32)(w2c_j1);
+    w2c_i1 = i32_load8_u(memory, (u64)(w2c_i1));
+    i32_store8(memory, (u64)(w2c_i0), w2c_i1);
+    w2c_j0 = w2c_p3;
+    w2c_j1 = 11ull;
+    w2c_j0 += w2c_j1;
+    w2c_i0 = (u32)(w2c_j0);
+    w2c_j1 = w2c_p0;
+    w2c_j2 = 3ull;
+    w2c_j1 += w2c_j2;
+    w2c_i1 = (u32)(w2c_j1);
+    w2c_i1 = i32_load8_u(memory, (u64)(w2c_i1));
+    i32_store8(memory, (u64)(w2c_i0), w2c_i1);
+    w2c_j0 = w2c_p5;
+    w2c_j1 = w2c_p2;
+    w2c_j2 = 4ull;
+    w2c_j1 += w2c_j2;
+    w2c_p2 = w2c_j1;
+    w2c_i0 = w2c_j0 != w2c_j1;
+    if (w2c_i0) {goto w2c_L4;}
+    goto w2c_B2;
+  UNREACHABLE;
+  w2c_B3:;
+  w2c_j0 = w2c_p5;
+  w2c_i0 = !(w2c_j0);
+  if (w2c_i0) {goto w2c_B2;}
+  w2c_j0 = w2c_p2;
+  w2c_i0 = (u32)(w2c_j0);
+  w2c_j1 = w2c_p6;
+  w2c_i1 = (u32)(w2c_j1);
+  w2c_j2 = w2c_p5;
+  w2c_i2 = (u32)(w2c_j2);
+  memory_copy(memory, memory, w2c_i0, w2c_i1, w2c_i2);
+  w2c_B2:;
+  w2c_j0 = w2c_l8;
+  w2c_j1 = 248ull;
+  w2c_j0 += w2c_j1;
+  w2c_j1 = w2c_l9;
+  w2c_j2 = w2c_p1;
+  w2c_j3 = w2c_p7;
+  w2c_f20(instance, w2c_j0, w2c_j1, w2c_j2, w2c_j3);
+  w2c_i0 = 0u;
+  w2c_l10 = w2c_i0;
+  w2c_B1:;
+  w2c_j0 = w2c_l8;
+  w2c_j1 = 8ull;
+  w2c_j0 += w2c_j1;
+  leaf_clear(memory, w2c_j0);
+  w2c_j0 = w2c_l8;
+  w2c_j1 = 304ull;
+  w2c_j0 += w2c_j1;
+  instance->w2c_g0 = w2c_j0;
+  w2c_i0 = w2c_l10;
+  goto w2c_Bfunc;
+  w2c_B0:;
+  UNREACHABLE;
+  w2c_Bfunc:;
+  return w2c_i0;
+}
+#endif
 static u32 w2c_keywrap_begin_rewrap(struct instance *instance, u32 w2c_p0, u64 w2c_p1, u64 w2c_p2, u64 w2c_p3, u64 w2c_p4, u64 w2c_p5) {
   const struct memory memory = instance->w2c_memory;
   (void)memory;
   u32 w2c_i0;
   u64 w2c_j1, w2c_j2, w2c_j3, w2c_j4, w2c_j5;
-  w2c_i0 = w2c_f0(instance);
+  w2c_i0 = w2c_f6(instance);
   w2c_i0 = !(w2c_i0);
   if (w2c_i0) {goto w2c_B0;}
-  w2c_f2(instance);
+  w2c_f8(instance);
   UNREACHABLE;
   w2c_B0:;
   w2c_i0 = w2c_p0;
@@ -10020,13 +25275,13 @@ static u32 w2c_keywrap_begin_rewrap(struct instance *instance, u32 w2c_p0, u64 w
   w2c_j3 = w2c_p3;
   w2c_j4 = w2c_p4;
   w2c_j5 = w2c_p5;
-  w2c_i0 = w2c_f25(instance, w2c_i0, w2c_j1, w2c_j2, w2c_j3, w2c_j4, w2c_j5);
+  w2c_i0 = w2c_f95(instance, w2c_i0, w2c_j1, w2c_j2, w2c_j3, w2c_j4, w2c_j5);
   w2c_p0 = w2c_i0;
-  w2c_f1(instance);
+  w2c_f7(instance);
   w2c_i0 = w2c_p0;
   return w2c_i0;
 }
-static u32 w2c_f25(struct instance *instance, u32 w2c_p0, u64 w2c_p1, u64 w2c_p2, u64 w2c_p3, u64 w2c_p4, u64 w2c_p5) {
+static u32 w2c_f95(struct instance *instance, u32 w2c_p0, u64 w2c_p1, u64 w2c_p2, u64 w2c_p3, u64 w2c_p4, u64 w2c_p5) {
   u32 w2c_l6 = 0, w2c_l7 = 0, w2c_l8 = 0, w2c_l9 = 0, w2c_l10 = 0, w2c_l11 = 0;
   u64 w2c_l12 = 0;
   const struct memory memory = instance->w2c_memory;
@@ -10332,10 +25587,10 @@ static u32 w2c_keywrap_begin_unwrap(struct instance *instance, u64 w2c_p0, u64 w
   (void)memory;
   u32 w2c_i0;
   u64 w2c_j0, w2c_j1, w2c_j2, w2c_j3, w2c_j4;
-  w2c_i0 = w2c_f0(instance);
+  w2c_i0 = w2c_f6(instance);
   w2c_i0 = !(w2c_i0);
   if (w2c_i0) {goto w2c_B0;}
-  w2c_f2(instance);
+  w2c_f8(instance);
   UNREACHABLE;
   w2c_B0:;
   w2c_j0 = w2c_p0;
@@ -10343,13 +25598,13 @@ static u32 w2c_keywrap_begin_unwrap(struct instance *instance, u64 w2c_p0, u64 w
   w2c_j2 = w2c_p2;
   w2c_j3 = w2c_p3;
   w2c_j4 = w2c_p4;
-  w2c_i0 = w2c_f27(instance, w2c_j0, w2c_j1, w2c_j2, w2c_j3, w2c_j4);
+  w2c_i0 = w2c_f97(instance, w2c_j0, w2c_j1, w2c_j2, w2c_j3, w2c_j4);
   w2c_l5 = w2c_i0;
-  w2c_f1(instance);
+  w2c_f7(instance);
   w2c_i0 = w2c_l5;
   return w2c_i0;
 }
-static u32 w2c_f27(struct instance *instance, u64 w2c_p0, u64 w2c_p1, u64 w2c_p2, u64 w2c_p3, u64 w2c_p4) {
+static u32 w2c_f97(struct instance *instance, u64 w2c_p0, u64 w2c_p1, u64 w2c_p2, u64 w2c_p3, u64 w2c_p4) {
   u32 w2c_l5 = 0;
   u64 w2c_l6 = 0;
   const struct memory memory = instance->w2c_memory;
@@ -10461,16 +25716,16 @@ static u32 w2c_f27(struct instance *instance, u64 w2c_p0, u64 w2c_p1, u64 w2c_p2
   w2c_Bfunc:;
   return w2c_i0;
 }
-static u32 w2c_keywrap_begin_unwrap_padded(struct instance *instance, u64 w2c_p0, u64 w2c_p1, u64 w2c_p2, u64 w2c_p3, u64 w2c_p4) {
-  u32 w2c_l5 = 0;
+static u32 w2c_keywrap_begin_unwrap_many(struct instance *instance, u64 w2c_p0, u64 w2c_p1, u64 w2c_p2, u64 w2c_p3, u64 w2c_p4, u64 w2c_p5) {
+  u32 w2c_l6 = 0;
   const struct memory memory = instance->w2c_memory;
   (void)memory;
   u32 w2c_i0;
-  u64 w2c_j0, w2c_j1, w2c_j2, w2c_j3, w2c_j4;
-  w2c_i0 = w2c_f0(instance);
+  u64 w2c_j0, w2c_j1, w2c_j2, w2c_j3, w2c_j4, w2c_j5;
+  w2c_i0 = w2c_f6(instance);
   w2c_i0 = !(w2c_i0);
   if (w2c_i0) {goto w2c_B0;}
-  w2c_f2(instance);
+  w2c_f8(instance);
   UNREACHABLE;
   w2c_B0:;
   w2c_j0 = w2c_p0;
@@ -10478,13 +25733,340 @@ static u32 w2c_keywrap_begin_unwrap_padded(struct instance *instance, u64 w2c_p0
   w2c_j2 = w2c_p2;
   w2c_j3 = w2c_p3;
   w2c_j4 = w2c_p4;
-  w2c_i0 = w2c_f29(instance, w2c_j0, w2c_j1, w2c_j2, w2c_j3, w2c_j4);
+  w2c_j5 = w2c_p5;
+  w2c_i0 = w2c_f99(instance, w2c_j0, w2c_j1, w2c_j2, w2c_j3, w2c_j4, w2c_j5);
+  w2c_l6 = w2c_i0;
+  w2c_f7(instance);
+  w2c_i0 = w2c_l6;
+  return w2c_i0;
+}
+static u32 w2c_f99(struct instance *instance, u64 w2c_p0, u64 w2c_p1, u64 w2c_p2, u64 w2c_p3, u64 w2c_p4, u64 w2c_p5) {
+  u32 w2c_l15 = 0, w2c_l16 = 0;
+  u64 w2c_l6 = 0, w2c_l7 = 0, w2c_l8 = 0, w2c_l9 = 0, w2c_l10 = 0, w2c_l11 = 0, w2c_l12 = 0, w2c_l13 = 0, 
+      w2c_l14 = 0;
+  const struct memory memory = instance->w2c_memory;
+  (void)memory;
+  u32 w2c_i0, w2c_i1, w2c_i2, w2c_i3;
+  u64 w2c_j0, w2c_j1, w2c_j2, w2c_j3, w2c_j4;
+  w2c_j0 = instance->w2c_g0;
+  w2c_j1 = 16ull;
+  w2c_j0 -= w2c_j1;
+  w2c_l6 = w2c_j0;
+  instance->w2c_g0 = w2c_j0;
+  w2c_j0 = w2c_l6;
+  w2c_l7 = w2c_j0;
+  w2c_j1 = 16ull;
+  w2c_i0 = (u64)((s64)w2c_j0 < (s64)w2c_j1);
+  if (w2c_i0) {goto w2c_B1;}
+  w2c_i0 = 4u;
+  w2c_l15 = w2c_i0;
+  w2c_j0 = w2c_p2;
+  w2c_j1 = 18446744073709551592ull;
+  w2c_j0 += w2c_j1;
+  w2c_j1 = 1048560ull;
+  w2c_i0 = w2c_j0 > w2c_j1;
+  if (w2c_i0) {goto w2c_B0;}
+  w2c_j0 = w2c_p5;
+  w2c_j1 = 15ull;
+  w2c_j0 &= w2c_j1;
+  w2c_j1 = w2c_p2;
+  w2c_j2 = 7ull;
+  w2c_j1 &= w2c_j2;
+  w2c_l8 = w2c_j1;
+  w2c_j0 |= w2c_j1;
+  w2c_j1 = 0ull;
+  w2c_i0 = w2c_j0 != w2c_j1;
+  if (w2c_i0) {goto w2c_B0;}
+  w2c_j0 = w2c_l7;
+  w2c_j1 = w2c_p5;
+  w2c_j2 = 4ull;
+  w2c_j1 >>= (w2c_j2 & 63);
+  w2c_l6 = w2c_j1;
+  w2c_j2 = 0ull;
+  w2c_j3 = w2c_p2;
+  w2c_j4 = 0ull;
+  w2c_f9(instance, w2c_j0, w2c_j1, w2c_j2, w2c_j3, w2c_j4);
+  w2c_j0 = w2c_l7;
+  w2c_i0 = (u32)(w2c_j0);
+  w2c_j0 = i64_load(memory, (u64)(w2c_i0) + 8u);
+  w2c_j1 = 0ull;
+  w2c_i0 = w2c_j0 != w2c_j1;
+  w2c_l16 = w2c_i0;
+  if (w2c_i0) {goto w2c_B0;}
+  w2c_j0 = 0ull;
+  w2c_j1 = w2c_l6;
+  w2c_j2 = w2c_p2;
+  w2c_j1 *= w2c_j2;
+  w2c_i2 = w2c_l16;
+  w2c_j0 = w2c_i2 ? w2c_j0 : w2c_j1;
+  w2c_j1 = w2c_p1;
+  w2c_i0 = w2c_j0 != w2c_j1;
+  if (w2c_i0) {goto w2c_B0;}
+  w2c_j0 = w2c_p3;
+  w2c_i0 = (u32)(w2c_j0);
+  w2c_j1 = w2c_p2;
+  w2c_j2 = 18446744073709551608ull;
+  w2c_j1 += w2c_j2;
+  w2c_j2 = 3ull;
+  w2c_j1 >>= (w2c_j2 & 63);
+  w2c_j2 = 6ull;
+  w2c_j1 *= w2c_j2;
+  w2c_p1 = w2c_j1;
+  i64_store(memory, (u64)(w2c_i0), w2c_j1);
+  w2c_i0 = 0u;
+  w2c_l15 = w2c_i0;
+  w2c_j0 = w2c_l6;
+  w2c_i0 = !(w2c_j0);
+  if (w2c_i0) {goto w2c_B0;}
+  w2c_j0 = w2c_p4;
+  w2c_j1 = 4096ull;
+  w2c_j2 = 0ull;
+  w2c_j3 = w2c_p4;
+  w2c_i3 = !(w2c_j3);
+  w2c_j1 = w2c_i3 ? w2c_j1 : w2c_j2;
+  w2c_j0 += w2c_j1;
+  w2c_l9 = w2c_j0;
+  w2c_j0 = 0ull;
+  w2c_p4 = w2c_j0;
+  w2c_j0 = w2c_l8;
+  w2c_j1 = 0ull;
+  w2c_i0 = w2c_j0 != w2c_j1;
+  if (w2c_i0) {goto w2c_B2;}
+  w2c_j0 = w2c_p0;
+  w2c_j1 = 4096ull;
+  w2c_j2 = 0ull;
+  w2c_j3 = w2c_p0;
+  w2c_i3 = !(w2c_j3);
+  w2c_j1 = w2c_i3 ? w2c_j1 : w2c_j2;
+  w2c_j0 += w2c_j1;
+  w2c_l10 = w2c_j0;
+  w2c_j0 = w2c_p1;
+  w2c_j1 = 56ull;
+  w2c_j0 <<= (w2c_j1 & 63);
+  w2c_j1 = w2c_p1;
+  w2c_j2 = 65280ull;
+  w2c_j1 &= w2c_j2;
+  w2c_j2 = 40ull;
+  w2c_j1 <<= (w2c_j2 & 63);
+  w2c_j0 |= w2c_j1;
+  w2c_j1 = w2c_p1;
+  w2c_j2 = 16711680ull;
+  w2c_j1 &= w2c_j2;
+  w2c_j2 = 24ull;
+  w2c_j1 <<= (w2c_j2 & 63);
+  w2c_j2 = w2c_p1;
+  w2c_j3 = 4278190080ull;
+  w2c_j2 &= w2c_j3;
+  w2c_j3 = 8ull;
+  w2c_j2 <<= (w2c_j3 & 63);
+  w2c_j1 |= w2c_j2;
+  w2c_j0 |= w2c_j1;
+  w2c_j1 = w2c_p1;
+  w2c_j2 = 8ull;
+  w2c_j1 >>= (w2c_j2 & 63);
+  w2c_j2 = 4278190080ull;
+  w2c_j1 &= w2c_j2;
+  w2c_j2 = w2c_p1;
+  w2c_j3 = 24ull;
+  w2c_j2 >>= (w2c_j3 & 63);
+  w2c_j3 = 16711680ull;
+  w2c_j2 &= w2c_j3;
+  w2c_j1 |= w2c_j2;
+  w2c_j2 = w2c_p1;
+  w2c_j3 = 40ull;
+  w2c_j2 >>= (w2c_j3 & 63);
+  w2c_j3 = 65280ull;
+  w2c_j2 &= w2c_j3;
+  w2c_j3 = w2c_p1;
+  w2c_j4 = 56ull;
+  w2c_j3 >>= (w2c_j4 & 63);
+  w2c_j2 |= w2c_j3;
+  w2c_j1 |= w2c_j2;
+  w2c_j0 |= w2c_j1;
+  w2c_p1 = w2c_j0;
+  w2c_j0 = w2c_l6;
+  w2c_j1 = 1ull;
+  w2c_i0 = w2c_j0 == w2c_j1;
+  if (w2c_i0) {goto w2c_B3;}
+  w2c_j0 = w2c_l6;
+  w2c_j1 = 1ull;
+  w2c_j0 &= w2c_j1;
+  w2c_l11 = w2c_j0;
+  w2c_j0 = w2c_p2;
+  w2c_j1 = 18446744073709551608ull;
+  w2c_j0 += w2c_j1;
+  w2c_l8 = w2c_j0;
+  w2c_j0 = w2c_p2;
+  w2c_j1 = 1ull;
+  w2c_j0 <<= (w2c_j1 & 63);
+  w2c_l12 = w2c_j0;
+  w2c_j1 = 18446744073709551608ull;
+  w2c_j0 += w2c_j1;
+  w2c_l13 = w2c_j0;
+  w2c_j0 = 0ull;
+  w2c_p4 = w2c_j0;
+  w2c_j0 = 0ull;
+  w2c_j1 = w2c_p5;
+  w2c_j2 = 4ull;
+  w2c_j1 >>= (w2c_j2 & 63);
+  w2c_j2 = 1152921504606846974ull;
+  w2c_j1 &= w2c_j2;
+  w2c_j0 -= w2c_j1;
+  w2c_l14 = w2c_j0;
+  w2c_j0 = w2c_l10;
+  w2c_l6 = w2c_j0;
+  w2c_j0 = w2c_l9;
+  w2c_p5 = w2c_j0;
+  w2c_L4: 
+    w2c_j0 = w2c_l6;
+    w2c_i0 = (u32)(w2c_j0);
+    w2c_j0 = i64_load(memory, (u64)(w2c_i0));
+    w2c_p3 = w2c_j0;
+    w2c_j0 = w2c_p5;
+    w2c_j1 = 8ull;
+    w2c_j0 += w2c_j1;
+    w2c_i0 = (u32)(w2c_j0);
+    w2c_j1 = w2c_l6;
+    w2c_j2 = w2c_l8;
+    w2c_j1 += w2c_j2;
+    w2c_p0 = w2c_j1;
+    w2c_i1 = (u32)(w2c_j1);
+    w2c_j1 = i64_load(memory, (u64)(w2c_i1));
+    i64_store(memory, (u64)(w2c_i0), w2c_j1);
+    w2c_j0 = w2c_p5;
+    w2c_i0 = (u32)(w2c_j0);
+    w2c_j1 = w2c_p3;
+    w2c_j2 = w2c_p1;
+    w2c_j1 ^= w2c_j2;
+    i64_store(memory, (u64)(w2c_i0), w2c_j1);
+    w2c_j0 = w2c_p0;
+    w2c_j1 = 8ull;
+    w2c_j0 += w2c_j1;
+    w2c_i0 = (u32)(w2c_j0);
+    w2c_j0 = i64_load(memory, (u64)(w2c_i0));
+    w2c_p3 = w2c_j0;
+    w2c_j0 = w2c_p5;
+    w2c_j1 = 24ull;
+    w2c_j0 += w2c_j1;
+    w2c_i0 = (u32)(w2c_j0);
+    w2c_j1 = w2c_l6;
+    w2c_j2 = w2c_l13;
+    w2c_j1 += w2c_j2;
+    w2c_i1 = (u32)(w2c_j1);
+    w2c_j1 = i64_load(memory, (u64)(w2c_i1));
+    i64_store(memory, (u64)(w2c_i0), w2c_j1);
+    w2c_j0 = w2c_p5;
+    w2c_j1 = 16ull;
+    w2c_j0 += w2c_j1;
+    w2c_i0 = (u32)(w2c_j0);
+    w2c_j1 = w2c_p3;
+    w2c_j2 = w2c_p1;
+    w2c_j1 ^= w2c_j2;
+    i64_store(memory, (u64)(w2c_i0), w2c_j1);
+    w2c_j0 = w2c_l6;
+    w2c_j1 = w2c_l12;
+    w2c_j0 += w2c_j1;
+    w2c_l6 = w2c_j0;
+    w2c_j0 = w2c_p5;
+    w2c_j1 = 32ull;
+    w2c_j0 += w2c_j1;
+    w2c_p5 = w2c_j0;
+    w2c_j0 = w2c_l14;
+    w2c_j1 = w2c_p4;
+    w2c_j2 = 18446744073709551614ull;
+    w2c_j1 += w2c_j2;
+    w2c_p4 = w2c_j1;
+    w2c_i0 = w2c_j0 != w2c_j1;
+    if (w2c_i0) {goto w2c_L4;}
+  w2c_j0 = w2c_l11;
+  w2c_i0 = !(w2c_j0);
+  if (w2c_i0) {goto w2c_B0;}
+  w2c_j0 = 0ull;
+  w2c_j1 = w2c_p4;
+  w2c_j0 -= w2c_j1;
+  w2c_p4 = w2c_j0;
+  w2c_B3:;
+  w2c_j0 = w2c_l10;
+  w2c_j1 = w2c_p4;
+  w2c_j2 = w2c_p2;
+  w2c_j1 *= w2c_j2;
+  w2c_j0 += w2c_j1;
+  w2c_p5 = w2c_j0;
+  w2c_i0 = (u32)(w2c_j0);
+  w2c_j0 = i64_load(memory, (u64)(w2c_i0));
+  w2c_l6 = w2c_j0;
+  w2c_j0 = w2c_l9;
+  w2c_j1 = w2c_p4;
+  w2c_j2 = 4ull;
+  w2c_j1 <<= (w2c_j2 & 63);
+  w2c_j0 += w2c_j1;
+  w2c_p4 = w2c_j0;
+  w2c_i0 = (u32)(w2c_j0);
+  w2c_j1 = w2c_p5;
+  w2c_j2 = w2c_p2;
+  w2c_j1 += w2c_j2;
+  w2c_j2 = 18446744073709551608ull;
+  w2c_j1 += w2c_j2;
+  w2c_i1 = (u32)(w2c_j1);
+  w2c_j1 = i64_load(memory, (u64)(w2c_i1));
+  i64_store(memory, (u64)(w2c_i0) + 8, w2c_j1);
+  w2c_j0 = w2c_p4;
+  w2c_i0 = (u32)(w2c_j0);
+  w2c_j1 = w2c_l6;
+  w2c_j2 = w2c_p1;
+  w2c_j1 ^= w2c_j2;
+  i64_store(memory, (u64)(w2c_i0), w2c_j1);
+  goto w2c_B0;
+  w2c_B2:;
+  w2c_i0 = 0u;
+  w2c_l15 = w2c_i0;
+  w2c_j0 = w2c_p5;
+  w2c_j1 = 18446744073709551600ull;
+  w2c_j0 &= w2c_j1;
+  w2c_p5 = w2c_j0;
+  w2c_i0 = !(w2c_j0);
+  if (w2c_i0) {goto w2c_B0;}
+  w2c_j0 = w2c_l9;
+  w2c_i0 = (u32)(w2c_j0);
+  w2c_i1 = 0u;
+  w2c_j2 = w2c_p5;
+  w2c_i2 = (u32)(w2c_j2);
+  memory_fill(memory, w2c_i0, w2c_i1, w2c_i2);
+  goto w2c_B0;
+  w2c_B1:;
+  UNREACHABLE;
+  w2c_B0:;
+  w2c_j0 = w2c_l7;
+  w2c_j1 = 16ull;
+  w2c_j0 += w2c_j1;
+  instance->w2c_g0 = w2c_j0;
+  w2c_i0 = w2c_l15;
+  return w2c_i0;
+}
+static u32 w2c_keywrap_begin_unwrap_padded(struct instance *instance, u64 w2c_p0, u64 w2c_p1, u64 w2c_p2, u64 w2c_p3, u64 w2c_p4) {
+  u32 w2c_l5 = 0;
+  const struct memory memory = instance->w2c_memory;
+  (void)memory;
+  u32 w2c_i0;
+  u64 w2c_j0, w2c_j1, w2c_j2, w2c_j3, w2c_j4;
+  w2c_i0 = w2c_f6(instance);
+  w2c_i0 = !(w2c_i0);
+  if (w2c_i0) {goto w2c_B0;}
+  w2c_f8(instance);
+  UNREACHABLE;
+  w2c_B0:;
+  w2c_j0 = w2c_p0;
+  w2c_j1 = w2c_p1;
+  w2c_j2 = w2c_p2;
+  w2c_j3 = w2c_p3;
+  w2c_j4 = w2c_p4;
+  w2c_i0 = w2c_f101(instance, w2c_j0, w2c_j1, w2c_j2, w2c_j3, w2c_j4);
   w2c_l5 = w2c_i0;
-  w2c_f1(instance);
+  w2c_f7(instance);
   w2c_i0 = w2c_l5;
   return w2c_i0;
 }
-static u32 w2c_f29(struct instance *instance, u64 w2c_p0, u64 w2c_p1, u64 w2c_p2, u64 w2c_p3, u64 w2c_p4) {
+static u32 w2c_f101(struct instance *instance, u64 w2c_p0, u64 w2c_p1, u64 w2c_p2, u64 w2c_p3, u64 w2c_p4) {
   u32 w2c_l5 = 0;
   u64 w2c_l6 = 0;
   const struct memory memory = instance->w2c_memory;
@@ -10611,10 +26193,10 @@ static u32 w2c_keywrap_begin_wrap(struct instance *instance, u64 w2c_p0, u64 w2c
   (void)memory;
   u32 w2c_i0;
   u64 w2c_j0, w2c_j1, w2c_j2, w2c_j3, w2c_j4, w2c_j5;
-  w2c_i0 = w2c_f0(instance);
+  w2c_i0 = w2c_f6(instance);
   w2c_i0 = !(w2c_i0);
   if (w2c_i0) {goto w2c_B0;}
-  w2c_f2(instance);
+  w2c_f8(instance);
   UNREACHABLE;
   w2c_B0:;
   w2c_j0 = w2c_p0;
@@ -10623,13 +26205,13 @@ static u32 w2c_keywrap_begin_wrap(struct instance *instance, u64 w2c_p0, u64 w2c
   w2c_j3 = w2c_p3;
   w2c_j4 = w2c_p4;
   w2c_j5 = w2c_p5;
-  w2c_i0 = w2c_f31(instance, w2c_j0, w2c_j1, w2c_j2, w2c_j3, w2c_j4, w2c_j5);
+  w2c_i0 = w2c_f103(instance, w2c_j0, w2c_j1, w2c_j2, w2c_j3, w2c_j4, w2c_j5);
   w2c_l6 = w2c_i0;
-  w2c_f1(instance);
+  w2c_f7(instance);
   w2c_i0 = w2c_l6;
   return w2c_i0;
 }
-static u32 w2c_f31(struct instance *instance, u64 w2c_p0, u64 w2c_p1, u64 w2c_p2, u64 w2c_p3, u64 w2c_p4, u64 w2c_p5) {
+static u32 w2c_f103(struct instance *instance, u64 w2c_p0, u64 w2c_p1, u64 w2c_p2, u64 w2c_p3, u64 w2c_p4, u64 w2c_p5) {
   u32 w2c_l6 = 0;
   const struct memory memory = instance->w2c_memory;
   (void)memory;
@@ -10703,16 +26285,16 @@ static u32 w2c_f31(struct instance *instance, u64 w2c_p0, u64 w2c_p1, u64 w2c_p2
   w2c_Bfunc:;
   return w2c_i0;
 }
-static u32 w2c_keywrap_begin_wrap_padded(struct instance *instance, u64 w2c_p0, u64 w2c_p1, u64 w2c_p2, u64 w2c_p3, u64 w2c_p4) {
-  u32 w2c_l5 = 0;
+static u32 w2c_keywrap_begin_wrap_many(struct instance *instance, u64 w2c_p0, u64 w2c_p1, u64 w2c_p2, u64 w2c_p3, u64 w2c_p4, u64 w2c_p5, u64 w2c_p6, u64 w2c_p7) {
+  u32 w2c_l8 = 0;
   const struct memory memory = instance->w2c_memory;
   (void)memory;
   u32 w2c_i0;
-  u64 w2c_j0, w2c_j1, w2c_j2, w2c_j3, w2c_j4;
-  w2c_i0 = w2c_f0(instance);
+  u64 w2c_j0, w2c_j1, w2c_j2, w2c_j3, w2c_j4, w2c_j5, w2c_j6, w2c_j7;
+  w2c_i0 = w2c_f6(instance);
   w2c_i0 = !(w2c_i0);
   if (w2c_i0) {goto w2c_B0;}
-  w2c_f2(instance);
+  w2c_f8(instance);
   UNREACHABLE;
   w2c_B0:;
   w2c_j0 = w2c_p0;
@@ -10720,13 +26302,271 @@ static u32 w2c_keywrap_begin_wrap_padded(struct instance *instance, u64 w2c_p0, 
   w2c_j2 = w2c_p2;
   w2c_j3 = w2c_p3;
   w2c_j4 = w2c_p4;
-  w2c_i0 = w2c_f33(instance, w2c_j0, w2c_j1, w2c_j2, w2c_j3, w2c_j4);
+  w2c_j5 = w2c_p5;
+  w2c_j6 = w2c_p6;
+  w2c_j7 = w2c_p7;
+  w2c_i0 = w2c_f105(instance, w2c_j0, w2c_j1, w2c_j2, w2c_j3, w2c_j4, w2c_j5, w2c_j6, w2c_j7);
+  w2c_l8 = w2c_i0;
+  w2c_f7(instance);
+  w2c_i0 = w2c_l8;
+  return w2c_i0;
+}
+static u32 w2c_f105(struct instance *instance, u64 w2c_p0, u64 w2c_p1, u64 w2c_p2, u64 w2c_p3, u64 w2c_p4, u64 w2c_p5, u64 w2c_p6, u64 w2c_p7) {
+  u32 w2c_l11 = 0, w2c_l12 = 0;
+  u64 w2c_l8 = 0, w2c_l9 = 0, w2c_l10 = 0;
+  const struct memory memory = instance->w2c_memory;
+  (void)memory;
+  u32 w2c_i0, w2c_i1, w2c_i2, w2c_i3;
+  u64 w2c_j0, w2c_j1, w2c_j2, w2c_j3, w2c_j4;
+  w2c_j0 = instance->w2c_g0;
+  w2c_j1 = 16ull;
+  w2c_j0 -= w2c_j1;
+  w2c_l8 = w2c_j0;
+  instance->w2c_g0 = w2c_j0;
+  w2c_j0 = w2c_l8;
+  w2c_l8 = w2c_j0;
+  w2c_j1 = 16ull;
+  w2c_i0 = (u64)((s64)w2c_j0 < (s64)w2c_j1);
+  if (w2c_i0) {goto w2c_B1;}
+  w2c_i0 = 2u;
+  w2c_l11 = w2c_i0;
+  w2c_j0 = w2c_p1;
+  w2c_j1 = 8ull;
+  w2c_i0 = w2c_j0 != w2c_j1;
+  if (w2c_i0) {goto w2c_B0;}
+  w2c_j0 = w2c_p0;
+  w2c_j1 = 4096ull;
+  w2c_j2 = 0ull;
+  w2c_j3 = w2c_p0;
+  w2c_i3 = !(w2c_j3);
+  w2c_j1 = w2c_i3 ? w2c_j1 : w2c_j2;
+  w2c_j0 += w2c_j1;
+  w2c_i0 = (u32)(w2c_j0);
+  w2c_j0 = i64_load(memory, (u64)(w2c_i0));
+  w2c_p1 = w2c_j0;
+  w2c_i0 = (u32)(w2c_j0);
+  w2c_i1 = 2790873510u;
+  w2c_i0 = w2c_i0 == w2c_i1;
+  if (w2c_i0) {goto w2c_B0;}
+  w2c_i0 = 4u;
+  w2c_l11 = w2c_i0;
+  w2c_j0 = w2c_p4;
+  w2c_j1 = 18446744073709551592ull;
+  w2c_j0 += w2c_j1;
+  w2c_j1 = 1048560ull;
+  w2c_i0 = w2c_j0 > w2c_j1;
+  if (w2c_i0) {goto w2c_B0;}
+  w2c_j0 = w2c_p7;
+  w2c_j1 = 15ull;
+  w2c_j0 &= w2c_j1;
+  w2c_j1 = w2c_p4;
+  w2c_j2 = 7ull;
+  w2c_j1 &= w2c_j2;
+  w2c_l9 = w2c_j1;
+  w2c_j0 |= w2c_j1;
+  w2c_j1 = 0ull;
+  w2c_i0 = w2c_j0 != w2c_j1;
+  if (w2c_i0) {goto w2c_B0;}
+  w2c_j0 = w2c_l8;
+  w2c_j1 = w2c_p7;
+  w2c_j2 = 4ull;
+  w2c_j1 >>= (w2c_j2 & 63);
+  w2c_p0 = w2c_j1;
+  w2c_j2 = 0ull;
+  w2c_j3 = w2c_p4;
+  w2c_j4 = 0ull;
+  w2c_f9(instance, w2c_j0, w2c_j1, w2c_j2, w2c_j3, w2c_j4);
+  w2c_j0 = w2c_l8;
+  w2c_i0 = (u32)(w2c_j0);
+  w2c_j0 = i64_load(memory, (u64)(w2c_i0) + 8u);
+  w2c_j1 = 0ull;
+  w2c_i0 = w2c_j0 != w2c_j1;
+  w2c_l12 = w2c_i0;
+  if (w2c_i0) {goto w2c_B0;}
+  w2c_j0 = 0ull;
+  w2c_j1 = w2c_p0;
+  w2c_j2 = w2c_p4;
+  w2c_j1 *= w2c_j2;
+  w2c_i2 = w2c_l12;
+  w2c_j0 = w2c_i2 ? w2c_j0 : w2c_j1;
+  w2c_j1 = w2c_p3;
+  w2c_i0 = w2c_j0 != w2c_j1;
+  if (w2c_i0) {goto w2c_B0;}
+  w2c_j0 = w2c_p5;
+  w2c_i0 = (u32)(w2c_j0);
+  w2c_j1 = 0ull;
+  i64_store(memory, (u64)(w2c_i0), w2c_j1);
+  w2c_i0 = 0u;
+  w2c_l11 = w2c_i0;
+  w2c_j0 = w2c_p0;
+  w2c_i0 = !(w2c_j0);
+  if (w2c_i0) {goto w2c_B0;}
+  w2c_j0 = w2c_p6;
+  w2c_j1 = 4096ull;
+  w2c_j2 = 0ull;
+  w2c_j3 = w2c_p6;
+  w2c_i3 = !(w2c_j3);
+  w2c_j1 = w2c_i3 ? w2c_j1 : w2c_j2;
+  w2c_j0 += w2c_j1;
+  w2c_l10 = w2c_j0;
+  w2c_j0 = w2c_l9;
+  w2c_j1 = 0ull;
+  w2c_i0 = w2c_j0 != w2c_j1;
+  if (w2c_i0) {goto w2c_B2;}
+  w2c_j0 = w2c_p2;
+  w2c_j1 = 4096ull;
+  w2c_j2 = 0ull;
+  w2c_j3 = w2c_p2;
+  w2c_i3 = !(w2c_j3);
+  w2c_j1 = w2c_i3 ? w2c_j1 : w2c_j2;
+  w2c_j0 += w2c_j1;
+  w2c_p2 = w2c_j0;
+  w2c_j0 = 0ull;
+  w2c_p3 = w2c_j0;
+  w2c_j0 = w2c_p0;
+  w2c_j1 = 1ull;
+  w2c_i0 = w2c_j0 == w2c_j1;
+  if (w2c_i0) {goto w2c_B3;}
+  w2c_j0 = w2c_p0;
+  w2c_j1 = 1ull;
+  w2c_j0 &= w2c_j1;
+  w2c_l9 = w2c_j0;
+  w2c_j0 = w2c_p4;
+  w2c_j1 = 1ull;
+  w2c_j0 <<= (w2c_j1 & 63);
+  w2c_p6 = w2c_j0;
+  w2c_j0 = w2c_p0;
+  w2c_j1 = 1152921504606846974ull;
+  w2c_j0 &= w2c_j1;
+  w2c_p5 = w2c_j0;
+  w2c_j0 = w2c_p2;
+  w2c_j1 = 8ull;
+  w2c_j0 += w2c_j1;
+  w2c_p7 = w2c_j0;
+  w2c_j0 = 0ull;
+  w2c_p3 = w2c_j0;
+  w2c_j0 = w2c_l10;
+  w2c_p0 = w2c_j0;
+  w2c_L4: 
+    w2c_j0 = w2c_p0;
+    w2c_j1 = 8ull;
+    w2c_j0 += w2c_j1;
+    w2c_i0 = (u32)(w2c_j0);
+    w2c_j1 = w2c_p7;
+    w2c_i1 = (u32)(w2c_j1);
+    w2c_j1 = i64_load(memory, (u64)(w2c_i1));
+    i64_store(memory, (u64)(w2c_i0), w2c_j1);
+    w2c_j0 = w2c_p0;
+    w2c_i0 = (u32)(w2c_j0);
+    w2c_j1 = w2c_p1;
+    i64_store(memory, (u64)(w2c_i0), w2c_j1);
+    w2c_j0 = w2c_p0;
+    w2c_j1 = 24ull;
+    w2c_j0 += w2c_j1;
+    w2c_i0 = (u32)(w2c_j0);
+    w2c_j1 = w2c_p7;
+    w2c_j2 = w2c_p4;
+    w2c_j1 += w2c_j2;
+    w2c_i1 = (u32)(w2c_j1);
+    w2c_j1 = i64_load(memory, (u64)(w2c_i1));
+    i64_store(memory, (u64)(w2c_i0), w2c_j1);
+    w2c_j0 = w2c_p0;
+    w2c_j1 = 16ull;
+    w2c_j0 += w2c_j1;
+    w2c_i0 = (u32)(w2c_j0);
+    w2c_j1 = w2c_p1;
+    i64_store(memory, (u64)(w2c_i0), w2c_j1);
+    w2c_j0 = w2c_p7;
+    w2c_j1 = w2c_p6;
+    w2c_j0 += w2c_j1;
+    w2c_p7 = w2c_j0;
+    w2c_j0 = w2c_p0;
+    w2c_j1 = 32ull;
+    w2c_j0 += w2c_j1;
+    w2c_p0 = w2c_j0;
+    w2c_j0 = w2c_p5;
+    w2c_j1 = w2c_p3;
+    w2c_j2 = 2ull;
+    w2c_j1 += w2c_j2;
+    w2c_p3 = w2c_j1;
+    w2c_i0 = w2c_j0 != w2c_j1;
+    if (w2c_i0) {goto w2c_L4;}
+  w2c_j0 = w2c_l9;
+  w2c_i0 = !(w2c_j0);
+  if (w2c_i0) {goto w2c_B0;}
+  w2c_B3:;
+  w2c_j0 = w2c_l10;
+  w2c_j1 = w2c_p3;
+  w2c_j2 = 4ull;
+  w2c_j1 <<= (w2c_j2 & 63);
+  w2c_j0 += w2c_j1;
+  w2c_p0 = w2c_j0;
+  w2c_i0 = (u32)(w2c_j0);
+  w2c_j1 = w2c_p2;
+  w2c_j2 = w2c_p3;
+  w2c_j3 = w2c_p4;
+  w2c_j2 *= w2c_j3;
+  w2c_j1 += w2c_j2;
+  w2c_j2 = 8ull;
+  w2c_j1 += w2c_j2;
+  w2c_i1 = (u32)(w2c_j1);
+  w2c_j1 = i64_load(memory, (u64)(w2c_i1));
+  i64_store(memory, (u64)(w2c_i0) + 8, w2c_j1);
+  w2c_j0 = w2c_p0;
+  w2c_i0 = (u32)(w2c_j0);
+  w2c_j1 = w2c_p1;
+  i64_store(memory, (u64)(w2c_i0), w2c_j1);
+  goto w2c_B0;
+  w2c_B2:;
+  w2c_i0 = 0u;
+  w2c_l11 = w2c_i0;
+  w2c_j0 = w2c_p7;
+  w2c_j1 = 18446744073709551600ull;
+  w2c_j0 &= w2c_j1;
+  w2c_p0 = w2c_j0;
+  w2c_i0 = !(w2c_j0);
+  if (w2c_i0) {goto w2c_B0;}
+  w2c_j0 = w2c_l10;
+  w2c_i0 = (u32)(w2c_j0);
+  w2c_i1 = 0u;
+  w2c_j2 = w2c_p0;
+  w2c_i2 = (u32)(w2c_j2);
+  memory_fill(memory, w2c_i0, w2c_i1, w2c_i2);
+  goto w2c_B0;
+  w2c_B1:;
+  UNREACHABLE;
+  w2c_B0:;
+  w2c_j0 = w2c_l8;
+  w2c_j1 = 16ull;
+  w2c_j0 += w2c_j1;
+  instance->w2c_g0 = w2c_j0;
+  w2c_i0 = w2c_l11;
+  return w2c_i0;
+}
+static u32 w2c_keywrap_begin_wrap_padded(struct instance *instance, u64 w2c_p0, u64 w2c_p1, u64 w2c_p2, u64 w2c_p3, u64 w2c_p4) {
+  u32 w2c_l5 = 0;
+  const struct memory memory = instance->w2c_memory;
+  (void)memory;
+  u32 w2c_i0;
+  u64 w2c_j0, w2c_j1, w2c_j2, w2c_j3, w2c_j4;
+  w2c_i0 = w2c_f6(instance);
+  w2c_i0 = !(w2c_i0);
+  if (w2c_i0) {goto w2c_B0;}
+  w2c_f8(instance);
+  UNREACHABLE;
+  w2c_B0:;
+  w2c_j0 = w2c_p0;
+  w2c_j1 = w2c_p1;
+  w2c_j2 = w2c_p2;
+  w2c_j3 = w2c_p3;
+  w2c_j4 = w2c_p4;
+  w2c_i0 = w2c_f107(instance, w2c_j0, w2c_j1, w2c_j2, w2c_j3, w2c_j4);
   w2c_l5 = w2c_i0;
-  w2c_f1(instance);
+  w2c_f7(instance);
   w2c_i0 = w2c_l5;
   return w2c_i0;
 }
-static u32 w2c_f33(struct instance *instance, u64 w2c_p0, u64 w2c_p1, u64 w2c_p2, u64 w2c_p3, u64 w2c_p4) {
+static u32 w2c_f107(struct instance *instance, u64 w2c_p0, u64 w2c_p1, u64 w2c_p2, u64 w2c_p3, u64 w2c_p4) {
   u32 w2c_l5 = 0;
   const struct memory memory = instance->w2c_memory;
   (void)memory;
@@ -10864,1787 +26704,16 @@ static u32 w2c_f33(struct instance *instance, u64 w2c_p0, u64 w2c_p1, u64 w2c_p2
   w2c_Bfunc:;
   return w2c_i0;
 }
-#ifdef WITH_AES
-static u32 w2c_keywrap_begin_wrap_slot(struct instance *instance, u32 w2c_p0, u64 w2c_p1, u64 w2c_p2, u64 w2c_p3, u64 w2c_p4, u64 w2c_p5) {
-  const struct memory memory = instance->w2c_memory;
-  (void)memory;
-  u32 w2c_i0;
-  u64 w2c_j1, w2c_j2, w2c_j3, w2c_j4, w2c_j5;
-  w2c_i0 = w2c_f0(instance);
-  w2c_i0 = !(w2c_i0);
-  if (w2c_i0) {goto w2c_B0;}
-  w2c_f2(instance);
-  UNREACHABLE;
-  w2c_B0:;
-  w2c_i0 = w2c_p0;
-  w2c_j1 = w2c_p1;
-  w2c_j2 = w2c_p2;
-  w2c_j3 = w2c_p3;
-  w2c_j4 = w2c_p4;
-  w2c_j5 = w2c_p5;
-  w2c_i0 = w2c_f35(instance, w2c_i0, w2c_j1, w2c_j2, w2c_j3, w2c_j4, w2c_j5);
-  w2c_p0 = w2c_i0;
-  w2c_f1(instance);
-  w2c_i0 = w2c_p0;
-  return w2c_i0;
-}
-static u32 w2c_f35(struct instance *instance, u32 w2c_p0, u64 w2c_p1, u64 w2c_p2, u64 w2c_p3, u64 w2c_p4, u64 w2c_p5) {
-  u32 w2c_l6 = 0;
-  const struct memory memory = instance->w2c_memory;
-  (void)memory;
-  u32 w2c_i0, w2c_i1, w2c_i2, w2c_i3;
-  u64 w2c_j0, w2c_j1, w2c_j2, w2c_j3, w2c_j4, w2c_j5;
-  w2c_j0 = instance->w2c_g0;
-  w2c_j1 = 16ull;
-  w2c_i0 = (u64)((s64)w2c_j0 < (s64)w2c_j1);
-  if (w2c_i0) {goto w2c_B0;}
-  w2c_j0 = w2c_p2;
-  w2c_j1 = 4096ull;
-  w2c_j2 = 0ull;
-  w2c_j3 = w2c_p2;
-  w2c_i3 = !(w2c_j3);
-  w2c_j1 = w2c_i3 ? w2c_j1 : w2c_j2;
-  w2c_j0 += w2c_j1;
-  w2c_p2 = w2c_j0;
-  w2c_i0 = 4u;
-  w2c_l6 = w2c_i0;
-  w2c_i0 = w2c_p0;
-  switch (w2c_i0) {
-    case 0: goto w2c_B4;
-    case 1: goto w2c_B1;
-    case 2: goto w2c_B3;
-    default: goto w2c_B1;
-  }
-  w2c_B4:;
-  w2c_j0 = w2c_p1;
-  w2c_j1 = w2c_p3;
-  w2c_i0 = w2c_j0 != w2c_j1;
-  if (w2c_i0) {goto w2c_B1;}
-  w2c_j0 = w2c_p1;
-  w2c_j1 = 7ull;
-  w2c_j0 &= w2c_j1;
-  w2c_j1 = 0ull;
-  w2c_i0 = w2c_j0 != w2c_j1;
-  if (w2c_i0) {goto w2c_B1;}
-  w2c_j0 = w2c_p1;
-  w2c_j1 = 18446744073709551600ull;
-  w2c_j0 += w2c_j1;
-  w2c_j1 = 1048560ull;
-  w2c_i0 = w2c_j0 > w2c_j1;
-  if (w2c_i0) {goto w2c_B1;}
-  w2c_j0 = w2c_p4;
-  w2c_i0 = (u32)(w2c_j0);
-  w2c_j1 = 0ull;
-  i64_store(memory, (u64)(w2c_i0), w2c_j1);
-  w2c_j0 = w2c_p5;
-  w2c_i0 = (u32)(w2c_j0);
-  w2c_j1 = w2c_p2;
-  w2c_i1 = (u32)(w2c_j1);
-  w2c_j1 = i64_load(memory, (u64)(w2c_i1));
-  i64_store(memory, (u64)(w2c_i0) + 8, w2c_j1);
-  w2c_j0 = w2c_p5;
-  w2c_i0 = (u32)(w2c_j0);
-  w2c_j1 = 12008468691120727718ull;
-  i64_store(memory, (u64)(w2c_i0), w2c_j1);
-  goto w2c_B2;
-  w2c_B3:;
-  w2c_j0 = w2c_p1;
-  w2c_j1 = 18446744073709551615ull;
-  w2c_j0 += w2c_j1;
-  w2c_j1 = 1048575ull;
-  w2c_i0 = w2c_j0 > w2c_j1;
-  if (w2c_i0) {goto w2c_B1;}
-  w2c_j0 = w2c_p3;
-  w2c_j1 = 8ull;
-  w2c_j0 += w2c_j1;
-  w2c_j1 = w2c_p1;
-  w2c_j2 = 15ull;
-  w2c_j1 += w2c_j2;
-  w2c_j2 = 4194296ull;
-  w2c_j1 &= w2c_j2;
-  w2c_i0 = w2c_j0 != w2c_j1;
-  if (w2c_i0) {goto w2c_B1;}
-  w2c_j0 = w2c_p4;
-  w2c_i0 = (u32)(w2c_j0);
-  w2c_j1 = 0ull;
-  i64_store(memory, (u64)(w2c_i0), w2c_j1);
-  w2c_j0 = w2c_p3;
-  w2c_j1 = w2c_p1;
-  w2c_i0 = w2c_j0 == w2c_j1;
-  if (w2c_i0) {goto w2c_B5;}
-  w2c_j0 = w2c_p2;
-  w2c_j1 = w2c_p1;
-  w2c_j0 += w2c_j1;
-  w2c_p4 = w2c_j0;
-  w2c_j0 = w2c_p3;
-  w2c_j1 = w2c_p1;
-  w2c_j2 = 18446744073709551615ull;
-  w2c_j1 ^= w2c_j2;
-  w2c_j0 += w2c_j1;
-  w2c_p3 = w2c_j0;
-  w2c_i0 = !(w2c_j0);
-  w2c_l6 = w2c_i0;
-  if (w2c_i0) {goto w2c_B6;}
-  w2c_i0 = w2c_l6;
-  if (w2c_i0) {goto w2c_B6;}
-  w2c_j0 = w2c_p4;
-  w2c_i0 = (u32)(w2c_j0);
-  w2c_i1 = 0u;
-  w2c_j2 = w2c_p3;
-  w2c_i2 = (u32)(w2c_j2);
-  memory_fill(memory, w2c_i0, w2c_i1, w2c_i2);
-  w2c_B6:;
-  w2c_j0 = w2c_p4;
-  w2c_j1 = w2c_p3;
-  w2c_j0 += w2c_j1;
-  w2c_i0 = (u32)(w2c_j0);
-  w2c_i1 = 0u;
-  i32_store8(memory, (u64)(w2c_i0), w2c_i1);
-  w2c_B5:;
-  w2c_j0 = w2c_p5;
-  w2c_i0 = (u32)(w2c_j0);
-  w2c_j1 = w2c_p2;
-  w2c_i1 = (u32)(w2c_j1);
-  w2c_j1 = i64_load(memory, (u64)(w2c_i1));
-  i64_store(memory, (u64)(w2c_i0) + 8, w2c_j1);
-  w2c_j0 = w2c_p5;
-  w2c_i0 = (u32)(w2c_j0);
-  w2c_j1 = w2c_p1;
-  w2c_j2 = 56ull;
-  w2c_j1 <<= (w2c_j2 & 63);
-  w2c_j2 = w2c_p1;
-  w2c_j3 = 65280ull;
-  w2c_j2 &= w2c_j3;
-  w2c_j3 = 40ull;
-  w2c_j2 <<= (w2c_j3 & 63);
-  w2c_j1 |= w2c_j2;
-  w2c_j2 = w2c_p1;
-  w2c_j3 = 11986710452722728960ull;
-  w2c_j2 |= w2c_j3;
-  w2c_p2 = w2c_j2;
-  w2c_j3 = 16711680ull;
-  w2c_j2 &= w2c_j3;
-  w2c_j3 = 24ull;
-  w2c_j2 <<= (w2c_j3 & 63);
-  w2c_j3 = w2c_p2;
-  w2c_j4 = 4278190080ull;
-  w2c_j3 &= w2c_j4;
-  w2c_j4 = 8ull;
-  w2c_j3 <<= (w2c_j4 & 63);
-  w2c_j2 |= w2c_j3;
-  w2c_j1 |= w2c_j2;
-  w2c_j2 = w2c_p2;
-  w2c_j3 = 8ull;
-  w2c_j2 >>= (w2c_j3 & 63);
-  w2c_j3 = 4278190080ull;
-  w2c_j2 &= w2c_j3;
-  w2c_j3 = w2c_p2;
-  w2c_j4 = 24ull;
-  w2c_j3 >>= (w2c_j4 & 63);
-  w2c_j4 = 16711680ull;
-  w2c_j3 &= w2c_j4;
-  w2c_j2 |= w2c_j3;
-  w2c_j3 = w2c_p2;
-  w2c_j4 = 40ull;
-  w2c_j3 >>= (w2c_j4 & 63);
-  w2c_j4 = 65280ull;
-  w2c_j3 &= w2c_j4;
-  w2c_j4 = w2c_p2;
-  w2c_j5 = 56ull;
-  w2c_j4 >>= (w2c_j5 & 63);
-  w2c_j3 |= w2c_j4;
-  w2c_j2 |= w2c_j3;
-  w2c_j1 |= w2c_j2;
-  i64_store(memory, (u64)(w2c_i0), w2c_j1);
-  w2c_B2:;
-  w2c_i0 = 0u;
-  w2c_l6 = w2c_i0;
-  w2c_B1:;
-  w2c_i0 = w2c_l6;
-  goto w2c_Bfunc;
-  w2c_B0:;
-  UNREACHABLE;
-  w2c_Bfunc:;
-  return w2c_i0;
-}
-static u32 w2c_keywrap_check_keks(struct instance *instance, u64 w2c_p0, u64 w2c_p1, u64 w2c_p2, u64 w2c_p3) {
-  u32 w2c_l4 = 0;
-  const struct memory memory = instance->w2c_memory;
-  (void)memory;
-  u32 w2c_i0;
-  u64 w2c_j0, w2c_j1, w2c_j2, w2c_j3;
-  w2c_i0 = w2c_f0(instance);
-  w2c_i0 = !(w2c_i0);
-  if (w2c_i0) {goto w2c_B0;}
-  w2c_f2(instance);
-  UNREACHABLE;
-  w2c_B0:;
-  w2c_j0 = w2c_p0;
-  w2c_j1 = w2c_p1;
-  w2c_j2 = w2c_p2;
-  w2c_j3 = w2c_p3;
-  w2c_i0 = w2c_f37(instance, w2c_j0, w2c_j1, w2c_j2, w2c_j3);
-  w2c_l4 = w2c_i0;
-  w2c_f1(instance);
-  w2c_i0 = w2c_l4;
-  return w2c_i0;
-}
-static u32 w2c_f37(struct instance *instance, u64 w2c_p0, u64 w2c_p1, u64 w2c_p2, u64 w2c_p3) {
-  u32 w2c_l4 = 0;
-  const struct memory memory = instance->w2c_memory;
-  (void)memory;
-  u32 w2c_i0, w2c_i3;
-  u64 w2c_j0, w2c_j1, w2c_j2, w2c_j3;
-  w2c_j0 = instance->w2c_g0;
-  w2c_j1 = 16ull;
-  w2c_i0 = (u64)((s64)w2c_j0 < (s64)w2c_j1);
-  if (w2c_i0) {goto w2c_B0;}
-  w2c_i0 = 3u;
-  w2c_l4 = w2c_i0;
-  w2c_j0 = w2c_p1;
-  w2c_j1 = 183ull;
-  w2c_i0 = (u64)((s64)w2c_j0 > (s64)w2c_j1);
-  if (w2c_i0) {goto w2c_B3;}
-  w2c_j0 = w2c_p1;
-  w2c_j1 = 32ull;
-  w2c_i0 = w2c_j0 > w2c_j1;
-  if (w2c_i0) {goto w2c_B1;}
-  w2c_j0 = 1ull;
-  w2c_j1 = w2c_p1;
-  w2c_j0 <<= (w2c_j1 & 63);
-  w2c_j1 = 4311810048ull;
-  w2c_j0 &= w2c_j1;
-  w2c_j1 = 0ull;
-  w2c_i0 = w2c_j0 != w2c_j1;
-  if (w2c_i0) {goto w2c_B2;}
-  goto w2c_B1;
-  w2c_B3:;
-  w2c_j0 = w2c_p1;
-  w2c_j1 = 184ull;
-  w2c_i0 = w2c_j0 == w2c_j1;
-  if (w2c_i0) {goto w2c_B4;}
-  w2c_j0 = w2c_p1;
-  w2c_j1 = 248ull;
-  w2c_i0 = w2c_j0 == w2c_j1;
-  if (w2c_i0) {goto w2c_B4;}
-  w2c_j0 = w2c_p1;
-  w2c_j1 = 216ull;
-  w2c_i0 = w2c_j0 != w2c_j1;
-  if (w2c_i0) {goto w2c_B1;}
-  w2c_B4:;
-  w2c_j0 = w2c_p0;
-  w2c_j1 = 4096ull;
-  w2c_j2 = 0ull;
-  w2c_j3 = w2c_p0;
-  w2c_i3 = !(w2c_j3);
-  w2c_j1 = w2c_i3 ? w2c_j1 : w2c_j2;
-  w2c_j0 += w2c_j1;
-  w2c_i0 = (u32)(w2c_j0);
-  w2c_j0 = i64_load(memory, (u64)(w2c_i0));
-  w2c_j1 = 5423823929002190187ull;
-  w2c_i0 = w2c_j0 != w2c_j1;
-  if (w2c_i0) {goto w2c_B1;}
-  w2c_B2:;
-  w2c_j0 = w2c_p3;
-  w2c_j1 = 183ull;
-  w2c_i0 = (u64)((s64)w2c_j0 > (s64)w2c_j1);
-  if (w2c_i0) {goto w2c_B6;}
-  w2c_j0 = w2c_p3;
-  w2c_j1 = 32ull;
-  w2c_i0 = w2c_j0 > w2c_j1;
-  if (w2c_i0) {goto w2c_B1;}
-  w2c_j0 = 1ull;
-  w2c_j1 = w2c_p3;
-  w2c_j0 <<= (w2c_j1 & 63);
-  w2c_j1 = 4311810048ull;
-  w2c_j0 &= w2c_j1;
-  w2c_j1 = 0ull;
-  w2c_i0 = w2c_j0 != w2c_j1;
-  if (w2c_i0) {goto w2c_B5;}
-  goto w2c_B1;
-  w2c_B6:;
-  w2c_j0 = w2c_p3;
-  w2c_j1 = 184ull;
-  w2c_i0 = w2c_j0 == w2c_j1;
-  if (w2c_i0) {goto w2c_B7;}
-  w2c_j0 = w2c_p3;
-  w2c_j1 = 248ull;
-  w2c_i0 = w2c_j0 == w2c_j1;
-  if (w2c_i0) {goto w2c_B7;}
-  w2c_j0 = w2c_p3;
-  w2c_j1 = 216ull;
-  w2c_i0 = w2c_j0 != w2c_j1;
-  if (w2c_i0) {goto w2c_B1;}
-  w2c_B7:;
-  w2c_j0 = w2c_p2;
-  w2c_j1 = 4096ull;
-  w2c_j2 = 0ull;
-  w2c_j3 = w2c_p2;
-  w2c_i3 = !(w2c_j3);
-  w2c_j1 = w2c_i3 ? w2c_j1 : w2c_j2;
-  w2c_j0 += w2c_j1;
-  w2c_i0 = (u32)(w2c_j0);
-  w2c_j0 = i64_load(memory, (u64)(w2c_i0));
-  w2c_j1 = 5423823929002190187ull;
-  w2c_i0 = w2c_j0 != w2c_j1;
-  if (w2c_i0) {goto w2c_B1;}
-  w2c_B5:;
-  w2c_i0 = 0u;
-  w2c_l4 = w2c_i0;
-  w2c_B1:;
-  w2c_i0 = w2c_l4;
-  goto w2c_Bfunc;
-  w2c_B0:;
-  UNREACHABLE;
-  w2c_Bfunc:;
-  return w2c_i0;
-}
-static u32 w2c_keywrap_check_kind(struct instance *instance, u64 w2c_p0, u64 w2c_p1, u64 w2c_p2, u64 w2c_p3) {
-  u32 w2c_l4 = 0;
-  const struct memory memory = instance->w2c_memory;
-  (void)memory;
-  u32 w2c_i0;
-  u64 w2c_j0, w2c_j1, w2c_j2, w2c_j3;
-  w2c_i0 = w2c_f0(instance);
-  w2c_i0 = !(w2c_i0);
-  if (w2c_i0) {goto w2c_B0;}
-  w2c_f2(instance);
-  UNREACHABLE;
-  w2c_B0:;
-  w2c_j0 = w2c_p0;
-  w2c_j1 = w2c_p1;
-  w2c_j2 = w2c_p2;
-  w2c_j3 = w2c_p3;
-  w2c_i0 = w2c_f39(instance, w2c_j0, w2c_j1, w2c_j2, w2c_j3);
-  w2c_l4 = w2c_i0;
-  w2c_f1(instance);
-  w2c_i0 = w2c_l4;
-  return w2c_i0;
-}
-static u32 w2c_f39(struct instance *instance, u64 w2c_p0, u64 w2c_p1, u64 w2c_p2, u64 w2c_p3) {
-  u32 w2c_l4 = 0;
-  const struct memory memory = instance->w2c_memory;
-  (void)memory;
-  u32 w2c_i0, w2c_i1, w2c_i2, w2c_i3;
-  u64 w2c_j0, w2c_j1, w2c_j2, w2c_j3;
-  w2c_j0 = instance->w2c_g0;
-  w2c_j1 = 16ull;
-  w2c_i0 = (u64)((s64)w2c_j0 < (s64)w2c_j1);
-  if (w2c_i0) {goto w2c_B0;}
-  w2c_i0 = 3u;
-  w2c_l4 = w2c_i0;
-  w2c_j0 = w2c_p1;
-  w2c_j1 = 183ull;
-  w2c_i0 = (u64)((s64)w2c_j0 > (s64)w2c_j1);
-  if (w2c_i0) {goto w2c_B3;}
-  w2c_j0 = w2c_p1;
-  w2c_j1 = 32ull;
-  w2c_i0 = w2c_j0 > w2c_j1;
-  if (w2c_i0) {goto w2c_B1;}
-  w2c_j0 = 1ull;
-  w2c_j1 = w2c_p1;
-  w2c_j0 <<= (w2c_j1 & 63);
-  w2c_j1 = 4311810048ull;
-  w2c_j0 &= w2c_j1;
-  w2c_j1 = 0ull;
-  w2c_i0 = w2c_j0 != w2c_j1;
-  if (w2c_i0) {goto w2c_B2;}
-  goto w2c_B1;
-  w2c_B3:;
-  w2c_j0 = w2c_p1;
-  w2c_j1 = 184ull;
-  w2c_i0 = w2c_j0 == w2c_j1;
-  if (w2c_i0) {goto w2c_B4;}
-  w2c_j0 = w2c_p1;
-  w2c_j1 = 248ull;
-  w2c_i0 = w2c_j0 == w2c_j1;
-  if (w2c_i0) {goto w2c_B4;}
-  w2c_j0 = w2c_p1;
-  w2c_j1 = 216ull;
-  w2c_i0 = w2c_j0 != w2c_j1;
-  if (w2c_i0) {goto w2c_B1;}
-  w2c_B4:;
-  w2c_j0 = w2c_p0;
-  w2c_j1 = 4096ull;
-  w2c_j2 = 0ull;
-  w2c_j3 = w2c_p0;
-  w2c_i3 = !(w2c_j3);
-  w2c_j1 = w2c_i3 ? w2c_j1 : w2c_j2;
-  w2c_j0 += w2c_j1;
-  w2c_i0 = (u32)(w2c_j0);
-  w2c_j0 = i64_load(memory, (u64)(w2c_i0));
-  w2c_j1 = 5423823929002190187ull;
-  w2c_i0 = w2c_j0 != w2c_j1;
-  if (w2c_i0) {goto w2c_B1;}
-  w2c_B2:;
-  w2c_i0 = 5u;
-  w2c_l4 = w2c_i0;
-  w2c_j0 = w2c_p3;
-  w2c_j1 = 7ull;
-  w2c_j0 &= w2c_j1;
-  w2c_j1 = 0ull;
-  w2c_i0 = w2c_j0 != w2c_j1;
-  if (w2c_i0) {goto w2c_B1;}
-  w2c_j0 = w2c_p3;
-  w2c_j1 = 18446744073709551600ull;
-  w2c_j0 += w2c_j1;
-  w2c_j1 = 1048568ull;
-  w2c_i0 = w2c_j0 > w2c_j1;
-  if (w2c_i0) {goto w2c_B1;}
-  w2c_i0 = 0u;
-  w2c_i1 = 4u;
-  w2c_j2 = w2c_p3;
-  w2c_j3 = 18446744073709551608ull;
-  w2c_j2 += w2c_j3;
-  w2c_j3 = w2c_p2;
-  w2c_i2 = w2c_j2 == w2c_j3;
-  w2c_i0 = w2c_i2 ? w2c_i0 : w2c_i1;
-  w2c_l4 = w2c_i0;
-  w2c_B1:;
-  w2c_i0 = w2c_l4;
-  goto w2c_Bfunc;
-  w2c_B0:;
-  UNREACHABLE;
-  w2c_Bfunc:;
-  return w2c_i0;
-}
-static u32 w2c_keywrap_check_kind_many(struct instance *instance, u64 w2c_p0, u64 w2c_p1, u64 w2c_p2, u64 w2c_p3, u64 w2c_p4, u64 w2c_p5, u64 w2c_p6) {
-  u32 w2c_l7 = 0;
-  const struct memory memory = instance->w2c_memory;
-  (void)memory;
-  u32 w2c_i0;
-  u64 w2c_j0, w2c_j1, w2c_j2, w2c_j3, w2c_j4, w2c_j5, w2c_j6;
-  w2c_i0 = w2c_f0(instance);
-  w2c_i0 = !(w2c_i0);
-  if (w2c_i0) {goto w2c_B0;}
-  w2c_f2(instance);
-  UNREACHABLE;
-  w2c_B0:;
-  w2c_j0 = w2c_p0;
-  w2c_j1 = w2c_p1;
-  w2c_j2 = w2c_p2;
-  w2c_j3 = w2c_p3;
-  w2c_j4 = w2c_p4;
-  w2c_j5 = w2c_p5;
-  w2c_j6 = w2c_p6;
-  w2c_i0 = w2c_f41(instance, w2c_j0, w2c_j1, w2c_j2, w2c_j3, w2c_j4, w2c_j5, w2c_j6);
-  w2c_l7 = w2c_i0;
-  w2c_f1(instance);
-  w2c_i0 = w2c_l7;
-  return w2c_i0;
-}
-static u32 w2c_f41(struct instance *instance, u64 w2c_p0, u64 w2c_p1, u64 w2c_p2, u64 w2c_p3, u64 w2c_p4, u64 w2c_p5, u64 w2c_p6) {
-  u32 w2c_l7 = 0;
-  const struct memory memory = instance->w2c_memory;
-  (void)memory;
-  u32 w2c_i0, w2c_i1, w2c_i2, w2c_i3;
-  u64 w2c_j0, w2c_j1, w2c_j2, w2c_j3;
-  w2c_j0 = instance->w2c_g0;
-  w2c_j1 = 16ull;
-  w2c_i0 = (u64)((s64)w2c_j0 < (s64)w2c_j1);
-  if (w2c_i0) {goto w2c_B0;}
-  w2c_i0 = 3u;
-  w2c_l7 = w2c_i0;
-  w2c_j0 = w2c_p1;
-  w2c_j1 = 183ull;
-  w2c_i0 = (u64)((s64)w2c_j0 > (s64)w2c_j1);
-  if (w2c_i0) {goto w2c_B3;}
-  w2c_j0 = w2c_p1;
-  w2c_j1 = 32ull;
-  w2c_i0 = w2c_j0 > w2c_j1;
-  if (w2c_i0) {goto w2c_B1;}
-  w2c_j0 = 1ull;
-  w2c_j1 = w2c_p1;
-  w2c_j0 <<= (w2c_j1 & 63);
-  w2c_j1 = 4311810048ull;
-  w2c_j0 &= w2c_j1;
-  w2c_j1 = 0ull;
-  w2c_i0 = w2c_j0 != w2c_j1;
-  if (w2c_i0) {goto w2c_B2;}
-  goto w2c_B1;
-  w2c_B3:;
-  w2c_j0 = w2c_p1;
-  w2c_j1 = 184ull;
-  w2c_i0 = w2c_j0 == w2c_j1;
-  if (w2c_i0) {goto w2c_B4;}
-  w2c_j0 = w2c_p1;
-  w2c_j1 = 248ull;
-  w2c_i0 = w2c_j0 == w2c_j1;
-  if (w2c_i0) {goto w2c_B4;}
-  w2c_j0 = w2c_p1;
-  w2c_j1 = 216ull;
-  w2c_i0 = w2c_j0 != w2c_j1;
-  if (w2c_i0) {goto w2c_B1;}
-  w2c_B4:;
-  w2c_j0 = w2c_p0;
-  w2c_j1 = 4096ull;
-  w2c_j2 = 0ull;
-  w2c_j3 = w2c_p0;
-  w2c_i3 = !(w2c_j3);
-  w2c_j1 = w2c_i3 ? w2c_j1 : w2c_j2;
-  w2c_j0 += w2c_j1;
-  w2c_i0 = (u32)(w2c_j0);
-  w2c_j0 = i64_load(memory, (u64)(w2c_i0));
-  w2c_j1 = 5423823929002190187ull;
-  w2c_i0 = w2c_j0 != w2c_j1;
-  if (w2c_i0) {goto w2c_B1;}
-  w2c_B2:;
-  w2c_i0 = 4u;
-  w2c_l7 = w2c_i0;
-  w2c_j0 = w2c_p6;
-  w2c_i0 = !(w2c_j0);
-  if (w2c_i0) {goto w2c_B1;}
-  w2c_j0 = w2c_p2;
-  w2c_j1 = w2c_p2;
-  w2c_j2 = w2c_p6;
-  w2c_j1 = DIV_U(w2c_j1, w2c_j2);
-  w2c_p1 = w2c_j1;
-  w2c_j2 = w2c_p6;
-  w2c_j1 *= w2c_j2;
-  w2c_j0 -= w2c_j1;
-  w2c_j1 = 0ull;
-  w2c_i0 = w2c_j0 != w2c_j1;
-  if (w2c_i0) {goto w2c_B1;}
-  w2c_i0 = 0u;
-  w2c_i1 = 4u;
-  w2c_j2 = w2c_p1;
-  w2c_j3 = 18446744073709551600ull;
-  w2c_j2 += w2c_j3;
-  w2c_j3 = 1048569ull;
-  w2c_i2 = w2c_j2 < w2c_j3;
-  w2c_i0 = w2c_i2 ? w2c_i0 : w2c_i1;
-  w2c_i1 = 4u;
-  w2c_j2 = w2c_p1;
-  w2c_j3 = 7ull;
-  w2c_j2 &= w2c_j3;
-  w2c_i2 = !(w2c_j2);
-  w2c_i0 = w2c_i2 ? w2c_i0 : w2c_i1;
-  w2c_i1 = 4u;
-  w2c_j2 = w2c_p1;
-  w2c_j3 = 18446744073709551608ull;
-  w2c_j2 += w2c_j3;
-  w2c_j3 = w2c_p3;
-  w2c_i2 = w2c_j2 == w2c_j3;
-  w2c_i0 = w2c_i2 ? w2c_i0 : w2c_i1;
-  w2c_i1 = 4u;
-  w2c_j2 = w2c_p4;
-  w2c_j3 = w2c_p6;
-  w2c_i2 = w2c_j2 == w2c_j3;
-  w2c_i0 = w2c_i2 ? w2c_i0 : w2c_i1;
-  w2c_i1 = 4u;
-  w2c_j2 = w2c_p5;
-  w2c_j3 = w2c_p6;
-  w2c_i2 = w2c_j2 == w2c_j3;
-  w2c_i0 = w2c_i2 ? w2c_i0 : w2c_i1;
-  w2c_l7 = w2c_i0;
-  w2c_B1:;
-  w2c_i0 = w2c_l7;
-  goto w2c_Bfunc;
-  w2c_B0:;
-  UNREACHABLE;
-  w2c_Bfunc:;
-  return w2c_i0;
-}
-static u32 w2c_keywrap_check_padded(struct instance *instance, u64 w2c_p0, u64 w2c_p1, u64 w2c_p2, u64 w2c_p3) {
-  u32 w2c_l4 = 0;
-  const struct memory memory = instance->w2c_memory;
-  (void)memory;
-  u32 w2c_i0;
-  u64 w2c_j0, w2c_j1, w2c_j2, w2c_j3;
-  w2c_i0 = w2c_f0(instance);
-  w2c_i0 = !(w2c_i0);
-  if (w2c_i0) {goto w2c_B0;}
-  w2c_f2(instance);
-  UNREACHABLE;
-  w2c_B0:;
-  w2c_j0 = w2c_p0;
-  w2c_j1 = w2c_p1;
-  w2c_j2 = w2c_p2;
-  w2c_j3 = w2c_p3;
-  w2c_i0 = w2c_f43(instance, w2c_j0, w2c_j1, w2c_j2, w2c_j3);
-  w2c_l4 = w2c_i0;
-  w2c_f1(instance);
-  w2c_i0 = w2c_l4;
-  return w2c_i0;
-}
-static u32 w2c_f43(struct instance *instance, u64 w2c_p0, u64 w2c_p1, u64 w2c_p2, u64 w2c_p3) {
-  u32 w2c_l4 = 0;
-  const struct memory memory = instance->w2c_memory;
-  (void)memory;
-  u32 w2c_i0, w2c_i1, w2c_i2, w2c_i3;
-  u64 w2c_j0, w2c_j1, w2c_j2, w2c_j3, w2c_j4;
-  w2c_j0 = instance->w2c_g0;
-  w2c_j1 = 16ull;
-  w2c_i0 = (u64)((s64)w2c_j0 < (s64)w2c_j1);
-  if (w2c_i0) {goto w2c_B0;}
-  w2c_i0 = 3u;
-  w2c_l4 = w2c_i0;
-  w2c_j0 = w2c_p1;
-  w2c_j1 = 183ull;
-  w2c_i0 = (u64)((s64)w2c_j0 > (s64)w2c_j1);
-  if (w2c_i0) {goto w2c_B3;}
-  w2c_j0 = w2c_p1;
-  w2c_j1 = 32ull;
-  w2c_i0 = w2c_j0 > w2c_j1;
-  if (w2c_i0) {goto w2c_B1;}
-  w2c_j0 = 1ull;
-  w2c_j1 = w2c_p1;
-  w2c_j0 <<= (w2c_j1 & 63);
-  w2c_j1 = 4311810048ull;
-  w2c_j0 &= w2c_j1;
-  w2c_j1 = 0ull;
-  w2c_i0 = w2c_j0 != w2c_j1;
-  if (w2c_i0) {goto w2c_B2;}
-  goto w2c_B1;
-  w2c_B3:;
-  w2c_j0 = w2c_p1;
-  w2c_j1 = 184ull;
-  w2c_i0 = w2c_j0 == w2c_j1;
-  if (w2c_i0) {goto w2c_B4;}
-  w2c_j0 = w2c_p1;
-  w2c_j1 = 248ull;
-  w2c_i0 = w2c_j0 == w2c_j1;
-  if (w2c_i0) {goto w2c_B4;}
-  w2c_j0 = w2c_p1;
-  w2c_j1 = 216ull;
-  w2c_i0 = w2c_j0 != w2c_j1;
-  if (w2c_i0) {goto w2c_B1;}
-  w2c_B4:;
-  w2c_j0 = w2c_p0;
-  w2c_j1 = 4096ull;
-  w2c_j2 = 0ull;
-  w2c_j3 = w2c_p0;
-  w2c_i3 = !(w2c_j3);
-  w2c_j1 = w2c_i3 ? w2c_j1 : w2c_j2;
-  w2c_j0 += w2c_j1;
-  w2c_i0 = (u32)(w2c_j0);
-  w2c_j0 = i64_load(memory, (u64)(w2c_i0));
-  w2c_j1 = 5423823929002190187ull;
-  w2c_i0 = w2c_j0 != w2c_j1;
-  if (w2c_i0) {goto w2c_B1;}
-  w2c_B2:;
-  w2c_i0 = 4u;
-  w2c_l4 = w2c_i0;
-  w2c_j0 = w2c_p2;
-  w2c_j1 = 18446744073709551615ull;
-  w2c_j0 += w2c_j1;
-  w2c_j1 = 1048575ull;
-  w2c_i0 = w2c_j0 > w2c_j1;
-  if (w2c_i0) {goto w2c_B1;}
-  w2c_i0 = 0u;
-  w2c_i1 = 4u;
-  w2c_j2 = w2c_p3;
-  w2c_j3 = w2c_p2;
-  w2c_j4 = 15ull;
-  w2c_j3 += w2c_j4;
-  w2c_j4 = 4194296ull;
-  w2c_j3 &= w2c_j4;
-  w2c_i2 = w2c_j2 == w2c_j3;
-  w2c_i0 = w2c_i2 ? w2c_i0 : w2c_i1;
-  w2c_l4 = w2c_i0;
-  w2c_B1:;
-  w2c_i0 = w2c_l4;
-  goto w2c_Bfunc;
-  w2c_B0:;
-  UNREACHABLE;
-  w2c_Bfunc:;
-  return w2c_i0;
-}
-static u32 w2c_keywrap_check_plain(struct instance *instance, u64 w2c_p0, u64 w2c_p1, u64 w2c_p2, u64 w2c_p3, u64 w2c_p4, u64 w2c_p5) {
-  u32 w2c_l6 = 0;
-  const struct memory memory = instance->w2c_memory;
-  (void)memory;
-  u32 w2c_i0;
-  u64 w2c_j0, w2c_j1, w2c_j2, w2c_j3, w2c_j4, w2c_j5;
-  w2c_i0 = w2c_f0(instance);
-  w2c_i0 = !(w2c_i0);
-  if (w2c_i0) {goto w2c_B0;}
-  w2c_f2(instance);
-  UNREACHABLE;
-  w2c_B0:;
-  w2c_j0 = w2c_p0;
-  w2c_j1 = w2c_p1;
-  w2c_j2 = w2c_p2;
-  w2c_j3 = w2c_p3;
-  w2c_j4 = w2c_p4;
-  w2c_j5 = w2c_p5;
-  w2c_i0 = w2c_f45(instance, w2c_j0, w2c_j1, w2c_j2, w2c_j3, w2c_j4, w2c_j5);
-  w2c_l6 = w2c_i0;
-  w2c_f1(instance);
-  w2c_i0 = w2c_l6;
-  return w2c_i0;
-}
-static u32 w2c_f45(struct instance *instance, u64 w2c_p0, u64 w2c_p1, u64 w2c_p2, u64 w2c_p3, u64 w2c_p4, u64 w2c_p5) {
-  u32 w2c_l6 = 0;
-  const struct memory memory = instance->w2c_memory;
-  (void)memory;
-  u32 w2c_i0, w2c_i1, w2c_i2, w2c_i3;
-  u64 w2c_j0, w2c_j1, w2c_j2, w2c_j3, w2c_j4;
-  w2c_j0 = instance->w2c_g0;
-  w2c_j1 = 16ull;
-  w2c_i0 = (u64)((s64)w2c_j0 < (s64)w2c_j1);
-  if (w2c_i0) {goto w2c_B0;}
-  w2c_i0 = 2u;
-  w2c_l6 = w2c_i0;
-  w2c_j0 = w2c_p3;
-  w2c_j1 = 8ull;
-  w2c_i0 = w2c_j0 != w2c_j1;
-  if (w2c_i0) {goto w2c_B1;}
-  w2c_j0 = w2c_p2;
-  w2c_j1 = 4096ull;
-  w2c_j2 = 0ull;
-  w2c_j3 = w2c_p2;
-  w2c_i3 = !(w2c_j3);
-  w2c_j1 = w2c_i3 ? w2c_j1 : w2c_j2;
-  w2c_j0 += w2c_j1;
-  w2c_i0 = (u32)(w2c_j0);
-  w2c_i0 = i32_load(memory, (u64)(w2c_i0));
-  w2c_i1 = 2790873510u;
-  w2c_i0 = w2c_i0 == w2c_i1;
-  if (w2c_i0) {goto w2c_B1;}
-  w2c_i0 = 3u;
-  w2c_l6 = w2c_i0;
-  w2c_j0 = w2c_p1;
-  w2c_j1 = 183ull;
-  w2c_i0 = (u64)((s64)w2c_j0 > (s64)w2c_j1);
-  if (w2c_i0) {goto w2c_B3;}
-  w2c_j0 = w2c_p1;
-  w2c_j1 = 32ull;
-  w2c_i0 = w2c_j0 > w2c_j1;
-  if (w2c_i0) {goto w2c_B1;}
-  w2c_j0 = 1ull;
-  w2c_j1 = w2c_p1;
-  w2c_j0 <<= (w2c_j1 & 63);
-  w2c_j1 = 4311810048ull;
-  w2c_j0 &= w2c_j1;
-  w2c_j1 = 0ull;
-  w2c_i0 = w2c_j0 != w2c_j1;
-  if (w2c_i0) {goto w2c_B2;}
-  goto w2c_B1;
-  w2c_B3:;
-  w2c_j0 = w2c_p1;
-  w2c_j1 = 184ull;
-  w2c_i0 = w2c_j0 == w2c_j1;
-  if (w2c_i0) {goto w2c_B4;}
-  w2c_j0 = w2c_p1;
-  w2c_j1 = 248ull;
-  w2c_i0 = w2c_j0 == w2c_j1;
-  if (w2c_i0) {goto w2c_B4;}
-  w2c_j0 = w2c_p1;
-  w2c_j1 = 216ull;
-  w2c_i0 = w2c_j0 != w2c_j1;
-  if (w2c_i0) {goto w2c_B1;}
-  w2c_B4:;
-  w2c_j0 = w2c_p0;
-  w2c_j1 = 4096ull;
-  w2c_j2 = 0ull;
-  w2c_j3 = w2c_p0;
-  w2c_i3 = !(w2c_j3);
-  w2c_j1 = w2c_i3 ? w2c_j1 : w2c_j2;
-  w2c_j0 += w2c_j1;
-  w2c_i0 = (u32)(w2c_j0);
-  w2c_j0 = i64_load(memory, (u64)(w2c_i0));
-  w2c_j1 = 5423823929002190187ull;
-  w2c_i0 = w2c_j0 != w2c_j1;
-  if (w2c_i0) {goto w2c_B1;}
-  w2c_B2:;
-  w2c_i0 = 4u;
-  w2c_l6 = w2c_i0;
-  w2c_j0 = w2c_p4;
-  w2c_j1 = 7ull;
-  w2c_j0 &= w2c_j1;
-  w2c_j1 = 0ull;
-  w2c_i0 = w2c_j0 != w2c_j1;
-  if (w2c_i0) {goto w2c_B1;}
-  w2c_j0 = w2c_p4;
-  w2c_j1 = 18446744073709551600ull;
-  w2c_j0 += w2c_j1;
-  w2c_j1 = 1048560ull;
-  w2c_i0 = w2c_j0 > w2c_j1;
-  if (w2c_i0) {goto w2c_B1;}
-  w2c_i0 = 0u;
-  w2c_i1 = 4u;
-  w2c_j2 = w2c_p5;
-  w2c_j3 = w2c_p4;
-  w2c_j4 = 15ull;
-  w2c_j3 += w2c_j4;
-  w2c_j4 = 4194296ull;
-  w2c_j3 &= w2c_j4;
-  w2c_i2 = w2c_j2 == w2c_j3;
-  w2c_i0 = w2c_i2 ? w2c_i0 : w2c_i1;
-  w2c_l6 = w2c_i0;
-  w2c_B1:;
-  w2c_i0 = w2c_l6;
-  goto w2c_Bfunc;
-  w2c_B0:;
-  UNREACHABLE;
-  w2c_Bfunc:;
-  return w2c_i0;
-}
-static u32 w2c_keywrap_check_rewrap_in_place(struct instance *instance, u64 w2c_p0, u64 w2c_p1, u64 w2c_p2, u64 w2c_p3, u32 w2c_p4) {
-  const struct memory memory = instance->w2c_memory;
-  (void)memory;
-  u32 w2c_i0, w2c_i4;
-  u64 w2c_j0, w2c_j1, w2c_j2, w2c_j3;
-  w2c_i0 = w2c_f0(instance);
-  w2c_i0 = !(w2c_i0);
-  if (w2c_i0) {goto w2c_B0;}
-  w2c_f2(instance);
-  UNREACHABLE;
-  w2c_B0:;
-  w2c_j0 = w2c_p0;
-  w2c_j1 = w2c_p1;
-  w2c_j2 = w2c_p2;
-  w2c_j3 = w2c_p3;
-  w2c_i4 = w2c_p4;
-  w2c_i0 = w2c_f47(instance, w2c_j0, w2c_j1, w2c_j2, w2c_j3, w2c_i4);
-  w2c_p4 = w2c_i0;
-  w2c_f1(instance);
-  w2c_i0 = w2c_p4;
-  return w2c_i0;
-}
-static u32 w2c_f47(struct instance *instance, u64 w2c_p0, u64 w2c_p1, u64 w2c_p2, u64 w2c_p3, u32 w2c_p4) {
-  u32 w2c_l5 = 0;
-  const struct memory memory = instance->w2c_memory;
-  (void)memory;
-  u32 w2c_i0, w2c_i1, w2c_i2, w2c_i3;
-  u64 w2c_j0, w2c_j1, w2c_j2, w2c_j3;
-  w2c_j0 = instance->w2c_g0;
-  w2c_j1 = 16ull;
-  w2c_i0 = (u64)((s64)w2c_j0 < (s64)w2c_j1);
-  if (w2c_i0) {goto w2c_B0;}
-  w2c_i0 = 3u;
-  w2c_l5 = w2c_i0;
-  w2c_j0 = w2c_p1;
-  w2c_j1 = 183ull;
-  w2c_i0 = (u64)((s64)w2c_j0 > (s64)w2c_j1);
-  if (w2c_i0) {goto w2c_B3;}
-  w2c_j0 = w2c_p1;
-  w2c_j1 = 32ull;
-  w2c_i0 = w2c_j0 > w2c_j1;
-  if (w2c_i0) {goto w2c_B1;}
-  w2c_j0 = 1ull;
-  w2c_j1 = w2c_p1;
-  w2c_j0 <<= (w2c_j1 & 63);
-  w2c_j1 = 4311810048ull;
-  w2c_j0 &= w2c_j1;
-  w2c_j1 = 0ull;
-  w2c_i0 = w2c_j0 != w2c_j1;
-  if (w2c_i0) {goto w2c_B2;}
-  goto w2c_B1;
-  w2c_B3:;
-  w2c_j0 = w2c_p1;
-  w2c_j1 = 184ull;
-  w2c_i0 = w2c_j0 == w2c_j1;
-  if (w2c_i0) {goto w2c_B4;}
-  w2c_j0 = w2c_p1;
-  w2c_j1 = 248ull;
-  w2c_i0 = w2c_j0 == w2c_j1;
-  if (w2c_i0) {goto w2c_B4;}
-  w2c_j0 = w2c_p1;
-  w2c_j1 = 216ull;
-  w2c_i0 = w2c_j0 != w2c_j1;
-  if (w2c_i0) {goto w2c_B1;}
-  w2c_B4:;
-  w2c_j0 = w2c_p0;
-  w2c_j1 = 4096ull;
-  w2c_j2 = 0ull;
-  w2c_j3 = w2c_p0;
-  w2c_i3 = !(w2c_j3);
-  w2c_j1 = w2c_i3 ? w2c_j1 : w2c_j2;
-  w2c_j0 += w2c_j1;
-  w2c_i0 = (u32)(w2c_j0);
-  w2c_j0 = i64_load(memory, (u64)(w2c_i0));
-  w2c_j1 = 5423823929002190187ull;
-  w2c_i0 = w2c_j0 != w2c_j1;
-  if (w2c_i0) {goto w2c_B1;}
-  w2c_B2:;
-  w2c_j0 = w2c_p3;
-  w2c_j1 = 183ull;
-  w2c_i0 = (u64)((s64)w2c_j0 > (s64)w2c_j1);
-  if (w2c_i0) {goto w2c_B6;}
-  w2c_j0 = w2c_p3;
-  w2c_j1 = 32ull;
-  w2c_i0 = w2c_j0 > w2c_j1;
-  if (w2c_i0) {goto w2c_B1;}
-  w2c_j0 = 1ull;
-  w2c_j1 = w2c_p3;
-  w2c_j0 <<= (w2c_j1 & 63);
-  w2c_j1 = 4311810048ull;
-  w2c_j0 &= w2c_j1;
-  w2c_j1 = 0ull;
-  w2c_i0 = w2c_j0 != w2c_j1;
-  if (w2c_i0) {goto w2c_B5;}
-  goto w2c_B1;
-  w2c_B6:;
-  w2c_j0 = w2c_p3;
-  w2c_j1 = 184ull;
-  w2c_i0 = w2c_j0 == w2c_j1;
-  if (w2c_i0) {goto w2c_B7;}
-  w2c_j0 = w2c_p3;
-  w2c_j1 = 248ull;
-  w2c_i0 = w2c_j0 == w2c_j1;
-  if (w2c_i0) {goto w2c_B7;}
-  w2c_j0 = w2c_p3;
-  w2c_j1 = 216ull;
-  w2c_i0 = w2c_j0 != w2c_j1;
-  if (w2c_i0) {goto w2c_B1;}
-  w2c_B7:;
-  w2c_j0 = w2c_p2;
-  w2c_j1 = 4096ull;
-  w2c_j2 = 0ull;
-  w2c_j3 = w2c_p2;
-  w2c_i3 = !(w2c_j3);
-  w2c_j1 = w2c_i3 ? w2c_j1 : w2c_j2;
-  w2c_j0 += w2c_j1;
-  w2c_i0 = (u32)(w2c_j0);
-  w2c_j0 = i64_load(memory, (u64)(w2c_i0));
-  w2c_j1 = 5423823929002190187ull;
-  w2c_i0 = w2c_j0 != w2c_j1;
-  if (w2c_i0) {goto w2c_B1;}
-  w2c_B5:;
-  w2c_i0 = 0u;
-  w2c_i1 = 4u;
-  w2c_i2 = w2c_p4;
-  w2c_i3 = 4u;
-  w2c_i2 = w2c_i2 < w2c_i3;
-  w2c_i0 = w2c_i2 ? w2c_i0 : w2c_i1;
-  w2c_l5 = w2c_i0;
-  w2c_B1:;
-  w2c_i0 = w2c_l5;
-  goto w2c_Bfunc;
-  w2c_B0:;
-  UNREACHABLE;
-  w2c_Bfunc:;
-  return w2c_i0;
-}
-static u32 w2c_keywrap_check_rewrap_many(struct instance *instance, u64 w2c_p0, u64 w2c_p1, u64 w2c_p2, u64 w2c_p3, u64 w2c_p4, u32 w2c_p5, u64 w2c_p6) {
-  const struct memory memory = instance->w2c_memory;
-  (void)memory;
-  u32 w2c_i0, w2c_i5;
-  u64 w2c_j0, w2c_j1, w2c_j2, w2c_j3, w2c_j4, w2c_j6;
-  w2c_i0 = w2c_f0(instance);
-  w2c_i0 = !(w2c_i0);
-  if (w2c_i0) {goto w2c_B0;}
-  w2c_f2(instance);
-  UNREACHABLE;
-  w2c_B0:;
-  w2c_j0 = w2c_p0;
-  w2c_j1 = w2c_p1;
-  w2c_j2 = w2c_p2;
-  w2c_j3 = w2c_p3;
-  w2c_j4 = w2c_p4;
-  w2c_i5 = w2c_p5;
-  w2c_j6 = w2c_p6;
-  w2c_i0 = w2c_f49(instance, w2c_j0, w2c_j1, w2c_j2, w2c_j3, w2c_j4, w2c_i5, w2c_j6);
-  w2c_p5 = w2c_i0;
-  w2c_f1(instance);
-  w2c_i0 = w2c_p5;
-  return w2c_i0;
-}
-static u32 w2c_f49(struct instance *instance, u64 w2c_p0, u64 w2c_p1, u64 w2c_p2, u64 w2c_p3, u64 w2c_p4, u32 w2c_p5, u64 w2c_p6) {
-  u32 w2c_l7 = 0, w2c_l8 = 0;
-  const struct memory memory = instance->w2c_memory;
-  (void)memory;
-  u32 w2c_i0, w2c_i1, w2c_i3;
-  u64 w2c_j0, w2c_j1, w2c_j2, w2c_j3;
-  w2c_j0 = instance->w2c_g0;
-  w2c_j1 = 16ull;
-  w2c_i0 = (u64)((s64)w2c_j0 < (s64)w2c_j1);
-  if (w2c_i0) {goto w2c_B0;}
-  w2c_i0 = 3u;
-  w2c_l7 = w2c_i0;
-  w2c_j0 = w2c_p1;
-  w2c_j1 = 183ull;
-  w2c_i0 = (u64)((s64)w2c_j0 > (s64)w2c_j1);
-  if (w2c_i0) {goto w2c_B3;}
-  w2c_j0 = w2c_p1;
-  w2c_j1 = 32ull;
-  w2c_i0 = w2c_j0 > w2c_j1;
-  if (w2c_i0) {goto w2c_B1;}
-  w2c_j0 = 1ull;
-  w2c_j1 = w2c_p1;
-  w2c_j0 <<= (w2c_j1 & 63);
-  w2c_j1 = 4311810048ull;
-  w2c_j0 &= w2c_j1;
-  w2c_j1 = 0ull;
-  w2c_i0 = w2c_j0 != w2c_j1;
-  if (w2c_i0) {goto w2c_B2;}
-  goto w2c_B1;
-  w2c_B3:;
-  w2c_j0 = w2c_p1;
-  w2c_j1 = 184ull;
-  w2c_i0 = w2c_j0 == w2c_j1;
-  if (w2c_i0) {goto w2c_B4;}
-  w2c_j0 = w2c_p1;
-  w2c_j1 = 248ull;
-  w2c_i0 = w2c_j0 == w2c_j1;
-  if (w2c_i0) {goto w2c_B4;}
-  w2c_j0 = w2c_p1;
-  w2c_j1 = 216ull;
-  w2c_i0 = w2c_j0 != w2c_j1;
-  if (w2c_i0) {goto w2c_B1;}
-  w2c_B4:;
-  w2c_j0 = w2c_p0;
-  w2c_j1 = 4096ull;
-  w2c_j2 = 0ull;
-  w2c_j3 = w2c_p0;
-  w2c_i3 = !(w2c_j3);
-  w2c_j1 = w2c_i3 ? w2c_j1 : w2c_j2;
-  w2c_j0 += w2c_j1;
-  w2c_i0 = (u32)(w2c_j0);
-  w2c_j0 = i64_load(memory, (u64)(w2c_i0));
-  w2c_j1 = 5423823929002190187ull;
-  w2c_i0 = w2c_j0 != w2c_j1;
-  if (w2c_i0) {goto w2c_B1;}
-  w2c_B2:;
-  w2c_j0 = w2c_p3;
-  w2c_j1 = 183ull;
-  w2c_i0 = (u64)((s64)w2c_j0 > (s64)w2c_j1);
-  if (w2c_i0) {goto w2c_B6;}
-  w2c_j0 = w2c_p3;
-  w2c_j1 = 32ull;
-  w2c_i0 = w2c_j0 > w2c_j1;
-  if (w2c_i0) {goto w2c_B1;}
-  w2c_j0 = 1ull;
-  w2c_j1 = w2c_p3;
-  w2c_j0 <<= (w2c_j1 & 63);
-  w2c_j1 = 4311810048ull;
-  w2c_j0 &= w2c_j1;
-  w2c_j1 = 0ull;
-  w2c_i0 = w2c_j0 != w2c_j1;
-  if (w2c_i0) {goto w2c_B5;}
-  goto w2c_B1;
-  w2c_B6:;
-  w2c_j0 = w2c_p3;
-  w2c_j1 = 184ull;
-  w2c_i0 = w2c_j0 == w2c_j1;
-  if (w2c_i0) {goto w2c_B7;}
-  w2c_j0 = w2c_p3;
-  w2c_j1 = 248ull;
-  w2c_i0 = w2c_j0 == w2c_j1;
-  if (w2c_i0) {goto w2c_B7;}
-  w2c_j0 = w2c_p3;
-  w2c_j1 = 216ull;
-  w2c_i0 = w2c_j0 != w2c_j1;
-  if (w2c_i0) {goto w2c_B1;}
-  w2c_B7:;
-  w2c_j0 = w2c_p2;
-  w2c_j1 = 4096ull;
-  w2c_j2 = 0ull;
-  w2c_j3 = w2c_p2;
-  w2c_i3 = !(w2c_j3);
-  w2c_j1 = w2c_i3 ? w2c_j1 : w2c_j2;
-  w2c_j0 += w2c_j1;
-  w2c_i0 = (u32)(w2c_j0);
-  w2c_j0 = i64_load(memory, (u64)(w2c_i0));
-  w2c_j1 = 5423823929002190187ull;
-  w2c_i0 = w2c_j0 != w2c_j1;
-  if (w2c_i0) {goto w2c_B1;}
-  w2c_B5:;
-  w2c_i0 = 4u;
-  w2c_l7 = w2c_i0;
-  w2c_j0 = w2c_p6;
-  w2c_i0 = !(w2c_j0);
-  if (w2c_i0) {goto w2c_B1;}
-  w2c_j0 = w2c_p4;
-  w2c_j1 = w2c_p4;
-  w2c_j2 = w2c_p6;
-  w2c_j1 = DIV_U(w2c_j1, w2c_j2);
-  w2c_p1 = w2c_j1;
-  w2c_j2 = w2c_p6;
-  w2c_j1 *= w2c_j2;
-  w2c_j0 -= w2c_j1;
-  w2c_j1 = 0ull;
-  w2c_i0 = w2c_j0 != w2c_j1;
-  if (w2c_i0) {goto w2c_B1;}
-  w2c_i0 = w2c_p5;
-  w2c_i1 = 12u;
-  w2c_i0 = w2c_i0 > w2c_i1;
-  if (w2c_i0) {goto w2c_B1;}
-  w2c_i0 = 1u;
-  w2c_i1 = w2c_p5;
-  w2c_i0 <<= (w2c_i1 & 31);
-  w2c_l8 = w2c_i0;
-  w2c_i1 = 1285u;
-  w2c_i0 &= w2c_i1;
-  if (w2c_i0) {goto w2c_B10;}
-  w2c_i0 = w2c_l8;
-  w2c_i1 = 2570u;
-  w2c_i0 &= w2c_i1;
-  if (w2c_i0) {goto w2c_B11;}
-  w2c_i0 = 1u;
-  w2c_i1 = w2c_p5;
-  w2c_i0 <<= (w2c_i1 & 31);
-  w2c_i1 = 4112u;
-  w2c_i0 &= w2c_i1;
-  w2c_i0 = !(w2c_i0);
-  if (w2c_i0) {goto w2c_B1;}
-  w2c_j0 = w2c_p1;
-  w2c_j1 = 7ull;
-  w2c_j0 &= w2c_j1;
-  w2c_j1 = 0ull;
-  w2c_i0 = w2c_j0 != w2c_j1;
-  if (w2c_i0) {goto w2c_B1;}
-  w2c_j0 = w2c_p1;
-  w2c_j1 = 18446744073709551600ull;
-  w2c_j0 += w2c_j1;
-  w2c_j1 = 1048569ull;
-  w2c_i0 = w2c_j0 < w2c_j1;
-  if (w2c_i0) {goto w2c_B8;}
-  goto w2c_B1;
-  w2c_B11:;
-  w2c_j0 = w2c_p1;
-  w2c_j1 = 18446744073709551600ull;
-  w2c_j0 += w2c_j1;
-  w2c_j1 = 1048569ull;
-  w2c_i0 = w2c_j0 < w2c_j1;
-  w2c_p5 = w2c_i0;
-  goto w2c_B9;
-  w2c_B10:;
-  w2c_j0 = w2c_p1;
-  w2c_j1 = 18446744073709551592ull;
-  w2c_j0 += w2c_j1;
-  w2c_j1 = 1048561ull;
-  w2c_i0 = w2c_j0 < w2c_j1;
-  w2c_p5 = w2c_i0;
-  w2c_B9:;
-  w2c_j0 = w2c_p1;
-  w2c_j1 = 7ull;
-  w2c_j0 &= w2c_j1;
-  w2c_j1 = 0ull;
-  w2c_i0 = w2c_j0 != w2c_j1;
-  if (w2c_i0) {goto w2c_B1;}
-  w2c_i0 = w2c_p5;
-  w2c_i0 = !(w2c_i0);
-  if (w2c_i0) {goto w2c_B1;}
-  w2c_B8:;
-  w2c_i0 = 0u;
-  w2c_l7 = w2c_i0;
-  w2c_B1:;
-  w2c_i0 = w2c_l7;
-  goto w2c_Bfunc;
-  w2c_B0:;
-  UNREACHABLE;
-  w2c_Bfunc:;
-  return w2c_i0;
-}
-static u32 w2c_keywrap_check_room(struct instance *instance, u64 w2c_p0, u64 w2c_p1, u64 w2c_p2, u64 w2c_p3) {
-  u32 w2c_l4 = 0;
-  const struct memory memory = instance->w2c_memory;
-  (void)memory;
-  u32 w2c_i0;
-  u64 w2c_j0, w2c_j1, w2c_j2, w2c_j3;
-  w2c_i0 = w2c_f0(instance);
-  w2c_i0 = !(w2c_i0);
-  if (w2c_i0) {goto w2c_B0;}
-  w2c_f2(instance);
-  UNREACHABLE;
-  w2c_B0:;
-  w2c_j0 = w2c_p0;
-  w2c_j1 = w2c_p1;
-  w2c_j2 = w2c_p2;
-  w2c_j3 = w2c_p3;
-  w2c_i0 = w2c_f51(instance, w2c_j0, w2c_j1, w2c_j2, w2c_j3);
-  w2c_l4 = w2c_i0;
-  w2c_f1(instance);
-  w2c_i0 = w2c_l4;
-  return w2c_i0;
-}
-static u32 w2c_f51(struct instance *instance, u64 w2c_p0, u64 w2c_p1, u64 w2c_p2, u64 w2c_p3) {
-  u32 w2c_l4 = 0;
-  const struct memory memory = instance->w2c_memory;
-  (void)memory;
-  u32 w2c_i0, w2c_i1, w2c_i2, w2c_i3;
-  u64 w2c_j0, w2c_j1, w2c_j2, w2c_j3;
-  w2c_j0 = instance->w2c_g0;
-  w2c_j1 = 16ull;
-  w2c_i0 = (u64)((s64)w2c_j0 < (s64)w2c_j1);
-  if (w2c_i0) {goto w2c_B0;}
-  w2c_i0 = 3u;
-  w2c_l4 = w2c_i0;
-  w2c_j0 = w2c_p1;
-  w2c_j1 = 183ull;
-  w2c_i0 = (u64)((s64)w2c_j0 > (s64)w2c_j1);
-  if (w2c_i0) {goto w2c_B3;}
-  w2c_j0 = w2c_p1;
-  w2c_j1 = 32ull;
-  w2c_i0 = w2c_j0 > w2c_j1;
-  if (w2c_i0) {goto w2c_B1;}
-  w2c_j0 = 1ull;
-  w2c_j1 = w2c_p1;
-  w2c_j0 <<= (w2c_j1 & 63);
-  w2c_j1 = 4311810048ull;
-  w2c_j0 &= w2c_j1;
-  w2c_j1 = 0ull;
-  w2c_i0 = w2c_j0 != w2c_j1;
-  if (w2c_i0) {goto w2c_B2;}
-  goto w2c_B1;
-  w2c_B3:;
-  w2c_j0 = w2c_p1;
-  w2c_j1 = 184ull;
-  w2c_i0 = w2c_j0 == w2c_j1;
-  if (w2c_i0) {goto w2c_B4;}
-  w2c_j0 = w2c_p1;
-  w2c_j1 = 248ull;
-  w2c_i0 = w2c_j0 == w2c_j1;
-  if (w2c_i0) {goto w2c_B4;}
-  w2c_j0 = w2c_p1;
-  w2c_j1 = 216ull;
-  w2c_i0 = w2c_j0 != w2c_j1;
-  if (w2c_i0) {goto w2c_B1;}
-  w2c_B4:;
-  w2c_j0 = w2c_p0;
-  w2c_j1 = 4096ull;
-  w2c_j2 = 0ull;
-  w2c_j3 = w2c_p0;
-  w2c_i3 = !(w2c_j3);
-  w2c_j1 = w2c_i3 ? w2c_j1 : w2c_j2;
-  w2c_j0 += w2c_j1;
-  w2c_i0 = (u32)(w2c_j0);
-  w2c_j0 = i64_load(memory, (u64)(w2c_i0));
-  w2c_j1 = 5423823929002190187ull;
-  w2c_i0 = w2c_j0 != w2c_j1;
-  if (w2c_i0) {goto w2c_B1;}
-  w2c_B2:;
-  w2c_i0 = 0u;
-  w2c_i1 = 4u;
-  w2c_j2 = w2c_p3;
-  w2c_j3 = 18446744073709551600ull;
-  w2c_j2 += w2c_j3;
-  w2c_j3 = 1048569ull;
-  w2c_i2 = w2c_j2 < w2c_j3;
-  w2c_i0 = w2c_i2 ? w2c_i0 : w2c_i1;
-  w2c_i1 = 4u;
-  w2c_j2 = w2c_p3;
-  w2c_j3 = 7ull;
-  w2c_j2 &= w2c_j3;
-  w2c_i2 = !(w2c_j2);
-  w2c_i0 = w2c_i2 ? w2c_i0 : w2c_i1;
-  w2c_i1 = 4u;
-  w2c_j2 = w2c_p3;
-  w2c_j3 = 18446744073709551608ull;
-  w2c_j2 += w2c_j3;
-  w2c_j3 = w2c_p2;
-  w2c_i2 = w2c_j2 == w2c_j3;
-  w2c_i0 = w2c_i2 ? w2c_i0 : w2c_i1;
-  w2c_l4 = w2c_i0;
-  w2c_B1:;
-  w2c_i0 = w2c_l4;
-  goto w2c_Bfunc;
-  w2c_B0:;
-  UNREACHABLE;
-  w2c_Bfunc:;
-  return w2c_i0;
-}
-static u32 w2c_keywrap_check_unwrap_many(struct instance *instance, u64 w2c_p0, u64 w2c_p1, u64 w2c_p2, u32 w2c_p3, u64 w2c_p4, u64 w2c_p5) {
-  const struct memory memory = instance->w2c_memory;
-  (void)memory;
-  u32 w2c_i0, w2c_i3;
-  u64 w2c_j0, w2c_j1, w2c_j2, w2c_j4, w2c_j5;
-  w2c_i0 = w2c_f0(instance);
-  w2c_i0 = !(w2c_i0);
-  if (w2c_i0) {goto w2c_B0;}
-  w2c_f2(instance);
-  UNREACHABLE;
-  w2c_B0:;
-  w2c_j0 = w2c_p0;
-  w2c_j1 = w2c_p1;
-  w2c_j2 = w2c_p2;
-  w2c_i3 = w2c_p3;
-  w2c_j4 = w2c_p4;
-  w2c_j5 = w2c_p5;
-  w2c_i0 = w2c_f53(instance, w2c_j0, w2c_j1, w2c_j2, w2c_i3, w2c_j4, w2c_j5);
-  w2c_p3 = w2c_i0;
-  w2c_f1(instance);
-  w2c_i0 = w2c_p3;
-  return w2c_i0;
-}
-static u32 w2c_f53(struct instance *instance, u64 w2c_p0, u64 w2c_p1, u64 w2c_p2, u32 w2c_p3, u64 w2c_p4, u64 w2c_p5) {
-  u32 w2c_l6 = 0, w2c_l7 = 0;
-  const struct memory memory = instance->w2c_memory;
-  (void)memory;
-  u32 w2c_i0, w2c_i1, w2c_i2, w2c_i3, w2c_i4;
-  u64 w2c_j0, w2c_j1, w2c_j2, w2c_j3, w2c_j4;
-  w2c_j0 = instance->w2c_g0;
-  w2c_j1 = 16ull;
-  w2c_i0 = (u64)((s64)w2c_j0 < (s64)w2c_j1);
-  if (w2c_i0) {goto w2c_B0;}
-  w2c_i0 = 3u;
-  w2c_l6 = w2c_i0;
-  w2c_j0 = w2c_p1;
-  w2c_j1 = 183ull;
-  w2c_i0 = (u64)((s64)w2c_j0 > (s64)w2c_j1);
-  if (w2c_i0) {goto w2c_B3;}
-  w2c_j0 = w2c_p1;
-  w2c_j1 = 32ull;
-  w2c_i0 = w2c_j0 > w2c_j1;
-  if (w2c_i0) {goto w2c_B1;}
-  w2c_j0 = 1ull;
-  w2c_j1 = w2c_p1;
-  w2c_j0 <<= (w2c_j1 & 63);
-  w2c_j1 = 4311810048ull;
-  w2c_j0 &= w2c_j1;
-  w2c_j1 = 0ull;
-  w2c_i0 = w2c_j0 != w2c_j1;
-  if (w2c_i0) {goto w2c_B2;}
-  goto w2c_B1;
-  w2c_B3:;
-  w2c_j0 = w2c_p1;
-  w2c_j1 = 184ull;
-  w2c_i0 = w2c_j0 == w2c_j1;
-  if (w2c_i0) {goto w2c_B4;}
-  w2c_j0 = w2c_p1;
-  w2c_j1 = 248ull;
-  w2c_i0 = w2c_j0 == w2c_j1;
-  if (w2c_i0) {goto w2c_B4;}
-  w2c_j0 = w2c_p1;
-  w2c_j1 = 216ull;
-  w2c_i0 = w2c_j0 != w2c_j1;
-  if (w2c_i0) {goto w2c_B1;}
-  w2c_B4:;
-  w2c_j0 = w2c_p0;
-  w2c_j1 = 4096ull;
-  w2c_j2 = 0ull;
-  w2c_j3 = w2c_p0;
-  w2c_i3 = !(w2c_j3);
-  w2c_j1 = w2c_i3 ? w2c_j1 : w2c_j2;
-  w2c_j0 += w2c_j1;
-  w2c_i0 = (u32)(w2c_j0);
-  w2c_j0 = i64_load(memory, (u64)(w2c_i0));
-  w2c_j1 = 5423823929002190187ull;
-  w2c_i0 = w2c_j0 != w2c_j1;
-  if (w2c_i0) {goto w2c_B1;}
-  w2c_B2:;
-  w2c_i0 = 4u;
-  w2c_l6 = w2c_i0;
-  w2c_j0 = w2c_p5;
-  w2c_i0 = !(w2c_j0);
-  if (w2c_i0) {goto w2c_B1;}
-  w2c_j0 = w2c_p2;
-  w2c_j1 = w2c_p2;
-  w2c_j2 = w2c_p5;
-  w2c_j1 = DIV_U(w2c_j1, w2c_j2);
-  w2c_p1 = w2c_j1;
-  w2c_j2 = w2c_p5;
-  w2c_j1 *= w2c_j2;
-  w2c_j0 -= w2c_j1;
-  w2c_j1 = 0ull;
-  w2c_i0 = w2c_j0 != w2c_j1;
-  if (w2c_i0) {goto w2c_B1;}
-  w2c_i0 = 1u;
-  w2c_l7 = w2c_i0;
-  w2c_i0 = w2c_p3;
-  switch (w2c_i0) {
-    case 0: goto w2c_B5;
-    case 1: goto w2c_B6;
-    default: goto w2c_B1;
-  }
-  w2c_B6:;
-  w2c_i0 = 0u;
-  w2c_l7 = w2c_i0;
-  w2c_B5:;
-  w2c_j0 = w2c_p4;
-  w2c_j1 = w2c_p5;
-  w2c_i0 = w2c_j0 != w2c_j1;
-  if (w2c_i0) {goto w2c_B1;}
-  w2c_i0 = 0u;
-  w2c_i1 = 4u;
-  w2c_j2 = w2c_p1;
-  w2c_j3 = 18446744073709551592ull;
-  w2c_j2 += w2c_j3;
-  w2c_j3 = 1048561ull;
-  w2c_i2 = w2c_j2 < w2c_j3;
-  w2c_j3 = w2c_p1;
-  w2c_j4 = 18446744073709551600ull;
-  w2c_j3 += w2c_j4;
-  w2c_j4 = 1048569ull;
-  w2c_i3 = w2c_j3 < w2c_j4;
-  w2c_i4 = w2c_l7;
-  w2c_i2 = w2c_i4 ? w2c_i2 : w2c_i3;
-  w2c_i0 = w2c_i2 ? w2c_i0 : w2c_i1;
-  w2c_i1 = 4u;
-  w2c_j2 = w2c_p1;
-  w2c_j3 = 7ull;
-  w2c_j2 &= w2c_j3;
-  w2c_i2 = !(w2c_j2);
-  w2c_i0 = w2c_i2 ? w2c_i0 : w2c_i1;
-  w2c_l6 = w2c_i0;
-  w2c_B1:;
-  w2c_i0 = w2c_l6;
-  goto w2c_Bfunc;
-  w2c_B0:;
-  UNREACHABLE;
-  w2c_Bfunc:;
-  return w2c_i0;
-}
-static u32 w2c_keywrap_check_wrap_many(struct instance *instance, u64 w2c_p0, u64 w2c_p1, u64 w2c_p2, u64 w2c_p3, u32 w2c_p4, u64 w2c_p5) {
-  const struct memory memory = instance->w2c_memory;
-  (void)memory;
-  u32 w2c_i0, w2c_i4;
-  u64 w2c_j0, w2c_j1, w2c_j2, w2c_j3, w2c_j5;
-  w2c_i0 = w2c_f0(instance);
-  w2c_i0 = !(w2c_i0);
-  if (w2c_i0) {goto w2c_B0;}
-  w2c_f2(instance);
-  UNREACHABLE;
-  w2c_B0:;
-  w2c_j0 = w2c_p0;
-  w2c_j1 = w2c_p1;
-  w2c_j2 = w2c_p2;
-  w2c_j3 = w2c_p3;
-  w2c_i4 = w2c_p4;
-  w2c_j5 = w2c_p5;
-  w2c_i0 = w2c_f55(instance, w2c_j0, w2c_j1, w2c_j2, w2c_j3, w2c_i4, w2c_j5);
-  w2c_p4 = w2c_i0;
-  w2c_f1(instance);
-  w2c_i0 = w2c_p4;
-  return w2c_i0;
-}
-static u32 w2c_f55(struct instance *instance, u64 w2c_p0, u64 w2c_p1, u64 w2c_p2, u64 w2c_p3, u32 w2c_p4, u64 w2c_p5) {
-  u32 w2c_l6 = 0;
-  const struct memory memory = instance->w2c_memory;
-  (void)memory;
-  u32 w2c_i0, w2c_i3;
-  u64 w2c_j0, w2c_j1, w2c_j2, w2c_j3;
-  w2c_j0 = instance->w2c_g0;
-  w2c_j1 = 16ull;
-  w2c_i0 = (u64)((s64)w2c_j0 < (s64)w2c_j1);
-  if (w2c_i0) {goto w2c_B0;}
-  w2c_i0 = 3u;
-  w2c_l6 = w2c_i0;
-  w2c_j0 = w2c_p1;
-  w2c_j1 = 183ull;
-  w2c_i0 = (u64)((s64)w2c_j0 > (s64)w2c_j1);
-  if (w2c_i0) {goto w2c_B3;}
-  w2c_j0 = w2c_p1;
-  w2c_j1 = 32ull;
-  w2c_i0 = w2c_j0 > w2c_j1;
-  if (w2c_i0) {goto w2c_B1;}
-  w2c_j0 = 1ull;
-  w2c_j1 = w2c_p1;
-  w2c_j0 <<= (w2c_j1 & 63);
-  w2c_j1 = 4311810048ull;
-  w2c_j0 &= w2c_j1;
-  w2c_j1 = 0ull;
-  w2c_i0 = w2c_j0 != w2c_j1;
-  if (w2c_i0) {goto w2c_B2;}
-  goto w2c_B1;
-  w2c_B3:;
-  w2c_j0 = w2c_p1;
-  w2c_j1 = 184ull;
-  w2c_i0 = w2c_j0 == w2c_j1;
-  if (w2c_i0) {goto w2c_B4;}
-  w2c_j0 = w2c_p1;
-  w2c_j1 = 248ull;
-  w2c_i0 = w2c_j0 == w2c_j1;
-  if (w2c_i0) {goto w2c_B4;}
-  w2c_j0 = w2c_p1;
-  w2c_j1 = 216ull;
-  w2c_i0 = w2c_j0 != w2c_j1;
-  if (w2c_i0) {goto w2c_B1;}
-  w2c_B4:;
-  w2c_j0 = w2c_p0;
-  w2c_j1 = 4096ull;
-  w2c_j2 = 0ull;
-  w2c_j3 = w2c_p0;
-  w2c_i3 = !(w2c_j3);
-  w2c_j1 = w2c_i3 ? w2c_j1 : w2c_j2;
-  w2c_j0 += w2c_j1;
-  w2c_i0 = (u32)(w2c_j0);
-  w2c_j0 = i64_load(memory, (u64)(w2c_i0));
-  w2c_j1 = 5423823929002190187ull;
-  w2c_i0 = w2c_j0 != w2c_j1;
-  if (w2c_i0) {goto w2c_B1;}
-  w2c_B2:;
-  w2c_i0 = 4u;
-  w2c_l6 = w2c_i0;
-  w2c_j0 = w2c_p5;
-  w2c_i0 = !(w2c_j0);
-  if (w2c_i0) {goto w2c_B1;}
-  w2c_j0 = w2c_p2;
-  w2c_j1 = w2c_p2;
-  w2c_j2 = w2c_p5;
-  w2c_j1 = DIV_U(w2c_j1, w2c_j2);
-  w2c_p1 = w2c_j1;
-  w2c_j2 = w2c_p5;
-  w2c_j1 *= w2c_j2;
-  w2c_j0 -= w2c_j1;
-  w2c_j1 = 0ull;
-  w2c_i0 = w2c_j0 != w2c_j1;
-  if (w2c_i0) {goto w2c_B1;}
-  w2c_i0 = w2c_p4;
-  switch (w2c_i0) {
-    case 0: goto w2c_B6;
-    case 1: goto w2c_B1;
-    case 2: goto w2c_B7;
-    default: goto w2c_B1;
-  }
-  w2c_B7:;
-  w2c_j0 = w2c_p3;
-  w2c_j1 = 18446744073709551615ull;
-  w2c_j0 += w2c_j1;
-  w2c_j1 = 1048576ull;
-  w2c_i0 = w2c_j0 >= w2c_j1;
-  if (w2c_i0) {goto w2c_B1;}
-  w2c_j0 = w2c_p1;
-  w2c_j1 = w2c_p3;
-  w2c_j2 = 15ull;
-  w2c_j1 += w2c_j2;
-  w2c_j2 = 4194296ull;
-  w2c_j1 &= w2c_j2;
-  w2c_i0 = w2c_j0 == w2c_j1;
-  if (w2c_i0) {goto w2c_B5;}
-  goto w2c_B1;
-  w2c_B6:;
-  w2c_j0 = w2c_p3;
-  w2c_j1 = 7ull;
-  w2c_j0 &= w2c_j1;
-  w2c_j1 = 0ull;
-  w2c_i0 = w2c_j0 != w2c_j1;
-  if (w2c_i0) {goto w2c_B1;}
-  w2c_j0 = w2c_p3;
-  w2c_j1 = 18446744073709551600ull;
-  w2c_j0 += w2c_j1;
-  w2c_j1 = 1048561ull;
-  w2c_i0 = w2c_j0 >= w2c_j1;
-  if (w2c_i0) {goto w2c_B1;}
-  w2c_j0 = w2c_p1;
-  w2c_j1 = w2c_p3;
-  w2c_j2 = 15ull;
-  w2c_j1 += w2c_j2;
-  w2c_j2 = 4194296ull;
-  w2c_j1 &= w2c_j2;
-  w2c_i0 = w2c_j0 != w2c_j1;
-  if (w2c_i0) {goto w2c_B1;}
-  w2c_B5:;
-  w2c_i0 = 0u;
-  w2c_l6 = w2c_i0;
-  w2c_B1:;
-  w2c_i0 = w2c_l6;
-  goto w2c_Bfunc;
-  w2c_B0:;
-  UNREACHABLE;
-  w2c_Bfunc:;
-  return w2c_i0;
-}
-static u32 w2c_keywrap_end_rewrap(struct instance *instance, u32 w2c_p0, u64 w2c_p1) {
-  const struct memory memory = instance->w2c_memory;
-  (void)memory;
-  u32 w2c_i0;
-  u64 w2c_j1;
-  w2c_i0 = w2c_f0(instance);
-  w2c_i0 = !(w2c_i0);
-  if (w2c_i0) {goto w2c_B0;}
-  w2c_f2(instance);
-  UNREACHABLE;
-  w2c_B0:;
-  w2c_i0 = w2c_p0;
-  w2c_j1 = w2c_p1;
-  w2c_i0 = w2c_f57(instance, w2c_i0, w2c_j1);
-  w2c_p0 = w2c_i0;
-  w2c_f1(instance);
-  w2c_i0 = w2c_p0;
-  return w2c_i0;
-}
-static u32 w2c_f57(struct instance *instance, u32 w2c_p0, u64 w2c_p1) {
-  u32 w2c_l2 = 0, w2c_l3 = 0;
-  const struct memory memory = instance->w2c_memory;
-  (void)memory;
-  u32 w2c_i0, w2c_i1;
-  u64 w2c_j0, w2c_j1;
-  w2c_j0 = instance->w2c_g0;
-  w2c_j1 = 16ull;
-  w2c_i0 = (u64)((s64)w2c_j0 < (s64)w2c_j1);
-  if (w2c_i0) {goto w2c_B0;}
-  w2c_j0 = w2c_p1;
-  w2c_i0 = (u32)(w2c_j0);
-  w2c_i1 = 0u;
-  i32_store(memory, (u64)(w2c_i0), w2c_i1);
-  w2c_i0 = 3u;
-  w2c_l2 = w2c_i0;
-  w2c_i0 = w2c_p0;
-  w2c_i1 = 0u;
-  w2c_i0 = (u32)((s32)w2c_i0 < (s32)w2c_i1);
-  if (w2c_i0) {goto w2c_B1;}
-  w2c_i0 = w2c_p0;
-  w2c_i1 = 8u;
-  w2c_i0 = w2c_i0 > w2c_i1;
-  if (w2c_i0) {goto w2c_B1;}
-  w2c_i0 = 1u;
-  w2c_i1 = w2c_p0;
-  w2c_i0 <<= (w2c_i1 & 31);
-  w2c_l3 = w2c_i0;
-  w2c_i1 = 304u;
-  w2c_i0 &= w2c_i1;
-  w2c_i0 = !(w2c_i0);
-  if (w2c_i0) {goto w2c_B2;}
-  w2c_i0 = w2c_p0;
-  goto w2c_Bfunc;
-  w2c_B2:;
-  w2c_i0 = w2c_l3;
-  w2c_i1 = 3u;
-  w2c_i0 &= w2c_i1;
-  w2c_i0 = !(w2c_i0);
-  if (w2c_i0) {goto w2c_B1;}
-  w2c_j0 = w2c_p1;
-  w2c_i0 = (u32)(w2c_j0);
-  w2c_i1 = w2c_p0;
-  i32_store(memory, (u64)(w2c_i0), w2c_i1);
-  w2c_i0 = 0u;
-  w2c_l2 = w2c_i0;
-  w2c_B1:;
-  w2c_i0 = w2c_l2;
-  goto w2c_Bfunc;
-  w2c_B0:;
-  UNREACHABLE;
-  w2c_Bfunc:;
-  return w2c_i0;
-}
-static u32 w2c_keywrap_end_rewrap_in_place(struct instance *instance, u32 w2c_p0, u64 w2c_p1, u64 w2c_p2) {
-  const struct memory memory = instance->w2c_memory;
-  (void)memory;
-  u32 w2c_i0;
-  u64 w2c_j1, w2c_j2;
-  w2c_i0 = w2c_f0(instance);
-  w2c_i0 = !(w2c_i0);
-  if (w2c_i0) {goto w2c_B0;}
-  w2c_f2(instance);
-  UNREACHABLE;
-  w2c_B0:;
-  w2c_i0 = w2c_p0;
-  w2c_j1 = w2c_p1;
-  w2c_j2 = w2c_p2;
-  w2c_i0 = w2c_f59(instance, w2c_i0, w2c_j1, w2c_j2);
-  w2c_p0 = w2c_i0;
-  w2c_f1(instance);
-  w2c_i0 = w2c_p0;
-  return w2c_i0;
-}
-static u32 w2c_f59(struct instance *instance, u32 w2c_p0, u64 w2c_p1, u64 w2c_p2) {
-  u32 w2c_l3 = 0;
-  const struct memory memory = instance->w2c_memory;
-  (void)memory;
-  u32 w2c_i0, w2c_i1, w2c_i2, w2c_i3;
-  u64 w2c_j0, w2c_j1, w2c_j2, w2c_j3;
-  w2c_j0 = instance->w2c_g0;
-  w2c_j1 = 16ull;
-  w2c_i0 = (u64)((s64)w2c_j0 < (s64)w2c_j1);
-  if (w2c_i0) {goto w2c_B2;}
-  w2c_i0 = 0u;
-  w2c_l3 = w2c_i0;
-  w2c_i0 = w2c_p0;
-  w2c_i1 = 0u;
-  w2c_i0 = (u32)((s32)w2c_i0 >= (s32)w2c_i1);
-  if (w2c_i0) {goto w2c_B3;}
-  w2c_i0 = 3u;
-  goto w2c_Bfunc;
-  w2c_B3:;
-  w2c_j0 = w2c_p1;
-  w2c_j1 = 4096ull;
-  w2c_j2 = 0ull;
-  w2c_j3 = w2c_p1;
-  w2c_i3 = !(w2c_j3);
-  w2c_j1 = w2c_i3 ? w2c_j1 : w2c_j2;
-  w2c_j0 += w2c_j1;
-  w2c_p1 = w2c_j0;
-  w2c_i0 = w2c_p0;
-  switch (w2c_i0) {
-    case 0: goto w2c_B0;
-    case 1: goto w2c_B0;
-    case 2: goto w2c_B6;
-    case 3: goto w2c_B6;
-    case 4: goto w2c_B1;
-    case 5: goto w2c_B5;
-    case 6: goto w2c_B6;
-    case 7: goto w2c_B6;
-    case 8: goto w2c_B4;
-    default: goto w2c_B6;
-  }
-  w2c_B6:;
-  w2c_i0 = 3u;
-  goto w2c_Bfunc;
-  w2c_B5:;
-  w2c_i0 = 5u;
-  w2c_l3 = w2c_i0;
-  w2c_j0 = w2c_p2;
-  w2c_i0 = !(w2c_j0);
-  if (w2c_i0) {goto w2c_B0;}
-  w2c_j0 = w2c_p2;
-  w2c_j1 = 18446744073709551615ull;
-  w2c_j0 += w2c_j1;
-  w2c_p2 = w2c_j0;
-  w2c_i0 = !(w2c_j0);
-  w2c_p0 = w2c_i0;
-  if (w2c_i0) {goto w2c_B7;}
-  w2c_i0 = w2c_p0;
-  if (w2c_i0) {goto w2c_B7;}
-  w2c_j0 = w2c_p1;
-  w2c_i0 = (u32)(w2c_j0);
-  w2c_i1 = 0u;
-  w2c_j2 = w2c_p2;
-  w2c_i2 = (u32)(w2c_j2);
-  memory_fill(memory, w2c_i0, w2c_i1, w2c_i2);
-  w2c_B7:;
-  w2c_j0 = w2c_p1;
-  w2c_j1 = w2c_p2;
-  w2c_j0 += w2c_j1;
-  w2c_i0 = (u32)(w2c_j0);
-  w2c_i1 = 0u;
-  i32_store8(memory, (u64)(w2c_i0), w2c_i1);
-  w2c_i0 = 5u;
-  goto w2c_Bfunc;
-  w2c_B4:;
-  w2c_i0 = 4u;
-  w2c_l3 = w2c_i0;
-  w2c_j0 = w2c_p2;
-  w2c_i0 = !(w2c_j0);
-  if (w2c_i0) {goto w2c_B0;}
-  w2c_j0 = w2c_p2;
-  w2c_j1 = 18446744073709551615ull;
-  w2c_j0 += w2c_j1;
-  w2c_p2 = w2c_j0;
-  w2c_i0 = !(w2c_j0);
-  w2c_p0 = w2c_i0;
-  if (w2c_i0) {goto w2c_B8;}
-  w2c_i0 = w2c_p0;
-  if (w2c_i0) {goto w2c_B8;}
-  w2c_j0 = w2c_p1;
-  w2c_i0 = (u32)(w2c_j0);
-  w2c_i1 = 0u;
-  w2c_j2 = w2c_p2;
-  w2c_i2 = (u32)(w2c_j2);
-  memory_fill(memory, w2c_i0, w2c_i1, w2c_i2);
-  w2c_B8:;
-  w2c_j0 = w2c_p1;
-  w2c_j1 = w2c_p2;
-  w2c_j0 += w2c_j1;
-  w2c_i0 = (u32)(w2c_j0);
-  w2c_i1 = 0u;
-  i32_store8(memory, (u64)(w2c_i0), w2c_i1);
-  w2c_i0 = 4u;
-  goto w2c_Bfunc;
-  w2c_B2:;
-  UNREACHABLE;
-  w2c_B1:;
-  w2c_i0 = 4u;
-  w2c_l3 = w2c_i0;
-  w2c_B0:;
-  w2c_i0 = w2c_l3;
-  w2c_Bfunc:;
-  return w2c_i0;
-}
-#endif
 static u32 w2c_keywrap_end_unwrap(struct instance *instance, u64 w2c_p0, u64 w2c_p1, u64 w2c_p2, u64 w2c_p3, u64 w2c_p4, u64 w2c_p5) {
   u32 w2c_l6 = 0;
   const struct memory memory = instance->w2c_memory;
   (void)memory;
   u32 w2c_i0;
   u64 w2c_j0, w2c_j1, w2c_j2, w2c_j3, w2c_j4, w2c_j5;
-  w2c_i0 = w2c_f0(instance);
+  w2c_i0 = w2c_f6(instance);
   w2c_i0 = !(w2c_i0);
   if (w2c_i0) {goto w2c_B0;}
-  w2c_f2(instance);
+  w2c_f8(instance);
   UNREACHABLE;
   w2c_B0:;
   w2c_j0 = w2c_p0;
@@ -12653,13 +26722,13 @@ static u32 w2c_keywrap_end_unwrap(struct instance *instance, u64 w2c_p0, u64 w2c
   w2c_j3 = w2c_p3;
   w2c_j4 = w2c_p4;
   w2c_j5 = w2c_p5;
-  w2c_i0 = w2c_f61(instance, w2c_j0, w2c_j1, w2c_j2, w2c_j3, w2c_j4, w2c_j5);
+  w2c_i0 = w2c_f109(instance, w2c_j0, w2c_j1, w2c_j2, w2c_j3, w2c_j4, w2c_j5);
   w2c_l6 = w2c_i0;
-  w2c_f1(instance);
+  w2c_f7(instance);
   w2c_i0 = w2c_l6;
   return w2c_i0;
 }
-static u32 w2c_f61(struct instance *instance, u64 w2c_p0, u64 w2c_p1, u64 w2c_p2, u64 w2c_p3, u64 w2c_p4, u64 w2c_p5) {
+static u32 w2c_f109(struct instance *instance, u64 w2c_p0, u64 w2c_p1, u64 w2c_p2, u64 w2c_p3, u64 w2c_p4, u64 w2c_p5) {
   u32 w2c_l8 = 0;
   u64 w2c_l6 = 0, w2c_l7 = 0;
   const struct memory memory = instance->w2c_memory;
@@ -12824,7 +26893,7 @@ static u32 w2c_f61(struct instance *instance, u64 w2c_p0, u64 w2c_p1, u64 w2c_p2
   w2c_j3 = w2c_i5 ? w2c_j3 : w2c_j4;
   w2c_j2 += w2c_j3;
   w2c_j3 = w2c_p3;
-  w2c_f3(instance, w2c_j0, w2c_j1, w2c_j2, w2c_j3);
+  w2c_f13(instance, w2c_j0, w2c_j1, w2c_j2, w2c_j3);
   w2c_i0 = 5u;
   w2c_i1 = 4u;
   w2c_j2 = w2c_l7;
@@ -12859,10 +26928,10 @@ static u32 w2c_keywrap_end_unwrap_any(struct instance *instance, u64 w2c_p0, u64
   (void)memory;
   u32 w2c_i0;
   u64 w2c_j0, w2c_j1, w2c_j2, w2c_j3, w2c_j4, w2c_j5;
-  w2c_i0 = w2c_f0(instance);
+  w2c_i0 = w2c_f6(instance);
   w2c_i0 = !(w2c_i0);
   if (w2c_i0) {goto w2c_B0;}
-  w2c_f2(instance);
+  w2c_f8(instance);
   UNREACHABLE;
   w2c_B0:;
   w2c_j0 = w2c_p0;
@@ -12871,13 +26940,13 @@ static u32 w2c_keywrap_end_unwrap_any(struct instance *instance, u64 w2c_p0, u64
   w2c_j3 = w2c_p3;
   w2c_j4 = w2c_p4;
   w2c_j5 = w2c_p5;
-  w2c_i0 = w2c_f63(instance, w2c_j0, w2c_j1, w2c_j2, w2c_j3, w2c_j4, w2c_j5);
+  w2c_i0 = w2c_f111(instance, w2c_j0, w2c_j1, w2c_j2, w2c_j3, w2c_j4, w2c_j5);
   w2c_l6 = w2c_i0;
-  w2c_f1(instance);
+  w2c_f7(instance);
   w2c_i0 = w2c_l6;
   return w2c_i0;
 }
-static u32 w2c_f63(struct instance *instance, u64 w2c_p0, u64 w2c_p1, u64 w2c_p2, u64 w2c_p3, u64 w2c_p4, u64 w2c_p5) {
+static u32 w2c_f111(struct instance *instance, u64 w2c_p0, u64 w2c_p1, u64 w2c_p2, u64 w2c_p3, u64 w2c_p4, u64 w2c_p5) {
   u32 w2c_l8 = 0;
   u64 w2c_l6 = 0, w2c_l7 = 0;
   const struct memory memory = instance->w2c_memory;
@@ -13064,7 +27133,7 @@ static u32 w2c_f63(struct instance *instance, u64 w2c_p0, u64 w2c_p1, u64 w2c_p2
   w2c_j1 = (u64)(w2c_i1);
   w2c_j2 = w2c_p0;
   w2c_j3 = w2c_p1;
-  w2c_f3(instance, w2c_j0, w2c_j1, w2c_j2, w2c_j3);
+  w2c_f13(instance, w2c_j0, w2c_j1, w2c_j2, w2c_j3);
   w2c_j0 = w2c_l7;
   w2c_i0 = (u32)(w2c_j0);
   w2c_i0 = i32_load8_u(memory, (u64)(w2c_i0) + 8u);
@@ -13077,7 +27146,7 @@ static u32 w2c_f63(struct instance *instance, u64 w2c_p0, u64 w2c_p1, u64 w2c_p2
   w2c_j3 = 15ull;
   w2c_j2 += w2c_j3;
   w2c_j3 = 0ull;
-  w2c_f3(instance, w2c_j0, w2c_j1, w2c_j2, w2c_j3);
+  w2c_f13(instance, w2c_j0, w2c_j1, w2c_j2, w2c_j3);
   w2c_j0 = w2c_p5;
   w2c_i0 = (u32)(w2c_j0);
   w2c_j1 = w2c_p1;
@@ -13120,16 +27189,18 @@ static u32 w2c_f63(struct instance *instance, u64 w2c_p0, u64 w2c_p1, u64 w2c_p2
   w2c_Bfunc:;
   return w2c_i0;
 }
-static u32 w2c_keywrap_end_unwrap_padded(struct instance *instance, u64 w2c_p0, u64 w2c_p1, u64 w2c_p2, u64 w2c_p3, u64 w2c_p4) {
-  u32 w2c_l5 = 0;
+static u32 w2c_keywrap_end_unwrap_many(struct instance *instance, u64 w2c_p0, u64 w2c_p1, u64 w2c_p2, u64 w2c_p3, u64 w2c_p4, u64 w2c_p5, u64 w2c_p6, u64 w2c_p7, 
+    u64 w2c_p8, u64 w2c_p9) {
+  u32 w2c_l10 = 0;
   const struct memory memory = instance->w2c_memory;
   (void)memory;
   u32 w2c_i0;
-  u64 w2c_j0, w2c_j1, w2c_j2, w2c_j3, w2c_j4;
-  w2c_i0 = w2c_f0(instance);
+  u64 w2c_j0, w2c_j1, w2c_j2, w2c_j3, w2c_j4, w2c_j5, w2c_j6, w2c_j7, 
+      w2c_j8, w2c_j9;
+  w2c_i0 = w2c_f6(instance);
   w2c_i0 = !(w2c_i0);
   if (w2c_i0) {goto w2c_B0;}
-  w2c_f2(instance);
+  w2c_f8(instance);
   UNREACHABLE;
   w2c_B0:;
   w2c_j0 = w2c_p0;
@@ -13137,13 +27208,358 @@ static u32 w2c_keywrap_end_unwrap_padded(struct instance *instance, u64 w2c_p0, 
   w2c_j2 = w2c_p2;
   w2c_j3 = w2c_p3;
   w2c_j4 = w2c_p4;
-  w2c_i0 = w2c_f65(instance, w2c_j0, w2c_j1, w2c_j2, w2c_j3, w2c_j4);
+  w2c_j5 = w2c_p5;
+  w2c_j6 = w2c_p6;
+  w2c_j7 = w2c_p7;
+  w2c_j8 = w2c_p8;
+  w2c_j9 = w2c_p9;
+  w2c_i0 = w2c_f113(instance, w2c_j0, w2c_j1, w2c_j2, w2c_j3, w2c_j4, w2c_j5, w2c_j6, w2c_j7, w2c_j8, w2c_j9);
+  w2c_l10 = w2c_i0;
+  w2c_f7(instance);
+  w2c_i0 = w2c_l10;
+  return w2c_i0;
+}
+static u32 w2c_f113(struct instance *instance, u64 w2c_p0, u64 w2c_p1, u64 w2c_p2, u64 w2c_p3, u64 w2c_p4, u64 w2c_p5, u64 w2c_p6, u64 w2c_p7, 
+    u64 w2c_p8, u64 w2c_p9) {
+  u32 w2c_l13 = 0, w2c_l14 = 0;
+  u64 w2c_l10 = 0, w2c_l11 = 0, w2c_l12 = 0;
+  const struct memory memory = instance->w2c_memory;
+  (void)memory;
+  u32 w2c_i0, w2c_i1, w2c_i2, w2c_i3, w2c_i4;
+  u64 w2c_j0, w2c_j1, w2c_j2, w2c_j3, w2c_j4, w2c_j5;
+  w2c_j0 = instance->w2c_g0;
+  w2c_j1 = 32ull;
+  w2c_j0 -= w2c_j1;
+  w2c_l10 = w2c_j0;
+  instance->w2c_g0 = w2c_j0;
+  w2c_j0 = w2c_l10;
+  w2c_l11 = w2c_j0;
+  w2c_j1 = 16ull;
+  w2c_i0 = (u64)((s64)w2c_j0 < (s64)w2c_j1);
+  if (w2c_i0) {goto w2c_B0;}
+  w2c_i0 = 2u;
+  w2c_l13 = w2c_i0;
+  w2c_j0 = w2c_p1;
+  w2c_j1 = 8ull;
+  w2c_i0 = w2c_j0 != w2c_j1;
+  if (w2c_i0) {goto w2c_B1;}
+  w2c_j0 = w2c_p0;
+  w2c_j1 = 4096ull;
+  w2c_j2 = 0ull;
+  w2c_j3 = w2c_p0;
+  w2c_i3 = !(w2c_j3);
+  w2c_j1 = w2c_i3 ? w2c_j1 : w2c_j2;
+  w2c_j0 += w2c_j1;
+  w2c_i0 = (u32)(w2c_j0);
+  w2c_j0 = i64_load(memory, (u64)(w2c_i0));
+  w2c_l10 = w2c_j0;
+  w2c_j1 = 56ull;
+  w2c_j0 <<= (w2c_j1 & 63);
+  w2c_j1 = w2c_l10;
+  w2c_j2 = 65280ull;
+  w2c_j1 &= w2c_j2;
+  w2c_j2 = 40ull;
+  w2c_j1 <<= (w2c_j2 & 63);
+  w2c_j0 |= w2c_j1;
+  w2c_j1 = w2c_l10;
+  w2c_j2 = 16711680ull;
+  w2c_j1 &= w2c_j2;
+  w2c_j2 = 24ull;
+  w2c_j1 <<= (w2c_j2 & 63);
+  w2c_j2 = w2c_l10;
+  w2c_j3 = 4278190080ull;
+  w2c_j2 &= w2c_j3;
+  w2c_j3 = 8ull;
+  w2c_j2 <<= (w2c_j3 & 63);
+  w2c_j1 |= w2c_j2;
+  w2c_j0 |= w2c_j1;
+  w2c_j1 = w2c_l10;
+  w2c_j2 = 8ull;
+  w2c_j1 >>= (w2c_j2 & 63);
+  w2c_j2 = 4278190080ull;
+  w2c_j1 &= w2c_j2;
+  w2c_j2 = w2c_l10;
+  w2c_j3 = 24ull;
+  w2c_j2 >>= (w2c_j3 & 63);
+  w2c_j3 = 16711680ull;
+  w2c_j2 &= w2c_j3;
+  w2c_j1 |= w2c_j2;
+  w2c_j2 = w2c_l10;
+  w2c_j3 = 40ull;
+  w2c_j2 >>= (w2c_j3 & 63);
+  w2c_j3 = 65280ull;
+  w2c_j2 &= w2c_j3;
+  w2c_j3 = w2c_l10;
+  w2c_j4 = 56ull;
+  w2c_j3 >>= (w2c_j4 & 63);
+  w2c_j2 |= w2c_j3;
+  w2c_j1 |= w2c_j2;
+  w2c_j0 |= w2c_j1;
+  w2c_l12 = w2c_j0;
+  w2c_j1 = 18446744069414584320ull;
+  w2c_j0 &= w2c_j1;
+  w2c_j1 = 11986710452722728960ull;
+  w2c_i0 = w2c_j0 == w2c_j1;
+  if (w2c_i0) {goto w2c_B1;}
+  w2c_i0 = 4u;
+  w2c_l13 = w2c_i0;
+  w2c_j0 = w2c_p4;
+  w2c_j1 = 18446744073709551592ull;
+  w2c_j0 += w2c_j1;
+  w2c_j1 = 1048560ull;
+  w2c_i0 = w2c_j0 > w2c_j1;
+  if (w2c_i0) {goto w2c_B1;}
+  w2c_j0 = w2c_p7;
+  w2c_j1 = 15ull;
+  w2c_j0 &= w2c_j1;
+  w2c_j1 = w2c_p4;
+  w2c_j2 = 7ull;
+  w2c_j1 &= w2c_j2;
+  w2c_p1 = w2c_j1;
+  w2c_j0 |= w2c_j1;
+  w2c_j1 = 0ull;
+  w2c_i0 = w2c_j0 != w2c_j1;
+  if (w2c_i0) {goto w2c_B1;}
+  w2c_j0 = w2c_l11;
+  w2c_j1 = 16ull;
+  w2c_j0 += w2c_j1;
+  w2c_j1 = w2c_p7;
+  w2c_j2 = 4ull;
+  w2c_j1 >>= (w2c_j2 & 63);
+  w2c_l10 = w2c_j1;
+  w2c_j2 = 0ull;
+  w2c_j3 = w2c_p4;
+  w2c_j4 = 0ull;
+  w2c_f9(instance, w2c_j0, w2c_j1, w2c_j2, w2c_j3, w2c_j4);
+  w2c_j0 = w2c_p9;
+  w2c_j1 = w2c_l10;
+  w2c_i0 = w2c_j0 != w2c_j1;
+  if (w2c_i0) {goto w2c_B1;}
+  w2c_j0 = w2c_p5;
+  w2c_j1 = 0ull;
+  w2c_i0 = w2c_j0 != w2c_j1;
+  if (w2c_i0) {goto w2c_B1;}
+  w2c_j0 = 0ull;
+  w2c_j1 = w2c_l10;
+  w2c_j2 = w2c_p4;
+  w2c_j1 *= w2c_j2;
+  w2c_j2 = w2c_l11;
+  w2c_i2 = (u32)(w2c_j2);
+  w2c_j2 = i64_load(memory, (u64)(w2c_i2) + 24u);
+  w2c_j3 = 0ull;
+  w2c_i2 = w2c_j2 != w2c_j3;
+  w2c_l14 = w2c_i2;
+  w2c_j0 = w2c_i2 ? w2c_j0 : w2c_j1;
+  w2c_j1 = w2c_p3;
+  w2c_i0 = w2c_j0 != w2c_j1;
+  if (w2c_i0) {goto w2c_B1;}
+  w2c_i0 = w2c_l14;
+  if (w2c_i0) {goto w2c_B1;}
+  w2c_j0 = w2c_p6;
+  w2c_j1 = 4096ull;
+  w2c_j2 = 0ull;
+  w2c_j3 = w2c_p6;
+  w2c_i3 = !(w2c_j3);
+  w2c_j1 = w2c_i3 ? w2c_j1 : w2c_j2;
+  w2c_j0 += w2c_j1;
+  w2c_p3 = w2c_j0;
+  w2c_j0 = w2c_p9;
+  w2c_i0 = !(w2c_j0);
+  w2c_l13 = w2c_i0;
+  if (w2c_i0) {goto w2c_B2;}
+  w2c_j0 = w2c_p8;
+  w2c_j1 = 4096ull;
+  w2c_j2 = 0ull;
+  w2c_j3 = w2c_p8;
+  w2c_i3 = !(w2c_j3);
+  w2c_j1 = w2c_i3 ? w2c_j1 : w2c_j2;
+  w2c_j0 += w2c_j1;
+  w2c_p0 = w2c_j0;
+  w2c_j0 = w2c_p1;
+  w2c_j1 = 0ull;
+  w2c_i0 = w2c_j0 != w2c_j1;
+  if (w2c_i0) {goto w2c_B3;}
+  w2c_j0 = w2c_p4;
+  w2c_j1 = 18446744073709551608ull;
+  w2c_j0 += w2c_j1;
+  w2c_p5 = w2c_j0;
+  w2c_j0 = 4096ull;
+  w2c_j1 = 0ull;
+  w2c_j2 = w2c_p2;
+  w2c_i2 = !(w2c_j2);
+  w2c_j0 = w2c_i2 ? w2c_j0 : w2c_j1;
+  w2c_j1 = w2c_p2;
+  w2c_j0 += w2c_j1;
+  w2c_j1 = 8ull;
+  w2c_j0 += w2c_j1;
+  w2c_p1 = w2c_j0;
+  w2c_j0 = w2c_p3;
+  w2c_p6 = w2c_j0;
+  w2c_L4: 
+    w2c_j0 = w2c_l11;
+    w2c_j1 = 8ull;
+    w2c_j0 += w2c_j1;
+    w2c_j1 = w2c_p6;
+    w2c_i1 = (u32)(w2c_j1);
+    w2c_j1 = i64_load(memory, (u64)(w2c_i1));
+    w2c_l10 = w2c_j1;
+    w2c_j2 = 56ull;
+    w2c_j1 <<= (w2c_j2 & 63);
+    w2c_j2 = w2c_l10;
+    w2c_j3 = 65280ull;
+    w2c_j2 &= w2c_j3;
+    w2c_j3 = 40ull;
+    w2c_j2 <<= (w2c_j3 & 63);
+    w2c_j1 |= w2c_j2;
+    w2c_j2 = w2c_l10;
+    w2c_j3 = 16711680ull;
+    w2c_j2 &= w2c_j3;
+    w2c_j3 = 24ull;
+    w2c_j2 <<= (w2c_j3 & 63);
+    w2c_j3 = w2c_l10;
+    w2c_j4 = 4278190080ull;
+    w2c_j3 &= w2c_j4;
+    w2c_j4 = 8ull;
+    w2c_j3 <<= (w2c_j4 & 63);
+    w2c_j2 |= w2c_j3;
+    w2c_j1 |= w2c_j2;
+    w2c_j2 = w2c_l10;
+    w2c_j3 = 8ull;
+    w2c_j2 >>= (w2c_j3 & 63);
+    w2c_j3 = 4278190080ull;
+    w2c_j2 &= w2c_j3;
+    w2c_j3 = w2c_l10;
+    w2c_j4 = 24ull;
+    w2c_j3 >>= (w2c_j4 & 63);
+    w2c_j4 = 16711680ull;
+    w2c_j3 &= w2c_j4;
+    w2c_j2 |= w2c_j3;
+    w2c_j3 = w2c_l10;
+    w2c_j4 = 40ull;
+    w2c_j3 >>= (w2c_j4 & 63);
+    w2c_j4 = 65280ull;
+    w2c_j3 &= w2c_j4;
+    w2c_j4 = w2c_l10;
+    w2c_j5 = 56ull;
+    w2c_j4 >>= (w2c_j5 & 63);
+    w2c_j3 |= w2c_j4;
+    w2c_j2 |= w2c_j3;
+    w2c_j1 |= w2c_j2;
+    w2c_j2 = w2c_l12;
+    w2c_j1 ^= w2c_j2;
+    w2c_j2 = w2c_p1;
+    w2c_j3 = w2c_p5;
+    w2c_f13(instance, w2c_j0, w2c_j1, w2c_j2, w2c_j3);
+    w2c_j0 = w2c_p0;
+    w2c_i0 = (u32)(w2c_j0);
+    w2c_i1 = 5u;
+    w2c_i2 = 0u;
+    w2c_j3 = w2c_l11;
+    w2c_i3 = (u32)(w2c_j3);
+    w2c_i3 = i32_load8_u(memory, (u64)(w2c_i3) + 8u);
+    w2c_i4 = 1u;
+    w2c_i3 &= w2c_i4;
+    w2c_i1 = w2c_i3 ? w2c_i1 : w2c_i2;
+    i32_store8(memory, (u64)(w2c_i0), w2c_i1);
+    w2c_j0 = w2c_p0;
+    w2c_j1 = 1ull;
+    w2c_j0 += w2c_j1;
+    w2c_p0 = w2c_j0;
+    w2c_j0 = w2c_p6;
+    w2c_j1 = 16ull;
+    w2c_j0 += w2c_j1;
+    w2c_p6 = w2c_j0;
+    w2c_j0 = w2c_p1;
+    w2c_j1 = w2c_p4;
+    w2c_j0 += w2c_j1;
+    w2c_p1 = w2c_j0;
+    w2c_j0 = w2c_p9;
+    w2c_j1 = 18446744073709551615ull;
+    w2c_j0 += w2c_j1;
+    w2c_p9 = w2c_j0;
+    w2c_j1 = 0ull;
+    w2c_i0 = w2c_j0 != w2c_j1;
+    if (w2c_i0) {goto w2c_L4;}
+    goto w2c_B2;
+  UNREACHABLE;
+  w2c_B3:;
+  w2c_i0 = w2c_l13;
+  if (w2c_i0) {goto w2c_B2;}
+  w2c_j0 = w2c_p0;
+  w2c_i0 = (u32)(w2c_j0);
+  w2c_i1 = 5u;
+  w2c_j2 = w2c_p9;
+  w2c_i2 = (u32)(w2c_j2);
+  memory_fill(memory, w2c_i0, w2c_i1, w2c_i2);
+  w2c_B2:;
+  w2c_j0 = w2c_p7;
+  w2c_i0 = !(w2c_j0);
+  w2c_i0 = !(w2c_i0);
+  if (w2c_i0) {goto w2c_B5;}
+  w2c_i0 = 0u;
+  w2c_l13 = w2c_i0;
+  goto w2c_B1;
+  w2c_B5:;
+  w2c_j0 = w2c_p7;
+  w2c_j1 = 18446744073709551615ull;
+  w2c_j0 += w2c_j1;
+  w2c_l10 = w2c_j0;
+  w2c_i0 = !(w2c_j0);
+  w2c_l13 = w2c_i0;
+  if (w2c_i0) {goto w2c_B6;}
+  w2c_i0 = w2c_l13;
+  if (w2c_i0) {goto w2c_B6;}
+  w2c_j0 = w2c_p3;
+  w2c_i0 = (u32)(w2c_j0);
+  w2c_i1 = 0u;
+  w2c_j2 = w2c_l10;
+  w2c_i2 = (u32)(w2c_j2);
+  memory_fill(memory, w2c_i0, w2c_i1, w2c_i2);
+  w2c_B6:;
+  w2c_i0 = 0u;
+  w2c_l13 = w2c_i0;
+  w2c_j0 = w2c_p3;
+  w2c_j1 = w2c_l10;
+  w2c_j0 += w2c_j1;
+  w2c_i0 = (u32)(w2c_j0);
+  w2c_i1 = 0u;
+  i32_store8(memory, (u64)(w2c_i0), w2c_i1);
+  w2c_B1:;
+  w2c_j0 = w2c_l11;
+  w2c_j1 = 32ull;
+  w2c_j0 += w2c_j1;
+  instance->w2c_g0 = w2c_j0;
+  w2c_i0 = w2c_l13;
+  goto w2c_Bfunc;
+  w2c_B0:;
+  UNREACHABLE;
+  w2c_Bfunc:;
+  return w2c_i0;
+}
+static u32 w2c_keywrap_end_unwrap_padded(struct instance *instance, u64 w2c_p0, u64 w2c_p1, u64 w2c_p2, u64 w2c_p3, u64 w2c_p4) {
+  u32 w2c_l5 = 0;
+  const struct memory memory = instance->w2c_memory;
+  (void)memory;
+  u32 w2c_i0;
+  u64 w2c_j0, w2c_j1, w2c_j2, w2c_j3, w2c_j4;
+  w2c_i0 = w2c_f6(instance);
+  w2c_i0 = !(w2c_i0);
+  if (w2c_i0) {goto w2c_B0;}
+  w2c_f8(instance);
+  UNREACHABLE;
+  w2c_B0:;
+  w2c_j0 = w2c_p0;
+  w2c_j1 = w2c_p1;
+  w2c_j2 = w2c_p2;
+  w2c_j3 = w2c_p3;
+  w2c_j4 = w2c_p4;
+  w2c_i0 = w2c_f115(instance, w2c_j0, w2c_j1, w2c_j2, w2c_j3, w2c_j4);
   w2c_l5 = w2c_i0;
-  w2c_f1(instance);
+  w2c_f7(instance);
   w2c_i0 = w2c_l5;
   return w2c_i0;
 }
-static u32 w2c_f65(struct instance *instance, u64 w2c_p0, u64 w2c_p1, u64 w2c_p2, u64 w2c_p3, u64 w2c_p4) {
+static u32 w2c_f115(struct instance *instance, u64 w2c_p0, u64 w2c_p1, u64 w2c_p2, u64 w2c_p3, u64 w2c_p4) {
   u32 w2c_l7 = 0;
   u64 w2c_l5 = 0, w2c_l6 = 0;
   const struct memory memory = instance->w2c_memory;
@@ -13314,7 +27730,7 @@ static u32 w2c_f65(struct instance *instance, u64 w2c_p0, u64 w2c_p1, u64 w2c_p2
   w2c_j1 |= w2c_j2;
   w2c_j2 = w2c_p0;
   w2c_j3 = w2c_p1;
-  w2c_f3(instance, w2c_j0, w2c_j1, w2c_j2, w2c_j3);
+  w2c_f13(instance, w2c_j0, w2c_j1, w2c_j2, w2c_j3);
   w2c_j0 = w2c_l6;
   w2c_i0 = (u32)(w2c_j0);
   w2c_i0 = i32_load8_u(memory, (u64)(w2c_i0) + 8u);
@@ -13352,355 +27768,6 @@ static u32 w2c_f65(struct instance *instance, u64 w2c_p0, u64 w2c_p1, u64 w2c_p2
   w2c_Bfunc:;
   return w2c_i0;
 }
-#ifdef WITH_AES
-static u32 w2c_keywrap_end_unwrap_slot(struct instance *instance, u32 w2c_p0, u64 w2c_p1, u64 w2c_p2, u64 w2c_p3, u64 w2c_p4, u64 w2c_p5) {
-  const struct memory memory = instance->w2c_memory;
-  (void)memory;
-  u32 w2c_i0;
-  u64 w2c_j1, w2c_j2, w2c_j3, w2c_j4, w2c_j5;
-  w2c_i0 = w2c_f0(instance);
-  w2c_i0 = !(w2c_i0);
-  if (w2c_i0) {goto w2c_B0;}
-  w2c_f2(instance);
-  UNREACHABLE;
-  w2c_B0:;
-  w2c_i0 = w2c_p0;
-  w2c_j1 = w2c_p1;
-  w2c_j2 = w2c_p2;
-  w2c_j3 = w2c_p3;
-  w2c_j4 = w2c_p4;
-  w2c_j5 = w2c_p5;
-  w2c_i0 = w2c_f67(instance, w2c_i0, w2c_j1, w2c_j2, w2c_j3, w2c_j4, w2c_j5);
-  w2c_p0 = w2c_i0;
-  w2c_f1(instance);
-  w2c_i0 = w2c_p0;
-  return w2c_i0;
-}
-static u32 w2c_f67(struct instance *instance, u32 w2c_p0, u64 w2c_p1, u64 w2c_p2, u64 w2c_p3, u64 w2c_p4, u64 w2c_p5) {
-  u32 w2c_l8 = 0;
-  u64 w2c_l6 = 0, w2c_l7 = 0;
-  const struct memory memory = instance->w2c_memory;
-  (void)memory;
-  u32 w2c_i0, w2c_i1, w2c_i2, w2c_i3;
-  u64 w2c_j0, w2c_j1, w2c_j2, w2c_j3, w2c_j4, w2c_j5, w2c_j6;
-  w2c_j0 = instance->w2c_g0;
-  w2c_j1 = 16ull;
-  w2c_j0 -= w2c_j1;
-  w2c_l6 = w2c_j0;
-  instance->w2c_g0 = w2c_j0;
-  w2c_j0 = w2c_l6;
-  w2c_l6 = w2c_j0;
-  w2c_j1 = 16ull;
-  w2c_i0 = (u64)((s64)w2c_j0 < (s64)w2c_j1);
-  if (w2c_i0) {goto w2c_B3;}
-  w2c_j0 = w2c_p1;
-  w2c_j1 = 4096ull;
-  w2c_j2 = 0ull;
-  w2c_j3 = w2c_p1;
-  w2c_i3 = !(w2c_j3);
-  w2c_j1 = w2c_i3 ? w2c_j1 : w2c_j2;
-  w2c_j0 += w2c_j1;
-  w2c_l7 = w2c_j0;
-  w2c_j0 = w2c_p5;
-  w2c_i0 = (u32)(w2c_j0);
-  w2c_j1 = 0ull;
-  i64_store(memory, (u64)(w2c_i0), w2c_j1);
-  w2c_i0 = 4u;
-  w2c_l8 = w2c_i0;
-  w2c_i0 = w2c_p0;
-  switch (w2c_i0) {
-    case 0: goto w2c_B5;
-    case 1: goto w2c_B4;
-    default: goto w2c_B0;
-  }
-  w2c_B5:;
-  w2c_j0 = w2c_p2;
-  w2c_j1 = 18446744073709551600ull;
-  w2c_j0 += w2c_j1;
-  w2c_j1 = 1048560ull;
-  w2c_i0 = w2c_j0 <= w2c_j1;
-  if (w2c_i0) {goto w2c_B6;}
-  w2c_i0 = 4u;
-  w2c_l8 = w2c_i0;
-  goto w2c_B0;
-  w2c_B6:;
-  w2c_i0 = 4u;
-  w2c_l8 = w2c_i0;
-  w2c_j0 = w2c_p3;
-  w2c_j1 = w2c_p2;
-  w2c_j2 = 7ull;
-  w2c_j1 &= w2c_j2;
-  w2c_j0 |= w2c_j1;
-  w2c_j1 = 0ull;
-  w2c_i0 = w2c_j0 != w2c_j1;
-  if (w2c_i0) {goto w2c_B0;}
-  w2c_j0 = w2c_p4;
-  w2c_i0 = (u32)(w2c_j0);
-  w2c_j1 = 0ull;
-  i64_store(memory, (u64)(w2c_i0) + 8, w2c_j1);
-  w2c_j0 = w2c_p4;
-  w2c_i0 = (u32)(w2c_j0);
-  w2c_j0 = i64_load(memory, (u64)(w2c_i0));
-  w2c_p1 = w2c_j0;
-  w2c_j0 = w2c_p4;
-  w2c_i0 = (u32)(w2c_j0);
-  w2c_j1 = 0ull;
-  i64_store(memory, (u64)(w2c_i0), w2c_j1);
-  w2c_j0 = w2c_l6;
-  w2c_j1 = w2c_p1;
-  w2c_j2 = 12008468691120727718ull;
-  w2c_j1 ^= w2c_j2;
-  w2c_p1 = w2c_j1;
-  w2c_j2 = 56ull;
-  w2c_j1 <<= (w2c_j2 & 63);
-  w2c_j2 = w2c_p1;
-  w2c_j3 = 65280ull;
-  w2c_j2 &= w2c_j3;
-  w2c_j3 = 40ull;
-  w2c_j2 <<= (w2c_j3 & 63);
-  w2c_j1 |= w2c_j2;
-  w2c_j2 = w2c_p1;
-  w2c_j3 = 16711680ull;
-  w2c_j2 &= w2c_j3;
-  w2c_j3 = 24ull;
-  w2c_j2 <<= (w2c_j3 & 63);
-  w2c_j3 = w2c_p1;
-  w2c_j4 = 4278190080ull;
-  w2c_j3 &= w2c_j4;
-  w2c_j4 = 8ull;
-  w2c_j3 <<= (w2c_j4 & 63);
-  w2c_j2 |= w2c_j3;
-  w2c_j1 |= w2c_j2;
-  w2c_j2 = w2c_p1;
-  w2c_j3 = 8ull;
-  w2c_j2 >>= (w2c_j3 & 63);
-  w2c_j3 = 4278190080ull;
-  w2c_j2 &= w2c_j3;
-  w2c_j3 = w2c_p1;
-  w2c_j4 = 24ull;
-  w2c_j3 >>= (w2c_j4 & 63);
-  w2c_j4 = 16711680ull;
-  w2c_j3 &= w2c_j4;
-  w2c_j2 |= w2c_j3;
-  w2c_j3 = w2c_p1;
-  w2c_j4 = 40ull;
-  w2c_j3 >>= (w2c_j4 & 63);
-  w2c_j4 = 65280ull;
-  w2c_j3 &= w2c_j4;
-  w2c_j4 = w2c_p1;
-  w2c_j5 = 56ull;
-  w2c_j4 >>= (w2c_j5 & 63);
-  w2c_j3 |= w2c_j4;
-  w2c_j2 |= w2c_j3;
-  w2c_j1 |= w2c_j2;
-  w2c_j2 = w2c_l7;
-  w2c_j3 = w2c_p2;
-  w2c_f3(instance, w2c_j0, w2c_j1, w2c_j2, w2c_j3);
-  w2c_j0 = w2c_l6;
-  w2c_i0 = (u32)(w2c_j0);
-  w2c_i0 = i32_load8_u(memory, (u64)(w2c_i0));
-  w2c_i1 = 255u;
-  w2c_i0 &= w2c_i1;
-  w2c_i0 = !(w2c_i0);
-  if (w2c_i0) {goto w2c_B2;}
-  w2c_i0 = 5u;
-  w2c_i1 = 4u;
-  w2c_j2 = w2c_l6;
-  w2c_i2 = (u32)(w2c_j2);
-  w2c_i2 = i32_load8_u(memory, (u64)(w2c_i2) + 1u);
-  w2c_i3 = 255u;
-  w2c_i2 &= w2c_i3;
-  w2c_i0 = w2c_i2 ? w2c_i0 : w2c_i1;
-  w2c_l8 = w2c_i0;
-  goto w2c_B0;
-  w2c_B4:;
-  w2c_j0 = w2c_p2;
-  w2c_j1 = 18446744073709551608ull;
-  w2c_j0 += w2c_j1;
-  w2c_j1 = 1048568ull;
-  w2c_i0 = w2c_j0 > w2c_j1;
-  if (w2c_i0) {goto w2c_B7;}
-  w2c_j0 = w2c_p3;
-  w2c_j1 = w2c_p2;
-  w2c_j2 = 7ull;
-  w2c_j1 &= w2c_j2;
-  w2c_j0 |= w2c_j1;
-  w2c_j1 = 0ull;
-  w2c_i0 = w2c_j0 != w2c_j1;
-  if (w2c_i0) {goto w2c_B7;}
-  w2c_j0 = w2c_p4;
-  w2c_i0 = (u32)(w2c_j0);
-  w2c_j1 = 0ull;
-  i64_store(memory, (u64)(w2c_i0) + 8, w2c_j1);
-  w2c_j0 = w2c_p4;
-  w2c_i0 = (u32)(w2c_j0);
-  w2c_j0 = i64_load(memory, (u64)(w2c_i0));
-  w2c_p1 = w2c_j0;
-  w2c_j0 = w2c_p4;
-  w2c_i0 = (u32)(w2c_j0);
-  w2c_j1 = 0ull;
-  i64_store(memory, (u64)(w2c_i0), w2c_j1);
-  w2c_j0 = w2c_l6;
-  w2c_j1 = 8ull;
-  w2c_j0 += w2c_j1;
-  w2c_j1 = w2c_p2;
-  w2c_j2 = w2c_p1;
-  w2c_j3 = 8ull;
-  w2c_j2 >>= (w2c_j3 & 63);
-  w2c_j3 = 4278190080ull;
-  w2c_j2 &= w2c_j3;
-  w2c_j3 = w2c_p1;
-  w2c_j4 = 24ull;
-  w2c_j3 >>= (w2c_j4 & 63);
-  w2c_j4 = 16711680ull;
-  w2c_j3 &= w2c_j4;
-  w2c_j2 |= w2c_j3;
-  w2c_j3 = w2c_p1;
-  w2c_j4 = 40ull;
-  w2c_j3 >>= (w2c_j4 & 63);
-  w2c_j4 = 65280ull;
-  w2c_j3 &= w2c_j4;
-  w2c_j4 = w2c_p1;
-  w2c_j5 = 56ull;
-  w2c_j4 >>= (w2c_j5 & 63);
-  w2c_j3 |= w2c_j4;
-  w2c_j2 |= w2c_j3;
-  w2c_p3 = w2c_j2;
-  w2c_j1 -= w2c_j2;
-  w2c_p4 = w2c_j1;
-  w2c_j2 = 3ull;
-  w2c_j1 >>= (w2c_j2 & 63);
-  w2c_j2 = w2c_p1;
-  w2c_j3 = 56ull;
-  w2c_j2 <<= (w2c_j3 & 63);
-  w2c_j3 = w2c_p1;
-  w2c_j4 = 65280ull;
-  w2c_j3 &= w2c_j4;
-  w2c_j4 = 40ull;
-  w2c_j3 <<= (w2c_j4 & 63);
-  w2c_j2 |= w2c_j3;
-  w2c_j3 = w2c_p1;
-  w2c_j4 = 16711680ull;
-  w2c_j3 &= w2c_j4;
-  w2c_j4 = 24ull;
-  w2c_j3 <<= (w2c_j4 & 63);
-  w2c_j4 = w2c_p1;
-  w2c_j5 = 4278190080ull;
-  w2c_j4 &= w2c_j5;
-  w2c_j5 = 8ull;
-  w2c_j4 <<= (w2c_j5 & 63);
-  w2c_j3 |= w2c_j4;
-  w2c_j2 |= w2c_j3;
-  w2c_j3 = 32ull;
-  w2c_j2 >>= (w2c_j3 & 63);
-  w2c_j3 = 2790873510ull;
-  w2c_j2 ^= w2c_j3;
-  w2c_j1 |= w2c_j2;
-  w2c_j2 = w2c_l7;
-  w2c_j3 = w2c_p2;
-  w2c_j2 += w2c_j3;
-  w2c_j3 = 18446744073709551608ull;
-  w2c_j2 += w2c_j3;
-  w2c_i2 = (u32)(w2c_j2);
-  w2c_j2 = i64_load(memory, (u64)(w2c_i2));
-  w2c_p1 = w2c_j2;
-  w2c_j3 = 56ull;
-  w2c_j2 <<= (w2c_j3 & 63);
-  w2c_j3 = w2c_p1;
-  w2c_j4 = 65280ull;
-  w2c_j3 &= w2c_j4;
-  w2c_j4 = 40ull;
-  w2c_j3 <<= (w2c_j4 & 63);
-  w2c_j2 |= w2c_j3;
-  w2c_j3 = w2c_p1;
-  w2c_j4 = 16711680ull;
-  w2c_j3 &= w2c_j4;
-  w2c_j4 = 24ull;
-  w2c_j3 <<= (w2c_j4 & 63);
-  w2c_j4 = w2c_p1;
-  w2c_j5 = 4278190080ull;
-  w2c_j4 &= w2c_j5;
-  w2c_j5 = 8ull;
-  w2c_j4 <<= (w2c_j5 & 63);
-  w2c_j3 |= w2c_j4;
-  w2c_j2 |= w2c_j3;
-  w2c_j3 = w2c_p1;
-  w2c_j4 = 8ull;
-  w2c_j3 >>= (w2c_j4 & 63);
-  w2c_j4 = 4278190080ull;
-  w2c_j3 &= w2c_j4;
-  w2c_j4 = w2c_p1;
-  w2c_j5 = 24ull;
-  w2c_j4 >>= (w2c_j5 & 63);
-  w2c_j5 = 16711680ull;
-  w2c_j4 &= w2c_j5;
-  w2c_j3 |= w2c_j4;
-  w2c_j4 = w2c_p1;
-  w2c_j5 = 40ull;
-  w2c_j4 >>= (w2c_j5 & 63);
-  w2c_j5 = 65280ull;
-  w2c_j4 &= w2c_j5;
-  w2c_j5 = w2c_p1;
-  w2c_j6 = 56ull;
-  w2c_j5 >>= (w2c_j6 & 63);
-  w2c_j4 |= w2c_j5;
-  w2c_j3 |= w2c_j4;
-  w2c_j2 |= w2c_j3;
-  w2c_j3 = 18446744073709551615ull;
-  w2c_j4 = w2c_p4;
-  w2c_j5 = 3ull;
-  w2c_j4 <<= (w2c_j5 & 63);
-  w2c_j3 <<= (w2c_j4 & 63);
-  w2c_j4 = 18446744073709551615ull;
-  w2c_j3 ^= w2c_j4;
-  w2c_j2 &= w2c_j3;
-  w2c_j1 |= w2c_j2;
-  w2c_j2 = w2c_l7;
-  w2c_j3 = w2c_p2;
-  w2c_f3(instance, w2c_j0, w2c_j1, w2c_j2, w2c_j3);
-  w2c_j0 = w2c_l6;
-  w2c_i0 = (u32)(w2c_j0);
-  w2c_i0 = i32_load8_u(memory, (u64)(w2c_i0) + 8u);
-  w2c_i1 = 255u;
-  w2c_i0 &= w2c_i1;
-  if (w2c_i0) {goto w2c_B8;}
-  w2c_j0 = w2c_p5;
-  w2c_i0 = (u32)(w2c_j0);
-  w2c_j1 = w2c_p3;
-  i64_store(memory, (u64)(w2c_i0), w2c_j1);
-  goto w2c_B1;
-  w2c_B8:;
-  w2c_i0 = 5u;
-  w2c_l8 = w2c_i0;
-  w2c_j0 = w2c_l6;
-  w2c_i0 = (u32)(w2c_j0);
-  w2c_i0 = i32_load8_u(memory, (u64)(w2c_i0) + 9u);
-  w2c_i1 = 255u;
-  w2c_i0 &= w2c_i1;
-  if (w2c_i0) {goto w2c_B0;}
-  w2c_B7:;
-  w2c_i0 = 4u;
-  w2c_l8 = w2c_i0;
-  goto w2c_B0;
-  w2c_B3:;
-  UNREACHABLE;
-  w2c_B2:;
-  w2c_j0 = w2c_p5;
-  w2c_i0 = (u32)(w2c_j0);
-  w2c_j1 = w2c_p2;
-  i64_store(memory, (u64)(w2c_i0), w2c_j1);
-  w2c_B1:;
-  w2c_i0 = 0u;
-  w2c_l8 = w2c_i0;
-  w2c_B0:;
-  w2c_j0 = w2c_l6;
-  w2c_j1 = 16ull;
-  w2c_j0 += w2c_j1;
-  instance->w2c_g0 = w2c_j0;
-  w2c_i0 = w2c_l8;
-  return w2c_i0;
-}
-#endif
 static u32 w2c_keywrap_end_wrap(struct instance *instance, u64 w2c_p0, u64 w2c_p1, u64 w2c_p2, u64 w2c_p3, u64 w2c_p4) {
   u32 w2c_l5 = 0;
   const struct memory memory = instance->w2c_memory;
@@ -13708,23 +27775,23 @@ static u32 w2c_keywrap_end_wrap(struct instance *instance, u64 w2c_p0, u64 w2c_p
   (void)w2c_p1;
   u32 w2c_i0;
   u64 w2c_j0, w2c_j1, w2c_j2, w2c_j3;
-  w2c_i0 = w2c_f0(instance);
+  w2c_i0 = w2c_f6(instance);
   w2c_i0 = !(w2c_i0);
   if (w2c_i0) {goto w2c_B0;}
-  w2c_f2(instance);
+  w2c_f8(instance);
   UNREACHABLE;
   w2c_B0:;
   w2c_j0 = w2c_p0;
   w2c_j1 = w2c_p2;
   w2c_j2 = w2c_p3;
   w2c_j3 = w2c_p4;
-  w2c_i0 = w2c_f69(instance, w2c_j0, w2c_j1, w2c_j2, w2c_j3);
+  w2c_i0 = w2c_f117(instance, w2c_j0, w2c_j1, w2c_j2, w2c_j3);
   w2c_l5 = w2c_i0;
-  w2c_f1(instance);
+  w2c_f7(instance);
   w2c_i0 = w2c_l5;
   return w2c_i0;
 }
-static u32 w2c_f69(struct instance *instance, u64 w2c_p0, u64 w2c_p1, u64 w2c_p2, u64 w2c_p3) {
+static u32 w2c_f117(struct instance *instance, u64 w2c_p0, u64 w2c_p1, u64 w2c_p2, u64 w2c_p3) {
   u32 w2c_l4 = 0;
   const struct memory memory = instance->w2c_memory;
   (void)memory;
@@ -13832,24 +27899,258 @@ static u32 w2c_f69(struct instance *instance, u64 w2c_p0, u64 w2c_p1, u64 w2c_p2
   w2c_i0 = w2c_l4;
   return w2c_i0;
 }
+static u32 w2c_keywrap_end_wrap_many(struct instance *instance, u64 w2c_p0, u64 w2c_p1, u64 w2c_p2, u64 w2c_p3, u64 w2c_p4, u64 w2c_p5) {
+  u32 w2c_l6 = 0;
+  const struct memory memory = instance->w2c_memory;
+  (void)memory;
+  u32 w2c_i0;
+  u64 w2c_j0, w2c_j1, w2c_j2, w2c_j3, w2c_j4, w2c_j5;
+  w2c_i0 = w2c_f6(instance);
+  w2c_i0 = !(w2c_i0);
+  if (w2c_i0) {goto w2c_B0;}
+  w2c_f8(instance);
+  UNREACHABLE;
+  w2c_B0:;
+  w2c_j0 = w2c_p0;
+  w2c_j1 = w2c_p1;
+  w2c_j2 = w2c_p2;
+  w2c_j3 = w2c_p3;
+  w2c_j4 = w2c_p4;
+  w2c_j5 = w2c_p5;
+  w2c_i0 = w2c_f119(instance, w2c_j0, w2c_j1, w2c_j2, w2c_j3, w2c_j4, w2c_j5);
+  w2c_l6 = w2c_i0;
+  w2c_f7(instance);
+  w2c_i0 = w2c_l6;
+  return w2c_i0;
+}
+static u32 w2c_f119(struct instance *instance, u64 w2c_p0, u64 w2c_p1, u64 w2c_p2, u64 w2c_p3, u64 w2c_p4, u64 w2c_p5) {
+  u32 w2c_l9 = 0, w2c_l10 = 0;
+  u64 w2c_l6 = 0, w2c_l7 = 0, w2c_l8 = 0;
+  const struct memory memory = instance->w2c_memory;
+  (void)memory;
+  u32 w2c_i0, w2c_i1, w2c_i2, w2c_i3;
+  u64 w2c_j0, w2c_j1, w2c_j2, w2c_j3, w2c_j4;
+  w2c_j0 = instance->w2c_g0;
+  w2c_j1 = 16ull;
+  w2c_j0 -= w2c_j1;
+  w2c_l6 = w2c_j0;
+  instance->w2c_g0 = w2c_j0;
+  w2c_j0 = w2c_l6;
+  w2c_l7 = w2c_j0;
+  w2c_j1 = 16ull;
+  w2c_i0 = (u64)((s64)w2c_j0 < (s64)w2c_j1);
+  if (w2c_i0) {goto w2c_B0;}
+  w2c_i0 = 4u;
+  w2c_l9 = w2c_i0;
+  w2c_j0 = w2c_p2;
+  w2c_j1 = 18446744073709551592ull;
+  w2c_j0 += w2c_j1;
+  w2c_j1 = 1048560ull;
+  w2c_i0 = w2c_j0 > w2c_j1;
+  if (w2c_i0) {goto w2c_B1;}
+  w2c_j0 = w2c_p5;
+  w2c_j1 = 15ull;
+  w2c_j0 &= w2c_j1;
+  w2c_j1 = w2c_p2;
+  w2c_j2 = 7ull;
+  w2c_j1 &= w2c_j2;
+  w2c_j0 |= w2c_j1;
+  w2c_j1 = 0ull;
+  w2c_i0 = w2c_j0 != w2c_j1;
+  if (w2c_i0) {goto w2c_B1;}
+  w2c_j0 = w2c_l7;
+  w2c_j1 = w2c_p5;
+  w2c_j2 = 4ull;
+  w2c_j1 >>= (w2c_j2 & 63);
+  w2c_l8 = w2c_j1;
+  w2c_j2 = 0ull;
+  w2c_j3 = w2c_p2;
+  w2c_j4 = 0ull;
+  w2c_f9(instance, w2c_j0, w2c_j1, w2c_j2, w2c_j3, w2c_j4);
+  w2c_j0 = w2c_l7;
+  w2c_i0 = (u32)(w2c_j0);
+  w2c_j0 = i64_load(memory, (u64)(w2c_i0) + 8u);
+  w2c_j1 = 0ull;
+  w2c_i0 = w2c_j0 != w2c_j1;
+  w2c_l10 = w2c_i0;
+  if (w2c_i0) {goto w2c_B1;}
+  w2c_j0 = 0ull;
+  w2c_j1 = w2c_l8;
+  w2c_j2 = w2c_p2;
+  w2c_j1 *= w2c_j2;
+  w2c_i2 = w2c_l10;
+  w2c_j0 = w2c_i2 ? w2c_j0 : w2c_j1;
+  w2c_j1 = w2c_p1;
+  w2c_i0 = w2c_j0 != w2c_j1;
+  if (w2c_i0) {goto w2c_B1;}
+  w2c_j0 = w2c_p3;
+  w2c_j1 = w2c_p2;
+  w2c_j2 = 18446744073709551608ull;
+  w2c_j1 += w2c_j2;
+  w2c_j2 = 3ull;
+  w2c_j1 >>= (w2c_j2 & 63);
+  w2c_j2 = 6ull;
+  w2c_j1 *= w2c_j2;
+  w2c_i0 = w2c_j0 != w2c_j1;
+  if (w2c_i0) {goto w2c_B1;}
+  w2c_i0 = 0u;
+  w2c_l9 = w2c_i0;
+  w2c_j0 = w2c_l8;
+  w2c_i0 = !(w2c_j0);
+  if (w2c_i0) {goto w2c_B1;}
+  w2c_j0 = w2c_p4;
+  w2c_j1 = 4096ull;
+  w2c_j2 = 0ull;
+  w2c_j3 = w2c_p4;
+  w2c_i3 = !(w2c_j3);
+  w2c_j1 = w2c_i3 ? w2c_j1 : w2c_j2;
+  w2c_j0 += w2c_j1;
+  w2c_p5 = w2c_j0;
+  w2c_j0 = w2c_p0;
+  w2c_j1 = 4096ull;
+  w2c_j2 = 0ull;
+  w2c_j3 = w2c_p0;
+  w2c_i3 = !(w2c_j3);
+  w2c_j1 = w2c_i3 ? w2c_j1 : w2c_j2;
+  w2c_j0 += w2c_j1;
+  w2c_l6 = w2c_j0;
+  w2c_L2: 
+    w2c_j0 = w2c_l6;
+    w2c_j1 = w2c_p5;
+    w2c_j0 -= w2c_j1;
+    w2c_j1 = 7ull;
+    w2c_i0 = w2c_j0 > w2c_j1;
+    if (w2c_i0) {goto w2c_B4;}
+    w2c_j0 = w2c_l6;
+    w2c_i0 = (u32)(w2c_j0);
+    w2c_j1 = w2c_p5;
+    w2c_i1 = (u32)(w2c_j1);
+    w2c_i1 = i32_load8_u(memory, (u64)(w2c_i1));
+    i32_store8(memory, (u64)(w2c_i0), w2c_i1);
+    w2c_j0 = w2c_l6;
+    w2c_j1 = 1ull;
+    w2c_j0 += w2c_j1;
+    w2c_i0 = (u32)(w2c_j0);
+    w2c_j1 = w2c_p5;
+    w2c_j2 = 1ull;
+    w2c_j1 += w2c_j2;
+    w2c_i1 = (u32)(w2c_j1);
+    w2c_i1 = i32_load8_u(memory, (u64)(w2c_i1));
+    i32_store8(memory, (u64)(w2c_i0), w2c_i1);
+    w2c_j0 = w2c_l6;
+    w2c_j1 = 2ull;
+    w2c_j0 += w2c_j1;
+    w2c_i0 = (u32)(w2c_j0);
+    w2c_j1 = w2c_p5;
+    w2c_j2 = 2ull;
+    w2c_j1 += w2c_j2;
+    w2c_i1 = (u32)(w2c_j1);
+    w2c_i1 = i32_load8_u(memory, (u64)(w2c_i1));
+    i32_store8(memory, (u64)(w2c_i0), w2c_i1);
+    w2c_j0 = w2c_l6;
+    w2c_j1 = 3ull;
+    w2c_j0 += w2c_j1;
+    w2c_i0 = (u32)(w2c_j0);
+    w2c_j1 = w2c_p5;
+    w2c_j2 = 3ull;
+    w2c_j1 += w2c_j2;
+    w2c_i1 = (u32)(w2c_j1);
+    w2c_i1 = i32_load8_u(memory, (u64)(w2c_i1));
+    i32_store8(memory, (u64)(w2c_i0), w2c_i1);
+    w2c_j0 = w2c_l6;
+    w2c_j1 = 4ull;
+    w2c_j0 += w2c_j1;
+    w2c_i0 = (u32)(w2c_j0);
+    w2c_j1 = w2c_p5;
+    w2c_j2 = 4ull;
+    w2c_j1 += w2c_j2;
+    w2c_i1 = (u32)(w2c_j1);
+    w2c_i1 = i32_load8_u(memory, (u64)(w2c_i1));
+    i32_store8(memory, (u64)(w2c_i0), w2c_i1);
+    w2c_j0 = w2c_l6;
+    w2c_j1 = 5ull;
+    w2c_j0 += w2c_j1;
+    w2c_i0 = (u32)(w2c_j0);
+    w2c_j1 = w2c_p5;
+    w2c_j2 = 5ull;
+    w2c_j1 += w2c_j2;
+    w2c_i1 = (u32)(w2c_j1);
+    w2c_i1 = i32_load8_u(memory, (u64)(w2c_i1));
+    i32_store8(memory, (u64)(w2c_i0), w2c_i1);
+    w2c_j0 = w2c_l6;
+    w2c_j1 = 6ull;
+    w2c_j0 += w2c_j1;
+    w2c_i0 = (u32)(w2c_j0);
+    w2c_j1 = w2c_p5;
+    w2c_j2 = 6ull;
+    w2c_j1 += w2c_j2;
+    w2c_i1 = (u32)(w2c_j1);
+    w2c_i1 = i32_load8_u(memory, (u64)(w2c_i1));
+    i32_store8(memory, (u64)(w2c_i0), w2c_i1);
+    w2c_j0 = w2c_l6;
+    w2c_j1 = 7ull;
+    w2c_j0 += w2c_j1;
+    w2c_i0 = (u32)(w2c_j0);
+    w2c_j1 = w2c_p5;
+    w2c_j2 = 7ull;
+    w2c_j1 += w2c_j2;
+    w2c_i1 = (u32)(w2c_j1);
+    w2c_i1 = i32_load8_u(memory, (u64)(w2c_i1));
+    i32_store8(memory, (u64)(w2c_i0), w2c_i1);
+    goto w2c_B3;
+    w2c_B4:;
+    w2c_j0 = w2c_l6;
+    w2c_i0 = (u32)(w2c_j0);
+    w2c_j1 = w2c_p5;
+    w2c_i1 = (u32)(w2c_j1);
+    w2c_j1 = i64_load(memory, (u64)(w2c_i1));
+    i64_store(memory, (u64)(w2c_i0), w2c_j1);
+    w2c_B3:;
+    w2c_j0 = w2c_l6;
+    w2c_j1 = w2c_p2;
+    w2c_j0 += w2c_j1;
+    w2c_l6 = w2c_j0;
+    w2c_j0 = w2c_p5;
+    w2c_j1 = 16ull;
+    w2c_j0 += w2c_j1;
+    w2c_p5 = w2c_j0;
+    w2c_j0 = w2c_l8;
+    w2c_j1 = 18446744073709551615ull;
+    w2c_j0 += w2c_j1;
+    w2c_l8 = w2c_j0;
+    w2c_i0 = !(w2c_j0);
+    w2c_i0 = !(w2c_i0);
+    if (w2c_i0) {goto w2c_L2;}
+  w2c_B1:;
+  w2c_j0 = w2c_l7;
+  w2c_j1 = 16ull;
+  w2c_j0 += w2c_j1;
+  instance->w2c_g0 = w2c_j0;
+  w2c_i0 = w2c_l9;
+  goto w2c_Bfunc;
+  w2c_B0:;
+  UNREACHABLE;
+  w2c_Bfunc:;
+  return w2c_i0;
+}
 #ifndef KEYWRAP_STEPS_ONLY
 static void w2c_keywrap_kek_clear(struct instance *instance, u64 w2c_p0, u64 w2c_p1) {
   const struct memory memory = instance->w2c_memory;
   (void)memory;
   u32 w2c_i0;
   u64 w2c_j0, w2c_j1;
-  w2c_i0 = w2c_f0(instance);
+  w2c_i0 = w2c_f6(instance);
   w2c_i0 = !(w2c_i0);
   if (w2c_i0) {goto w2c_B0;}
-  w2c_f2(instance);
+  w2c_f8(instance);
   UNREACHABLE;
   w2c_B0:;
   w2c_j0 = w2c_p0;
   w2c_j1 = w2c_p1;
-  w2c_f71(instance, w2c_j0, w2c_j1);
-  w2c_f1(instance);
+  w2c_f121(instance, w2c_j0, w2c_j1);
+  w2c_f7(instance);
 }
-static void w2c_f71(struct instance *instance, u64 w2c_p0, u64 w2c_p1) {
+static void w2c_f121(struct instance *instance, u64 w2c_p0, u64 w2c_p1) {
   u32 w2c_l2 = 0;
   const struct memory memory = instance->w2c_memory;
   (void)memory;
@@ -13904,23 +28205,23 @@ static u32 w2c_keywrap_kek_init(struct instance *instance, u64 w2c_p0, u64 w2c_p
   (void)memory;
   u32 w2c_i0;
   u64 w2c_j0, w2c_j1, w2c_j2, w2c_j3;
-  w2c_i0 = w2c_f0(instance);
+  w2c_i0 = w2c_f6(instance);
   w2c_i0 = !(w2c_i0);
   if (w2c_i0) {goto w2c_B0;}
-  w2c_f2(instance);
+  w2c_f8(instance);
   UNREACHABLE;
   w2c_B0:;
   w2c_j0 = w2c_p0;
   w2c_j1 = w2c_p1;
   w2c_j2 = w2c_p2;
   w2c_j3 = w2c_p3;
-  w2c_i0 = w2c_f73(instance, w2c_j0, w2c_j1, w2c_j2, w2c_j3);
+  w2c_i0 = w2c_f123(instance, w2c_j0, w2c_j1, w2c_j2, w2c_j3);
   w2c_l4 = w2c_i0;
-  w2c_f1(instance);
+  w2c_f7(instance);
   w2c_i0 = w2c_l4;
   return w2c_i0;
 }
-static u32 w2c_f73(struct instance *instance, u64 w2c_p0, u64 w2c_p1, u64 w2c_p2, u64 w2c_p3) {
+static u32 w2c_f123(struct instance *instance, u64 w2c_p0, u64 w2c_p1, u64 w2c_p2, u64 w2c_p3) {
   u32 w2c_l9 = 0, w2c_l10 = 0, w2c_l11 = 0, w2c_l12 = 0;
   u64 w2c_l4 = 0, w2c_l5 = 0, w2c_l6 = 0, w2c_l7 = 0, w2c_l8 = 0;
   const struct memory memory = instance->w2c_memory;
@@ -14247,7 +28548,7 @@ static u32 w2c_f73(struct instance *instance, u64 w2c_p0, u64 w2c_p1, u64 w2c_p2
     w2c_j0 = (u64)(w2c_i0);
     w2c_j1 = 255ull;
     w2c_j0 &= w2c_j1;
-    w2c_j1 = 65576ull;
+    w2c_j1 = 66019ull;
     w2c_j0 += w2c_j1;
     w2c_i0 = (u32)(w2c_j0);
     w2c_i0 = constant_i32_load8_u((u64)(w2c_i0));
@@ -14259,7 +28560,7 @@ static u32 w2c_f73(struct instance *instance, u64 w2c_p0, u64 w2c_p1, u64 w2c_p2
     w2c_j2 = 24ull;
     w2c_j1 >>= (w2c_j2 & 63);
     w2c_i1 = (u32)(w2c_j1);
-    w2c_i1 = constant_i32_load8_u((u64)(w2c_i1) + 65576u);
+    w2c_i1 = constant_i32_load8_u((u64)(w2c_i1) + 66019u);
     w2c_i0 |= w2c_i1;
     w2c_i1 = w2c_l9;
     w2c_i2 = 8u;
@@ -14267,7 +28568,7 @@ static u32 w2c_f73(struct instance *instance, u64 w2c_p0, u64 w2c_p1, u64 w2c_p2
     w2c_j1 = (u64)(w2c_i1);
     w2c_j2 = 255ull;
     w2c_j1 &= w2c_j2;
-    w2c_j2 = 65576ull;
+    w2c_j2 = 66019ull;
     w2c_j1 += w2c_j2;
     w2c_i1 = (u32)(w2c_j1);
     w2c_i1 = constant_i32_load8_u((u64)(w2c_i1));
@@ -14278,7 +28579,7 @@ static u32 w2c_f73(struct instance *instance, u64 w2c_p0, u64 w2c_p1, u64 w2c_p2
     w2c_j2 = 255ull;
     w2c_j1 &= w2c_j2;
     w2c_i1 = (u32)(w2c_j1);
-    w2c_i1 = constant_i32_load8_u((u64)(w2c_i1) + 65576u);
+    w2c_i1 = constant_i32_load8_u((u64)(w2c_i1) + 66019u);
     w2c_i2 = 24u;
     w2c_i1 <<= (w2c_i2 & 31);
     w2c_i0 |= w2c_i1;
@@ -14320,7 +28621,7 @@ static u32 w2c_f73(struct instance *instance, u64 w2c_p0, u64 w2c_p1, u64 w2c_p2
     w2c_j0 = (u64)(w2c_i0);
     w2c_j1 = 255ull;
     w2c_j0 &= w2c_j1;
-    w2c_j1 = 65576ull;
+    w2c_j1 = 66019ull;
     w2c_j0 += w2c_j1;
     w2c_i0 = (u32)(w2c_j0);
     w2c_i0 = constant_i32_load8_u((u64)(w2c_i0));
@@ -14332,7 +28633,7 @@ static u32 w2c_f73(struct instance *instance, u64 w2c_p0, u64 w2c_p1, u64 w2c_p2
     w2c_j2 = 24ull;
     w2c_j1 >>= (w2c_j2 & 63);
     w2c_i1 = (u32)(w2c_j1);
-    w2c_i1 = constant_i32_load8_u((u64)(w2c_i1) + 65576u);
+    w2c_i1 = constant_i32_load8_u((u64)(w2c_i1) + 66019u);
     w2c_i0 |= w2c_i1;
     w2c_i1 = w2c_l9;
     w2c_i2 = 8u;
@@ -14340,7 +28641,7 @@ static u32 w2c_f73(struct instance *instance, u64 w2c_p0, u64 w2c_p1, u64 w2c_p2
     w2c_j1 = (u64)(w2c_i1);
     w2c_j2 = 255ull;
     w2c_j1 &= w2c_j2;
-    w2c_j2 = 65576ull;
+    w2c_j2 = 66019ull;
     w2c_j1 += w2c_j2;
     w2c_i1 = (u32)(w2c_j1);
     w2c_i1 = constant_i32_load8_u((u64)(w2c_i1));
@@ -14351,7 +28652,7 @@ static u32 w2c_f73(struct instance *instance, u64 w2c_p0, u64 w2c_p1, u64 w2c_p2
     w2c_j2 = 255ull;
     w2c_j1 &= w2c_j2;
     w2c_i1 = (u32)(w2c_j1);
-    w2c_i1 = constant_i32_load8_u((u64)(w2c_i1) + 65576u);
+    w2c_i1 = constant_i32_load8_u((u64)(w2c_i1) + 66019u);
     w2c_i2 = 24u;
     w2c_i1 <<= (w2c_i2 & 31);
     w2c_i0 |= w2c_i1;
@@ -14522,10 +28823,10 @@ static u32 w2c_keywrap_kind(struct instance *instance, u64 w2c_p0, u64 w2c_p1, u
   (void)memory;
   u32 w2c_i0;
   u64 w2c_j0, w2c_j1, w2c_j2, w2c_j3, w2c_j4, w2c_j5, w2c_j6, w2c_j7;
-  w2c_i0 = w2c_f0(instance);
+  w2c_i0 = w2c_f6(instance);
   w2c_i0 = !(w2c_i0);
   if (w2c_i0) {goto w2c_B0;}
-  w2c_f2(instance);
+  w2c_f8(instance);
   UNREACHABLE;
   w2c_B0:;
   w2c_j0 = w2c_p0;
@@ -14536,13 +28837,13 @@ static u32 w2c_keywrap_kind(struct instance *instance, u64 w2c_p0, u64 w2c_p1, u
   w2c_j5 = w2c_p5;
   w2c_j6 = w2c_p6;
   w2c_j7 = w2c_p7;
-  w2c_i0 = w2c_f75(instance, w2c_j0, w2c_j1, w2c_j2, w2c_j3, w2c_j4, w2c_j5, w2c_j6, w2c_j7);
+  w2c_i0 = w2c_f125(instance, w2c_j0, w2c_j1, w2c_j2, w2c_j3, w2c_j4, w2c_j5, w2c_j6, w2c_j7);
   w2c_l8 = w2c_i0;
-  w2c_f1(instance);
+  w2c_f7(instance);
   w2c_i0 = w2c_l8;
   return w2c_i0;
 }
-static u32 w2c_f75(struct instance *instance, u64 w2c_p0, u64 w2c_p1, u64 w2c_p2, u64 w2c_p3, u64 w2c_p4, u64 w2c_p5, u64 w2c_p6, u64 w2c_p7) {
+static u32 w2c_f125(struct instance *instance, u64 w2c_p0, u64 w2c_p1, u64 w2c_p2, u64 w2c_p3, u64 w2c_p4, u64 w2c_p5, u64 w2c_p6, u64 w2c_p7) {
   u32 w2c_l9 = 0, w2c_l10 = 0;
   u64 w2c_l8 = 0;
   const struct memory memory = instance->w2c_memory;
@@ -14587,7 +28888,7 @@ static u32 w2c_f75(struct instance *instance, u64 w2c_p0, u64 w2c_p1, u64 w2c_p2
   w2c_j2 = w2c_i4 ? w2c_j2 : w2c_j3;
   w2c_j1 += w2c_j2;
   w2c_j2 = w2c_p1;
-  w2c_f4(instance, w2c_j0, w2c_j1, w2c_j2);
+  w2c_f37(instance, w2c_j0, w2c_j1, w2c_j2);
   w2c_i0 = 3u;
   w2c_l9 = w2c_i0;
   w2c_j0 = w2c_l8;
@@ -14684,7 +28985,7 @@ static u32 w2c_f75(struct instance *instance, u64 w2c_p0, u64 w2c_p1, u64 w2c_p2
   w2c_j5 += w2c_j6;
   w2c_p0 = w2c_j5;
   w2c_j6 = w2c_p5;
-  w2c_f5(instance, w2c_j0, w2c_j1, w2c_j2, w2c_j3, w2c_j4, w2c_j5, w2c_j6);
+  w2c_f38(instance, w2c_j0, w2c_j1, w2c_j2, w2c_j3, w2c_j4, w2c_j5, w2c_j6);
   w2c_j0 = w2c_l8;
   w2c_i0 = (u32)(w2c_j0);
   w2c_i0 = i32_load8_u(memory, (u64)(w2c_i0) + 520u);
@@ -14780,10 +29081,10 @@ static u32 w2c_keywrap_kind_many(struct instance *instance, u64 w2c_p0, u64 w2c_
   u32 w2c_i0;
   u64 w2c_j0, w2c_j1, w2c_j2, w2c_j3, w2c_j4, w2c_j5, w2c_j6, w2c_j7, 
       w2c_j8, w2c_j9, w2c_j10, w2c_j11;
-  w2c_i0 = w2c_f0(instance);
+  w2c_i0 = w2c_f6(instance);
   w2c_i0 = !(w2c_i0);
   if (w2c_i0) {goto w2c_B0;}
-  w2c_f2(instance);
+  w2c_f8(instance);
   UNREACHABLE;
   w2c_B0:;
   w2c_j0 = w2c_p0;
@@ -14798,13 +29099,13 @@ static u32 w2c_keywrap_kind_many(struct instance *instance, u64 w2c_p0, u64 w2c_
   w2c_j9 = w2c_p9;
   w2c_j10 = w2c_p10;
   w2c_j11 = w2c_p11;
-  w2c_i0 = w2c_f77(instance, w2c_j0, w2c_j1, w2c_j2, w2c_j3, w2c_j4, w2c_j5, w2c_j6, w2c_j7, w2c_j8, w2c_j9, w2c_j10, w2c_j11);
+  w2c_i0 = w2c_f127(instance, w2c_j0, w2c_j1, w2c_j2, w2c_j3, w2c_j4, w2c_j5, w2c_j6, w2c_j7, w2c_j8, w2c_j9, w2c_j10, w2c_j11);
   w2c_l12 = w2c_i0;
-  w2c_f1(instance);
+  w2c_f7(instance);
   w2c_i0 = w2c_l12;
   return w2c_i0;
 }
-static u32 w2c_f77(struct instance *instance, u64 w2c_p0, u64 w2c_p1, u64 w2c_p2, u64 w2c_p3, u64 w2c_p4, u64 w2c_p5, u64 w2c_p6, u64 w2c_p7, 
+static u32 w2c_f127(struct instance *instance, u64 w2c_p0, u64 w2c_p1, u64 w2c_p2, u64 w2c_p3, u64 w2c_p4, u64 w2c_p5, u64 w2c_p6, u64 w2c_p7, 
     u64 w2c_p8, u64 w2c_p9, u64 w2c_p10, u64 w2c_p11) {
   u32 w2c_l13 = 0;
   u64 w2c_l12 = 0;
@@ -14842,7 +29143,7 @@ static u32 w2c_f77(struct instance *instance, u64 w2c_p0, u64 w2c_p1, u64 w2c_p2
   w2c_j2 = w2c_i4 ? w2c_j2 : w2c_j3;
   w2c_j1 += w2c_j2;
   w2c_j2 = w2c_p1;
-  w2c_f4(instance, w2c_j0, w2c_j1, w2c_j2);
+  w2c_f37(instance, w2c_j0, w2c_j1, w2c_j2);
   w2c_i0 = 3u;
   w2c_l13 = w2c_i0;
   w2c_j0 = w2c_l12;
@@ -14944,7 +29245,7 @@ static u32 w2c_f77(struct instance *instance, u64 w2c_p0, u64 w2c_p1, u64 w2c_p2
   w2c_j7 = w2c_i9 ? w2c_j7 : w2c_j8;
   w2c_j6 += w2c_j7;
   w2c_j7 = w2c_p11;
-  w2c_f7(instance, w2c_j0, w2c_j1, w2c_j2, w2c_j3, w2c_j4, w2c_j5, w2c_j6, w2c_j7);
+  w2c_f40(instance, w2c_j0, w2c_j1, w2c_j2, w2c_j3, w2c_j4, w2c_j5, w2c_j6, w2c_j7);
   w2c_i0 = 0u;
   w2c_l13 = w2c_i0;
   w2c_B1:;
@@ -14965,10 +29266,10 @@ static u32 w2c_keywrap_next_rewrap(struct instance *instance, u32 w2c_p0, u64 w2
   (void)memory;
   u32 w2c_i0;
   u64 w2c_j1, w2c_j2, w2c_j3, w2c_j4, w2c_j5;
-  w2c_i0 = w2c_f0(instance);
+  w2c_i0 = w2c_f6(instance);
   w2c_i0 = !(w2c_i0);
   if (w2c_i0) {goto w2c_B0;}
-  w2c_f2(instance);
+  w2c_f8(instance);
   UNREACHABLE;
   w2c_B0:;
   w2c_i0 = w2c_p0;
@@ -14977,13 +29278,13 @@ static u32 w2c_keywrap_next_rewrap(struct instance *instance, u32 w2c_p0, u64 w2
   w2c_j3 = w2c_p3;
   w2c_j4 = w2c_p4;
   w2c_j5 = w2c_p5;
-  w2c_i0 = w2c_f79(instance, w2c_i0, w2c_j1, w2c_j2, w2c_j3, w2c_j4, w2c_j5);
+  w2c_i0 = w2c_f129(instance, w2c_i0, w2c_j1, w2c_j2, w2c_j3, w2c_j4, w2c_j5);
   w2c_p0 = w2c_i0;
-  w2c_f1(instance);
+  w2c_f7(instance);
   w2c_i0 = w2c_p0;
   return w2c_i0;
 }
-static u32 w2c_f79(struct instance *instance, u32 w2c_p0, u64 w2c_p1, u64 w2c_p2, u64 w2c_p3, u64 w2c_p4, u64 w2c_p5) {
+static u32 w2c_f129(struct instance *instance, u32 w2c_p0, u64 w2c_p1, u64 w2c_p2, u64 w2c_p3, u64 w2c_p4, u64 w2c_p5) {
   u32 w2c_l12 = 0, w2c_l13 = 0, w2c_l14 = 0, w2c_l15 = 0, w2c_l16 = 0, w2c_l17 = 0, w2c_l18 = 0, w2c_l19 = 0;
   u64 w2c_l6 = 0, w2c_l7 = 0, w2c_l8 = 0, w2c_l9 = 0, w2c_l10 = 0, w2c_l11 = 0;
   const struct memory memory = instance->w2c_memory;
@@ -15576,7 +29877,7 @@ static u32 w2c_f79(struct instance *instance, u32 w2c_p0, u64 w2c_p1, u64 w2c_p2
   w2c_j2 = w2c_l8;
   w2c_j3 = w2c_p2;
   w2c_j4 = w2c_p5;
-  w2c_f8(instance, w2c_j0, w2c_j1, w2c_j2, w2c_j3, w2c_j4);
+  w2c_f24(instance, w2c_j0, w2c_j1, w2c_j2, w2c_j3, w2c_j4);
   w2c_j0 = w2c_l6;
   w2c_i0 = (u32)(w2c_j0);
   w2c_i0 = i32_load8_u(memory, (u64)(w2c_i0) + 61u);
@@ -15607,7 +29908,7 @@ static u32 w2c_f79(struct instance *instance, u32 w2c_p0, u64 w2c_p1, u64 w2c_p2
   w2c_j3 = w2c_l8;
   w2c_j4 = w2c_p2;
   w2c_j5 = w2c_p5;
-  w2c_f9(instance, w2c_j0, w2c_j1, w2c_i2, w2c_j3, w2c_j4, w2c_j5);
+  w2c_f25(instance, w2c_j0, w2c_j1, w2c_i2, w2c_j3, w2c_j4, w2c_j5);
   w2c_j0 = w2c_l6;
   w2c_i0 = (u32)(w2c_j0);
   w2c_i0 = i32_load8_u(memory, (u64)(w2c_i0) + 1u);
@@ -15637,7 +29938,7 @@ static u32 w2c_f79(struct instance *instance, u32 w2c_p0, u64 w2c_p1, u64 w2c_p2
   w2c_j1 = 2ull;
   w2c_j0 <<= (w2c_j1 & 63);
   w2c_i0 = (u32)(w2c_j0);
-  w2c_i0 = constant_i32_load((u64)(w2c_i0) + 68780u);
+  w2c_i0 = constant_i32_load((u64)(w2c_i0) + 68784u);
   w2c_l12 = w2c_i0;
   goto w2c_B1;
   w2c_B27:;
@@ -15648,7 +29949,7 @@ static u32 w2c_f79(struct instance *instance, u32 w2c_p0, u64 w2c_p1, u64 w2c_p2
   w2c_j1 = 2ull;
   w2c_j0 <<= (w2c_j1 & 63);
   w2c_i0 = (u32)(w2c_j0);
-  w2c_i0 = constant_i32_load((u64)(w2c_i0) + 68804u);
+  w2c_i0 = constant_i32_load((u64)(w2c_i0) + 68808u);
   w2c_l12 = w2c_i0;
   goto w2c_B1;
   w2c_B26:;
@@ -15688,7 +29989,7 @@ static u32 w2c_f79(struct instance *instance, u32 w2c_p0, u64 w2c_p1, u64 w2c_p2
   w2c_j1 = 2ull;
   w2c_j0 <<= (w2c_j1 & 63);
   w2c_i0 = (u32)(w2c_j0);
-  w2c_i0 = constant_i32_load((u64)(w2c_i0) + 69336u);
+  w2c_i0 = constant_i32_load((u64)(w2c_i0) + 69344u);
   w2c_l14 = w2c_i0;
   goto w2c_B0;
   w2c_B2:;
@@ -15699,7 +30000,7 @@ static u32 w2c_f79(struct instance *instance, u32 w2c_p0, u64 w2c_p1, u64 w2c_p2
   w2c_j1 = 2ull;
   w2c_j0 <<= (w2c_j1 & 63);
   w2c_i0 = (u32)(w2c_j0);
-  w2c_i0 = constant_i32_load((u64)(w2c_i0) + 68792u);
+  w2c_i0 = constant_i32_load((u64)(w2c_i0) + 68796u);
   w2c_l12 = w2c_i0;
   w2c_B1:;
   w2c_j0 = w2c_p3;
@@ -15721,10 +30022,10 @@ static u32 w2c_keywrap_next_rewrap_from(struct instance *instance, u32 w2c_p0, u
   (void)memory;
   u32 w2c_i0;
   u64 w2c_j1, w2c_j2, w2c_j3, w2c_j4, w2c_j5, w2c_j6, w2c_j7;
-  w2c_i0 = w2c_f0(instance);
+  w2c_i0 = w2c_f6(instance);
   w2c_i0 = !(w2c_i0);
   if (w2c_i0) {goto w2c_B0;}
-  w2c_f2(instance);
+  w2c_f8(instance);
   UNREACHABLE;
   w2c_B0:;
   w2c_i0 = w2c_p0;
@@ -15735,13 +30036,13 @@ static u32 w2c_keywrap_next_rewrap_from(struct instance *instance, u32 w2c_p0, u
   w2c_j5 = w2c_p5;
   w2c_j6 = w2c_p6;
   w2c_j7 = w2c_p7;
-  w2c_i0 = w2c_f81(instance, w2c_i0, w2c_j1, w2c_j2, w2c_j3, w2c_j4, w2c_j5, w2c_j6, w2c_j7);
+  w2c_i0 = w2c_f131(instance, w2c_i0, w2c_j1, w2c_j2, w2c_j3, w2c_j4, w2c_j5, w2c_j6, w2c_j7);
   w2c_p0 = w2c_i0;
-  w2c_f1(instance);
+  w2c_f7(instance);
   w2c_i0 = w2c_p0;
   return w2c_i0;
 }
-static u32 w2c_f81(struct instance *instance, u32 w2c_p0, u64 w2c_p1, u64 w2c_p2, u64 w2c_p3, u64 w2c_p4, u64 w2c_p5, u64 w2c_p6, u64 w2c_p7) {
+static u32 w2c_f131(struct instance *instance, u32 w2c_p0, u64 w2c_p1, u64 w2c_p2, u64 w2c_p3, u64 w2c_p4, u64 w2c_p5, u64 w2c_p6, u64 w2c_p7) {
   u32 w2c_l14 = 0, w2c_l15 = 0, w2c_l16 = 0, w2c_l17 = 0, w2c_l18 = 0, w2c_l19 = 0, w2c_l20 = 0, w2c_l21 = 0;
   u64 w2c_l8 = 0, w2c_l9 = 0, w2c_l10 = 0, w2c_l11 = 0, w2c_l12 = 0, w2c_l13 = 0;
   const struct memory memory = instance->w2c_memory;
@@ -16123,7 +30424,7 @@ static u32 w2c_f81(struct instance *instance, u32 w2c_p0, u64 w2c_p1, u64 w2c_p2
   w2c_j2 = w2c_l13;
   w2c_j3 = w2c_p2;
   w2c_j4 = w2c_p7;
-  w2c_f8(instance, w2c_j0, w2c_j1, w2c_j2, w2c_j3, w2c_j4);
+  w2c_f24(instance, w2c_j0, w2c_j1, w2c_j2, w2c_j3, w2c_j4);
   w2c_i0 = 1u;
   w2c_l14 = w2c_i0;
   w2c_j0 = w2c_l8;
@@ -16323,7 +30624,7 @@ static u32 w2c_f81(struct instance *instance, u32 w2c_p0, u64 w2c_p1, u64 w2c_p2
   w2c_j3 = w2c_l13;
   w2c_j4 = w2c_p2;
   w2c_j5 = w2c_p7;
-  w2c_f9(instance, w2c_j0, w2c_j1, w2c_i2, w2c_j3, w2c_j4, w2c_j5);
+  w2c_f25(instance, w2c_j0, w2c_j1, w2c_i2, w2c_j3, w2c_j4, w2c_j5);
   w2c_j0 = w2c_l8;
   w2c_i0 = (u32)(w2c_j0);
   w2c_i0 = i32_load8_u(memory, (u64)(w2c_i0) + 1u);
@@ -16661,7 +30962,7 @@ static u32 w2c_f81(struct instance *instance, u32 w2c_p0, u64 w2c_p1, u64 w2c_p2
   w2c_j1 = 2ull;
   w2c_j0 <<= (w2c_j1 & 63);
   w2c_i0 = (u32)(w2c_j0);
-  w2c_i0 = constant_i32_load((u64)(w2c_i0) + 68804u);
+  w2c_i0 = constant_i32_load((u64)(w2c_i0) + 68808u);
   w2c_l14 = w2c_i0;
   goto w2c_B1;
   w2c_B26:;
@@ -16707,7 +31008,7 @@ static u32 w2c_f81(struct instance *instance, u32 w2c_p0, u64 w2c_p1, u64 w2c_p2
   w2c_j1 = 2ull;
   w2c_j0 <<= (w2c_j1 & 63);
   w2c_i0 = (u32)(w2c_j0);
-  w2c_i0 = constant_i32_load((u64)(w2c_i0) + 69336u);
+  w2c_i0 = constant_i32_load((u64)(w2c_i0) + 69344u);
   w2c_l16 = w2c_i0;
   goto w2c_B0;
   w2c_B2:;
@@ -16718,7 +31019,7 @@ static u32 w2c_f81(struct instance *instance, u32 w2c_p0, u64 w2c_p1, u64 w2c_p2
   w2c_j1 = 2ull;
   w2c_j0 <<= (w2c_j1 & 63);
   w2c_i0 = (u32)(w2c_j0);
-  w2c_i0 = constant_i32_load((u64)(w2c_i0) + 68792u);
+  w2c_i0 = constant_i32_load((u64)(w2c_i0) + 68796u);
   w2c_l14 = w2c_i0;
   w2c_B1:;
   w2c_j0 = w2c_p5;
@@ -16741,10 +31042,10 @@ static u32 w2c_keywrap_rewrap(struct instance *instance, u64 w2c_p0, u64 w2c_p1,
   (void)memory;
   u32 w2c_i0, w2c_i6;
   u64 w2c_j0, w2c_j1, w2c_j2, w2c_j3, w2c_j4, w2c_j5, w2c_j7;
-  w2c_i0 = w2c_f0(instance);
+  w2c_i0 = w2c_f6(instance);
   w2c_i0 = !(w2c_i0);
   if (w2c_i0) {goto w2c_B0;}
-  w2c_f2(instance);
+  w2c_f8(instance);
   UNREACHABLE;
   w2c_B0:;
   w2c_j0 = w2c_p0;
@@ -16755,13 +31056,13 @@ static u32 w2c_keywrap_rewrap(struct instance *instance, u64 w2c_p0, u64 w2c_p1,
   w2c_j5 = w2c_p5;
   w2c_i6 = w2c_p6;
   w2c_j7 = w2c_p7;
-  w2c_i0 = w2c_f83(instance, w2c_j0, w2c_j1, w2c_j2, w2c_j3, w2c_j4, w2c_j5, w2c_i6, w2c_j7);
+  w2c_i0 = w2c_f133(instance, w2c_j0, w2c_j1, w2c_j2, w2c_j3, w2c_j4, w2c_j5, w2c_i6, w2c_j7);
   w2c_p6 = w2c_i0;
-  w2c_f1(instance);
+  w2c_f7(instance);
   w2c_i0 = w2c_p6;
   return w2c_i0;
 }
-static u32 w2c_f83(struct instance *instance, u64 w2c_p0, u64 w2c_p1, u64 w2c_p2, u64 w2c_p3, u64 w2c_p4, u64 w2c_p5, u32 w2c_p6, u64 w2c_p7) {
+static u32 w2c_f133(struct instance *instance, u64 w2c_p0, u64 w2c_p1, u64 w2c_p2, u64 w2c_p3, u64 w2c_p4, u64 w2c_p5, u32 w2c_p6, u64 w2c_p7) {
   u32 w2c_l9 = 0, w2c_l10 = 0;
   u64 w2c_l8 = 0;
   const struct memory memory = instance->w2c_memory;
@@ -16809,7 +31110,7 @@ static u32 w2c_f83(struct instance *instance, u64 w2c_p0, u64 w2c_p1, u64 w2c_p2
   w2c_j2 = w2c_i4 ? w2c_j2 : w2c_j3;
   w2c_j1 += w2c_j2;
   w2c_j2 = w2c_p1;
-  w2c_f4(instance, w2c_j0, w2c_j1, w2c_j2);
+  w2c_f37(instance, w2c_j0, w2c_j1, w2c_j2);
   w2c_i0 = 3u;
   w2c_l9 = w2c_i0;
   w2c_j0 = w2c_l8;
@@ -16842,7 +31143,7 @@ static u32 w2c_f83(struct instance *instance, u64 w2c_p0, u64 w2c_p1, u64 w2c_p2
   w2c_j2 = w2c_i4 ? w2c_j2 : w2c_j3;
   w2c_j1 += w2c_j2;
   w2c_j2 = w2c_p3;
-  w2c_f4(instance, w2c_j0, w2c_j1, w2c_j2);
+  w2c_f37(instance, w2c_j0, w2c_j1, w2c_j2);
   w2c_j0 = w2c_l8;
   w2c_i0 = (u32)(w2c_j0);
   w2c_i0 = i32_load8_u(memory, (u64)(w2c_i0) + 40u);
@@ -16909,31 +31210,31 @@ static u32 w2c_f83(struct instance *instance, u64 w2c_p0, u64 w2c_p1, u64 w2c_p2
   w2c_j1 <<= (w2c_j2 & 63);
   w2c_p0 = w2c_j1;
   w2c_i1 = (u32)(w2c_j1);
-  w2c_j1 = constant_i64_load((u64)(w2c_i1) + 69232u);
+  w2c_j1 = constant_i64_load((u64)(w2c_i1) + 69240u);
   i64_store(memory, (u64)(w2c_i0) + 568, w2c_j1);
   w2c_j0 = w2c_l8;
   w2c_i0 = (u32)(w2c_j0);
   w2c_j1 = w2c_p0;
   w2c_i1 = (u32)(w2c_j1);
-  w2c_j1 = constant_i64_load((u64)(w2c_i1) + 69128u);
+  w2c_j1 = constant_i64_load((u64)(w2c_i1) + 69136u);
   i64_store(memory, (u64)(w2c_i0) + 560, w2c_j1);
   w2c_j0 = w2c_l8;
   w2c_i0 = (u32)(w2c_j0);
   w2c_j1 = w2c_p0;
   w2c_i1 = (u32)(w2c_j1);
-  w2c_j1 = constant_i64_load((u64)(w2c_i1) + 69024u);
+  w2c_j1 = constant_i64_load((u64)(w2c_i1) + 69032u);
   i64_store(memory, (u64)(w2c_i0) + 552, w2c_j1);
   w2c_j0 = w2c_l8;
   w2c_i0 = (u32)(w2c_j0);
   w2c_j1 = w2c_p0;
   w2c_i1 = (u32)(w2c_j1);
-  w2c_j1 = constant_i64_load((u64)(w2c_i1) + 68920u);
+  w2c_j1 = constant_i64_load((u64)(w2c_i1) + 68928u);
   i64_store(memory, (u64)(w2c_i0) + 544, w2c_j1);
   w2c_j0 = w2c_l8;
   w2c_i0 = (u32)(w2c_j0);
   w2c_j1 = w2c_p0;
   w2c_i1 = (u32)(w2c_j1);
-  w2c_j1 = constant_i64_load((u64)(w2c_i1) + 68816u);
+  w2c_j1 = constant_i64_load((u64)(w2c_i1) + 68824u);
   i64_store(memory, (u64)(w2c_i0) + 536, w2c_j1);
   w2c_j0 = w2c_l8;
   w2c_i0 = (u32)(w2c_j0);
@@ -16965,7 +31266,7 @@ static u32 w2c_f83(struct instance *instance, u64 w2c_p0, u64 w2c_p1, u64 w2c_p2
   w2c_j5 = w2c_i7 ? w2c_j5 : w2c_j6;
   w2c_j4 += w2c_j5;
   w2c_j5 = w2c_p5;
-  w2c_f10(instance, w2c_j0, w2c_j1, w2c_j2, w2c_j3, w2c_j4, w2c_j5);
+  w2c_f41(instance, w2c_j0, w2c_j1, w2c_j2, w2c_j3, w2c_j4, w2c_j5);
   w2c_j0 = w2c_p7;
   w2c_i0 = (u32)(w2c_j0);
   w2c_j1 = w2c_l8;
@@ -16993,7 +31294,7 @@ static u32 w2c_f83(struct instance *instance, u64 w2c_p0, u64 w2c_p1, u64 w2c_p2
   w2c_j1 = 2ull;
   w2c_j0 <<= (w2c_j1 & 63);
   w2c_i0 = (u32)(w2c_j0);
-  w2c_i0 = constant_i32_load((u64)(w2c_i0) + 69336u);
+  w2c_i0 = constant_i32_load((u64)(w2c_i0) + 69344u);
   w2c_l9 = w2c_i0;
   w2c_B1:;
   w2c_j0 = w2c_l8;
@@ -17012,10 +31313,10 @@ static u32 w2c_keywrap_rewrap_in_place(struct instance *instance, u64 w2c_p0, u6
   (void)memory;
   u32 w2c_i0, w2c_i6;
   u64 w2c_j0, w2c_j1, w2c_j2, w2c_j3, w2c_j4, w2c_j5;
-  w2c_i0 = w2c_f0(instance);
+  w2c_i0 = w2c_f6(instance);
   w2c_i0 = !(w2c_i0);
   if (w2c_i0) {goto w2c_B0;}
-  w2c_f2(instance);
+  w2c_f8(instance);
   UNREACHABLE;
   w2c_B0:;
   w2c_j0 = w2c_p0;
@@ -17025,13 +31326,13 @@ static u32 w2c_keywrap_rewrap_in_place(struct instance *instance, u64 w2c_p0, u6
   w2c_j4 = w2c_p4;
   w2c_j5 = w2c_p5;
   w2c_i6 = w2c_p6;
-  w2c_i0 = w2c_f85(instance, w2c_j0, w2c_j1, w2c_j2, w2c_j3, w2c_j4, w2c_j5, w2c_i6);
+  w2c_i0 = w2c_f135(instance, w2c_j0, w2c_j1, w2c_j2, w2c_j3, w2c_j4, w2c_j5, w2c_i6);
   w2c_p6 = w2c_i0;
-  w2c_f1(instance);
+  w2c_f7(instance);
   w2c_i0 = w2c_p6;
   return w2c_i0;
 }
-static u32 w2c_f85(struct instance *instance, u64 w2c_p0, u64 w2c_p1, u64 w2c_p2, u64 w2c_p3, u64 w2c_p4, u64 w2c_p5, u32 w2c_p6) {
+static u32 w2c_f135(struct instance *instance, u64 w2c_p0, u64 w2c_p1, u64 w2c_p2, u64 w2c_p3, u64 w2c_p4, u64 w2c_p5, u32 w2c_p6) {
   u32 w2c_l8 = 0;
   u64 w2c_l7 = 0;
   const struct memory memory = instance->w2c_memory;
@@ -17075,7 +31376,7 @@ static u32 w2c_f85(struct instance *instance, u64 w2c_p0, u64 w2c_p1, u64 w2c_p2
   w2c_j2 = w2c_i4 ? w2c_j2 : w2c_j3;
   w2c_j1 += w2c_j2;
   w2c_j2 = w2c_p1;
-  w2c_f4(instance, w2c_j0, w2c_j1, w2c_j2);
+  w2c_f37(instance, w2c_j0, w2c_j1, w2c_j2);
   w2c_i0 = 3u;
   w2c_l8 = w2c_i0;
   w2c_j0 = w2c_l7;
@@ -17108,7 +31409,7 @@ static u32 w2c_f85(struct instance *instance, u64 w2c_p0, u64 w2c_p1, u64 w2c_p2
   w2c_j2 = w2c_i4 ? w2c_j2 : w2c_j3;
   w2c_j1 += w2c_j2;
   w2c_j2 = w2c_p3;
-  w2c_f4(instance, w2c_j0, w2c_j1, w2c_j2);
+  w2c_f37(instance, w2c_j0, w2c_j1, w2c_j2);
   w2c_j0 = w2c_l7;
   w2c_i0 = (u32)(w2c_j0);
   w2c_i0 = i32_load8_u(memory, (u64)(w2c_i0) + 40u);
@@ -17128,12 +31429,10 @@ static u32 w2c_f85(struct instance *instance, u64 w2c_p0, u64 w2c_p1, u64 w2c_p2
   w2c_j2 = 244ull;
   w2c_i2 = (u32)(w2c_j2);
   memory_copy(memory, memory, w2c_i0, w2c_i1, w2c_i2);
-  w2c_i0 = 4u;
-  w2c_l8 = w2c_i0;
   w2c_i0 = w2c_p6;
   w2c_i1 = 3u;
   w2c_i0 = w2c_i0 > w2c_i1;
-  if (w2c_i0) {goto w2c_B1;}
+  if (w2c_i0) {goto w2c_B2;}
   w2c_j0 = w2c_l7;
   w2c_i0 = (u32)(w2c_j0);
   w2c_j1 = 0ull;
@@ -17158,25 +31457,25 @@ static u32 w2c_f85(struct instance *instance, u64 w2c_p0, u64 w2c_p1, u64 w2c_p2
   w2c_j1 <<= (w2c_j2 & 63);
   w2c_p0 = w2c_j1;
   w2c_i1 = (u32)(w2c_j1);
-  w2c_j1 = constant_i64_load((u64)(w2c_i1) + 69448u);
+  w2c_j1 = constant_i64_load((u64)(w2c_i1) + 69456u);
   i64_store(memory, (u64)(w2c_i0) + 568, w2c_j1);
   w2c_j0 = w2c_l7;
   w2c_i0 = (u32)(w2c_j0);
   w2c_j1 = w2c_p0;
   w2c_i1 = (u32)(w2c_j1);
-  w2c_j1 = constant_i64_load((u64)(w2c_i1) + 69416u);
+  w2c_j1 = constant_i64_load((u64)(w2c_i1) + 69424u);
   i64_store(memory, (u64)(w2c_i0) + 560, w2c_j1);
   w2c_j0 = w2c_l7;
   w2c_i0 = (u32)(w2c_j0);
   w2c_j1 = w2c_p0;
   w2c_i1 = (u32)(w2c_j1);
-  w2c_j1 = constant_i64_load((u64)(w2c_i1) + 69384u);
+  w2c_j1 = constant_i64_load((u64)(w2c_i1) + 69392u);
   i64_store(memory, (u64)(w2c_i0) + 552, w2c_j1);
   w2c_j0 = w2c_l7;
   w2c_i0 = (u32)(w2c_j0);
   w2c_j1 = w2c_p0;
   w2c_i1 = (u32)(w2c_j1);
-  w2c_j1 = constant_i64_load((u64)(w2c_i1) + 69352u);
+  w2c_j1 = constant_i64_load((u64)(w2c_i1) + 69360u);
   i64_store(memory, (u64)(w2c_i0) + 544, w2c_j1);
   w2c_j0 = w2c_l7;
   w2c_i0 = (u32)(w2c_j0);
@@ -17209,15 +31508,18 @@ static u32 w2c_f85(struct instance *instance, u64 w2c_p0, u64 w2c_p1, u64 w2c_p2
   w2c_j4 += w2c_j5;
   w2c_p0 = w2c_j4;
   w2c_j5 = w2c_p5;
-  w2c_f10(instance, w2c_j0, w2c_j1, w2c_j2, w2c_j3, w2c_j4, w2c_j5);
+  w2c_f41(instance, w2c_j0, w2c_j1, w2c_j2, w2c_j3, w2c_j4, w2c_j5);
+  w2c_i0 = 0u;
+  w2c_l8 = w2c_i0;
   w2c_j0 = w2c_l7;
   w2c_i0 = (u32)(w2c_j0);
   w2c_i0 = i32_load8_u(memory, (u64)(w2c_i0));
-  if (w2c_i0) {goto w2c_B2;}
-  w2c_i0 = 0u;
+  w2c_i1 = 1u;
+  w2c_i0 &= w2c_i1;
+  w2c_i0 = !(w2c_i0);
+  if (w2c_i0) {goto w2c_B1;}
+  w2c_i0 = 4u;
   w2c_l8 = w2c_i0;
-  goto w2c_B1;
-  w2c_B2:;
   w2c_j0 = w2c_l7;
   w2c_i0 = (u32)(w2c_j0);
   w2c_i0 = i32_load8_u(memory, (u64)(w2c_i0) + 1u);
@@ -17263,15 +31565,15 @@ static u32 w2c_f85(struct instance *instance, u64 w2c_p0, u64 w2c_p1, u64 w2c_p2
   w2c_B3:;
   w2c_j0 = w2c_p5;
   w2c_i0 = !(w2c_j0);
-  if (w2c_i0) {goto w2c_B1;}
+  if (w2c_i0) {goto w2c_B2;}
   w2c_j0 = w2c_p5;
   w2c_j1 = 18446744073709551615ull;
   w2c_j0 += w2c_j1;
   w2c_p2 = w2c_j0;
   w2c_i0 = !(w2c_j0);
-  w2c_p6 = w2c_i0;
+  w2c_l8 = w2c_i0;
   if (w2c_i0) {goto w2c_B6;}
-  w2c_i0 = w2c_p6;
+  w2c_i0 = w2c_l8;
   if (w2c_i0) {goto w2c_B6;}
   w2c_j0 = w2c_p0;
   w2c_i0 = (u32)(w2c_j0);
@@ -17286,6 +31588,9 @@ static u32 w2c_f85(struct instance *instance, u64 w2c_p0, u64 w2c_p1, u64 w2c_p2
   w2c_i0 = (u32)(w2c_j0);
   w2c_i1 = 0u;
   i32_store8(memory, (u64)(w2c_i0), w2c_i1);
+  w2c_B2:;
+  w2c_i0 = 4u;
+  w2c_l8 = w2c_i0;
   w2c_B1:;
   w2c_j0 = w2c_l7;
   w2c_j1 = 1072ull;
@@ -17304,10 +31609,10 @@ static u32 w2c_keywrap_rewrap_many(struct instance *instance, u64 w2c_p0, u64 w2
   (void)memory;
   u32 w2c_i0, w2c_i6;
   u64 w2c_j0, w2c_j1, w2c_j2, w2c_j3, w2c_j4, w2c_j5, w2c_j7, w2c_j8;
-  w2c_i0 = w2c_f0(instance);
+  w2c_i0 = w2c_f6(instance);
   w2c_i0 = !(w2c_i0);
   if (w2c_i0) {goto w2c_B0;}
-  w2c_f2(instance);
+  w2c_f8(instance);
   UNREACHABLE;
   w2c_B0:;
   w2c_j0 = w2c_p0;
@@ -17319,13 +31624,13 @@ static u32 w2c_keywrap_rewrap_many(struct instance *instance, u64 w2c_p0, u64 w2
   w2c_i6 = w2c_p6;
   w2c_j7 = w2c_p7;
   w2c_j8 = w2c_p8;
-  w2c_i0 = w2c_f87(instance, w2c_j0, w2c_j1, w2c_j2, w2c_j3, w2c_j4, w2c_j5, w2c_i6, w2c_j7, w2c_j8);
+  w2c_i0 = w2c_f137(instance, w2c_j0, w2c_j1, w2c_j2, w2c_j3, w2c_j4, w2c_j5, w2c_i6, w2c_j7, w2c_j8);
   w2c_p6 = w2c_i0;
-  w2c_f1(instance);
+  w2c_f7(instance);
   w2c_i0 = w2c_p6;
   return w2c_i0;
 }
-static u32 w2c_f87(struct instance *instance, u64 w2c_p0, u64 w2c_p1, u64 w2c_p2, u64 w2c_p3, u64 w2c_p4, u64 w2c_p5, u32 w2c_p6, u64 w2c_p7, 
+static u32 w2c_f137(struct instance *instance, u64 w2c_p0, u64 w2c_p1, u64 w2c_p2, u64 w2c_p3, u64 w2c_p4, u64 w2c_p5, u32 w2c_p6, u64 w2c_p7, 
     u64 w2c_p8) {
   u32 w2c_l10 = 0, w2c_l11 = 0, w2c_l12 = 0;
   u64 w2c_l9 = 0;
@@ -17371,7 +31676,7 @@ static u32 w2c_f87(struct instance *instance, u64 w2c_p0, u64 w2c_p1, u64 w2c_p2
   w2c_j2 = w2c_i4 ? w2c_j2 : w2c_j3;
   w2c_j1 += w2c_j2;
   w2c_j2 = w2c_p1;
-  w2c_f4(instance, w2c_j0, w2c_j1, w2c_j2);
+  w2c_f37(instance, w2c_j0, w2c_j1, w2c_j2);
   w2c_i0 = 3u;
   w2c_l10 = w2c_i0;
   w2c_j0 = w2c_l9;
@@ -17404,7 +31709,7 @@ static u32 w2c_f87(struct instance *instance, u64 w2c_p0, u64 w2c_p1, u64 w2c_p2
   w2c_j2 = w2c_i4 ? w2c_j2 : w2c_j3;
   w2c_j1 += w2c_j2;
   w2c_j2 = w2c_p3;
-  w2c_f4(instance, w2c_j0, w2c_j1, w2c_j2);
+  w2c_f37(instance, w2c_j0, w2c_j1, w2c_j2);
   w2c_j0 = w2c_l9;
   w2c_i0 = (u32)(w2c_j0);
   w2c_i0 = i32_load8_u(memory, (u64)(w2c_i0) + 8u);
@@ -17624,7 +31929,7 @@ static u32 w2c_f87(struct instance *instance, u64 w2c_p0, u64 w2c_p1, u64 w2c_p2
   w2c_j6 = w2c_i8 ? w2c_j6 : w2c_j7;
   w2c_j5 += w2c_j6;
   w2c_j6 = w2c_p8;
-  w2c_f15(instance, w2c_j0, w2c_j1, w2c_j2, w2c_j3, w2c_j4, w2c_j5, w2c_j6);
+  w2c_f46(instance, w2c_j0, w2c_j1, w2c_j2, w2c_j3, w2c_j4, w2c_j5, w2c_j6);
   w2c_B1:;
   w2c_j0 = w2c_l9;
   w2c_j1 = 1040ull;
@@ -17642,19 +31947,19 @@ static u32 w2c_keywrap_self_test(struct instance *instance) {
   const struct memory memory = instance->w2c_memory;
   (void)memory;
   u32 w2c_i0;
-  w2c_i0 = w2c_f0(instance);
+  w2c_i0 = w2c_f6(instance);
   w2c_i0 = !(w2c_i0);
   if (w2c_i0) {goto w2c_B0;}
-  w2c_f2(instance);
+  w2c_f8(instance);
   UNREACHABLE;
   w2c_B0:;
-  w2c_i0 = w2c_f89(instance);
+  w2c_i0 = w2c_f139(instance);
   w2c_l0 = w2c_i0;
-  w2c_f1(instance);
+  w2c_f7(instance);
   w2c_i0 = w2c_l0;
   return w2c_i0;
 }
-static u32 w2c_f89(struct instance *instance) {
+static u32 w2c_f139(struct instance *instance) {
   u32 w2c_l1 = 0, w2c_l2 = 0, w2c_l3 = 0, w2c_l4 = 0, w2c_l5 = 0, w2c_l6 = 0, w2c_l7 = 0, w2c_l8 = 0, 
       w2c_l9 = 0;
   u64 w2c_l0 = 0;
@@ -17672,65 +31977,65 @@ static u32 w2c_f89(struct instance *instance) {
   w2c_j1 = 16ull;
   w2c_i0 = (u64)((s64)w2c_j0 < (s64)w2c_j1);
   if (w2c_i0) {goto w2c_B0;}
-  w2c_j0 = 68136ull;
+  w2c_j0 = 65576ull;
   w2c_j1 = 16ull;
-  w2c_j2 = 68152ull;
+  w2c_j2 = 65592ull;
   w2c_j3 = 16ull;
-  w2c_j4 = 68168ull;
+  w2c_j4 = 65608ull;
   w2c_j5 = 24ull;
-  w2c_i0 = w2c_f16(instance, w2c_j0, w2c_j1, w2c_j2, w2c_j3, w2c_j4, w2c_j5);
+  w2c_i0 = w2c_f47(instance, w2c_j0, w2c_j1, w2c_j2, w2c_j3, w2c_j4, w2c_j5);
   w2c_l1 = w2c_i0;
-  w2c_j0 = 68192ull;
+  w2c_j0 = 65632ull;
   w2c_j1 = 24ull;
-  w2c_j2 = 68152ull;
+  w2c_j2 = 65592ull;
   w2c_j3 = 16ull;
-  w2c_j4 = 68216ull;
+  w2c_j4 = 65656ull;
   w2c_j5 = 24ull;
-  w2c_i0 = w2c_f16(instance, w2c_j0, w2c_j1, w2c_j2, w2c_j3, w2c_j4, w2c_j5);
+  w2c_i0 = w2c_f47(instance, w2c_j0, w2c_j1, w2c_j2, w2c_j3, w2c_j4, w2c_j5);
   w2c_l2 = w2c_i0;
-  w2c_j0 = 68240ull;
+  w2c_j0 = 65680ull;
   w2c_j1 = 32ull;
-  w2c_j2 = 68152ull;
+  w2c_j2 = 65592ull;
   w2c_j3 = 16ull;
-  w2c_j4 = 68272ull;
+  w2c_j4 = 65712ull;
   w2c_j5 = 24ull;
-  w2c_i0 = w2c_f16(instance, w2c_j0, w2c_j1, w2c_j2, w2c_j3, w2c_j4, w2c_j5);
+  w2c_i0 = w2c_f47(instance, w2c_j0, w2c_j1, w2c_j2, w2c_j3, w2c_j4, w2c_j5);
   w2c_l3 = w2c_i0;
-  w2c_j0 = 68192ull;
+  w2c_j0 = 65632ull;
   w2c_j1 = 24ull;
-  w2c_j2 = 68296ull;
+  w2c_j2 = 65736ull;
   w2c_j3 = 24ull;
-  w2c_j4 = 68320ull;
+  w2c_j4 = 65760ull;
   w2c_j5 = 32ull;
-  w2c_i0 = w2c_f16(instance, w2c_j0, w2c_j1, w2c_j2, w2c_j3, w2c_j4, w2c_j5);
+  w2c_i0 = w2c_f47(instance, w2c_j0, w2c_j1, w2c_j2, w2c_j3, w2c_j4, w2c_j5);
   w2c_l4 = w2c_i0;
-  w2c_j0 = 68240ull;
+  w2c_j0 = 65680ull;
   w2c_j1 = 32ull;
-  w2c_j2 = 68296ull;
+  w2c_j2 = 65736ull;
   w2c_j3 = 24ull;
-  w2c_j4 = 68352ull;
+  w2c_j4 = 65792ull;
   w2c_j5 = 32ull;
-  w2c_i0 = w2c_f16(instance, w2c_j0, w2c_j1, w2c_j2, w2c_j3, w2c_j4, w2c_j5);
+  w2c_i0 = w2c_f47(instance, w2c_j0, w2c_j1, w2c_j2, w2c_j3, w2c_j4, w2c_j5);
   w2c_l5 = w2c_i0;
-  w2c_j0 = 68240ull;
+  w2c_j0 = 65680ull;
   w2c_j1 = 32ull;
-  w2c_j2 = 68384ull;
+  w2c_j2 = 65824ull;
   w2c_j3 = 32ull;
-  w2c_j4 = 68416ull;
+  w2c_j4 = 65856ull;
   w2c_j5 = 40ull;
-  w2c_i0 = w2c_f16(instance, w2c_j0, w2c_j1, w2c_j2, w2c_j3, w2c_j4, w2c_j5);
+  w2c_i0 = w2c_f47(instance, w2c_j0, w2c_j1, w2c_j2, w2c_j3, w2c_j4, w2c_j5);
   w2c_l6 = w2c_i0;
-  w2c_j0 = 68480ull;
+  w2c_j0 = 65920ull;
   w2c_j1 = 20ull;
-  w2c_j2 = 68500ull;
+  w2c_j2 = 65940ull;
   w2c_j3 = 32ull;
-  w2c_i0 = w2c_f19(instance, w2c_j0, w2c_j1, w2c_j2, w2c_j3);
+  w2c_i0 = w2c_f49(instance, w2c_j0, w2c_j1, w2c_j2, w2c_j3);
   w2c_l7 = w2c_i0;
-  w2c_j0 = 68532ull;
+  w2c_j0 = 65972ull;
   w2c_j1 = 7ull;
-  w2c_j2 = 68539ull;
+  w2c_j2 = 65979ull;
   w2c_j3 = 16ull;
-  w2c_i0 = w2c_f19(instance, w2c_j0, w2c_j1, w2c_j2, w2c_j3);
+  w2c_i0 = w2c_f49(instance, w2c_j0, w2c_j1, w2c_j2, w2c_j3);
   w2c_l8 = w2c_i0;
   w2c_j0 = w2c_l0;
   w2c_j1 = 52ull;
@@ -17743,9 +32048,9 @@ static u32 w2c_f89(struct instance *instance) {
   w2c_j0 = w2c_l0;
   w2c_j1 = 52ull;
   w2c_j0 += w2c_j1;
-  w2c_j1 = 68136ull;
+  w2c_j1 = 65576ull;
   w2c_j2 = 16ull;
-  w2c_f4(instance, w2c_j0, w2c_j1, w2c_j2);
+  w2c_f37(instance, w2c_j0, w2c_j1, w2c_j2);
   w2c_i0 = 0u;
   w2c_l9 = w2c_i0;
   w2c_j0 = w2c_l0;
@@ -17773,13 +32078,13 @@ static u32 w2c_f89(struct instance *instance) {
   w2c_i0 = (u32)(w2c_j0);
   w2c_j1 = 0ull;
   w2c_i1 = (u32)(w2c_j1);
-  w2c_j1 = constant_i64_load((u64)(w2c_i1) + 68563u);
+  w2c_j1 = constant_i64_load((u64)(w2c_i1) + 66003u);
   i64_store(memory, (u64)(w2c_i0) + 16, w2c_j1);
   w2c_j0 = w2c_l0;
   w2c_i0 = (u32)(w2c_j0);
   w2c_j1 = 0ull;
   w2c_i1 = (u32)(w2c_j1);
-  w2c_j1 = constant_i64_load((u64)(w2c_i1) + 68571u);
+  w2c_j1 = constant_i64_load((u64)(w2c_i1) + 66011u);
   i64_store(memory, (u64)(w2c_i0) + 24, w2c_j1);
   w2c_j0 = w2c_l0;
   w2c_i0 = (u32)(w2c_j0);
@@ -17798,14 +32103,14 @@ static u32 w2c_f89(struct instance *instance) {
   w2c_j4 = 16ull;
   w2c_j3 += w2c_j4;
   w2c_j4 = 16ull;
-  w2c_j1 = w2c_f6(instance, w2c_j1, w2c_j2, w2c_j3, w2c_j4);
+  w2c_j1 = w2c_f39(instance, w2c_j1, w2c_j2, w2c_j3, w2c_j4);
   w2c_j2 = 12008468691120727718ull;
   w2c_j1 ^= w2c_j2;
   w2c_j2 = w2c_l0;
   w2c_j3 = 16ull;
   w2c_j2 += w2c_j3;
   w2c_j3 = 16ull;
-  w2c_f3(instance, w2c_j0, w2c_j1, w2c_j2, w2c_j3);
+  w2c_f13(instance, w2c_j0, w2c_j1, w2c_j2, w2c_j3);
   w2c_j0 = w2c_l0;
   w2c_i0 = (u32)(w2c_j0);
   w2c_i0 = i32_load8_u(memory, (u64)(w2c_i0) + 9u);
@@ -17862,22 +32167,22 @@ static u64 w2c_keywrap_status_text(struct instance *instance, u32 w2c_p0, u64 w2
   (void)memory;
   u32 w2c_i0;
   u64 w2c_j0, w2c_j1, w2c_j2;
-  w2c_i0 = w2c_f0(instance);
+  w2c_i0 = w2c_f6(instance);
   w2c_i0 = !(w2c_i0);
   if (w2c_i0) {goto w2c_B0;}
-  w2c_f2(instance);
+  w2c_f8(instance);
   UNREACHABLE;
   w2c_B0:;
   w2c_i0 = w2c_p0;
   w2c_j1 = w2c_p1;
   w2c_j2 = w2c_p2;
-  w2c_j0 = w2c_f91(instance, w2c_i0, w2c_j1, w2c_j2);
+  w2c_j0 = w2c_f141(instance, w2c_i0, w2c_j1, w2c_j2);
   w2c_p2 = w2c_j0;
-  w2c_f1(instance);
+  w2c_f7(instance);
   w2c_j0 = w2c_p2;
   return w2c_j0;
 }
-static u64 w2c_f91(struct instance *instance, u32 w2c_p0, u64 w2c_p1, u64 w2c_p2) {
+static u64 w2c_f141(struct instance *instance, u32 w2c_p0, u64 w2c_p1, u64 w2c_p2) {
   u64 w2c_l3 = 0, w2c_l4 = 0, w2c_l5 = 0, w2c_l6 = 0, w2c_l7 = 0, w2c_l8 = 0, w2c_l9 = 0, w2c_l10 = 0, 
       w2c_l11 = 0;
   const struct memory memory = instance->w2c_memory;
@@ -17892,7 +32197,7 @@ static u64 w2c_f91(struct instance *instance, u32 w2c_p0, u64 w2c_p1, u64 w2c_p2
   w2c_i1 = 8u;
   w2c_i0 = w2c_i0 <= w2c_i1;
   if (w2c_i0) {goto w2c_B2;}
-  w2c_j0 = 68766ull;
+  w2c_j0 = 68767ull;
   w2c_l3 = w2c_j0;
   w2c_j0 = 14ull;
   w2c_l4 = w2c_j0;
@@ -17904,11 +32209,11 @@ static u64 w2c_f91(struct instance *instance, u32 w2c_p0, u64 w2c_p1, u64 w2c_p2
   w2c_j0 <<= (w2c_j1 & 63);
   w2c_l5 = w2c_j0;
   w2c_i0 = (u32)(w2c_j0);
-  w2c_j0 = constant_i64_load((u64)(w2c_i0) + 69552u);
+  w2c_j0 = constant_i64_load((u64)(w2c_i0) + 69560u);
   w2c_l3 = w2c_j0;
   w2c_j0 = w2c_l5;
   w2c_i0 = (u32)(w2c_j0);
-  w2c_j0 = constant_i64_load((u64)(w2c_i0) + 69480u);
+  w2c_j0 = constant_i64_load((u64)(w2c_i0) + 69488u);
   w2c_l4 = w2c_j0;
   w2c_B1:;
   w2c_j0 = w2c_p2;
@@ -18073,20 +32378,20 @@ static u64 w2c_keywrap_step_count(struct instance *instance, u64 w2c_p0) {
   (void)memory;
   u32 w2c_i0;
   u64 w2c_j0;
-  w2c_i0 = w2c_f0(instance);
+  w2c_i0 = w2c_f6(instance);
   w2c_i0 = !(w2c_i0);
   if (w2c_i0) {goto w2c_B0;}
-  w2c_f2(instance);
+  w2c_f8(instance);
   UNREACHABLE;
   w2c_B0:;
   w2c_j0 = w2c_p0;
-  w2c_j0 = w2c_f93(instance, w2c_j0);
+  w2c_j0 = w2c_f143(instance, w2c_j0);
   w2c_p0 = w2c_j0;
-  w2c_f1(instance);
+  w2c_f7(instance);
   w2c_j0 = w2c_p0;
   return w2c_j0;
 }
-static u64 w2c_f93(struct instance *instance, u64 w2c_p0) {
+static u64 w2c_f143(struct instance *instance, u64 w2c_p0) {
   const struct memory memory = instance->w2c_memory;
   (void)memory;
   u32 w2c_i0, w2c_i2;
@@ -18115,23 +32420,23 @@ static u32 w2c_keywrap_step_unwrap(struct instance *instance, u64 w2c_p0, u64 w2
   (void)memory;
   u32 w2c_i0;
   u64 w2c_j0, w2c_j1, w2c_j2, w2c_j3;
-  w2c_i0 = w2c_f0(instance);
+  w2c_i0 = w2c_f6(instance);
   w2c_i0 = !(w2c_i0);
   if (w2c_i0) {goto w2c_B0;}
-  w2c_f2(instance);
+  w2c_f8(instance);
   UNREACHABLE;
   w2c_B0:;
   w2c_j0 = w2c_p0;
   w2c_j1 = w2c_p1;
   w2c_j2 = w2c_p2;
   w2c_j3 = w2c_p3;
-  w2c_i0 = w2c_f95(instance, w2c_j0, w2c_j1, w2c_j2, w2c_j3);
+  w2c_i0 = w2c_f145(instance, w2c_j0, w2c_j1, w2c_j2, w2c_j3);
   w2c_l4 = w2c_i0;
-  w2c_f1(instance);
+  w2c_f7(instance);
   w2c_i0 = w2c_l4;
   return w2c_i0;
 }
-static u32 w2c_f95(struct instance *instance, u64 w2c_p0, u64 w2c_p1, u64 w2c_p2, u64 w2c_p3) {
+static u32 w2c_f145(struct instance *instance, u64 w2c_p0, u64 w2c_p1, u64 w2c_p2, u64 w2c_p3) {
   u32 w2c_l4 = 0;
   u64 w2c_l5 = 0, w2c_l6 = 0, w2c_l7 = 0;
   const struct memory memory = instance->w2c_memory;
@@ -18300,29 +32605,401 @@ static u32 w2c_f95(struct instance *instance, u64 w2c_p0, u64 w2c_p1, u64 w2c_p2
   w2c_Bfunc:;
   return w2c_i0;
 }
-static u32 w2c_keywrap_step_wrap(struct instance *instance, u64 w2c_p0, u64 w2c_p1, u64 w2c_p2, u64 w2c_p3) {
-  u32 w2c_l4 = 0;
+static u32 w2c_keywrap_step_unwrap_many(struct instance *instance, u64 w2c_p0, u64 w2c_p1, u64 w2c_p2, u64 w2c_p3, u64 w2c_p4, u64 w2c_p5) {
+  u32 w2c_l6 = 0;
   const struct memory memory = instance->w2c_memory;
   (void)memory;
   u32 w2c_i0;
-  u64 w2c_j0, w2c_j1, w2c_j2, w2c_j3;
-  w2c_i0 = w2c_f0(instance);
+  u64 w2c_j0, w2c_j1, w2c_j2, w2c_j3, w2c_j4, w2c_j5;
+  w2c_i0 = w2c_f6(instance);
   w2c_i0 = !(w2c_i0);
   if (w2c_i0) {goto w2c_B0;}
-  w2c_f2(instance);
+  w2c_f8(instance);
   UNREACHABLE;
   w2c_B0:;
   w2c_j0 = w2c_p0;
   w2c_j1 = w2c_p1;
   w2c_j2 = w2c_p2;
   w2c_j3 = w2c_p3;
-  w2c_i0 = w2c_f97(instance, w2c_j0, w2c_j1, w2c_j2, w2c_j3);
+  w2c_j4 = w2c_p4;
+  w2c_j5 = w2c_p5;
+  w2c_i0 = w2c_f147(instance, w2c_j0, w2c_j1, w2c_j2, w2c_j3, w2c_j4, w2c_j5);
+  w2c_l6 = w2c_i0;
+  w2c_f7(instance);
+  w2c_i0 = w2c_l6;
+  return w2c_i0;
+}
+static u32 w2c_f147(struct instance *instance, u64 w2c_p0, u64 w2c_p1, u64 w2c_p2, u64 w2c_p3, u64 w2c_p4, u64 w2c_p5) {
+  u32 w2c_l16 = 0, w2c_l17 = 0, w2c_l18 = 0;
+  u64 w2c_l6 = 0, w2c_l7 = 0, w2c_l8 = 0, w2c_l9 = 0, w2c_l10 = 0, w2c_l11 = 0, w2c_l12 = 0, w2c_l13 = 0, 
+      w2c_l14 = 0, w2c_l15 = 0;
+  const struct memory memory = instance->w2c_memory;
+  (void)memory;
+  u32 w2c_i0, w2c_i1, w2c_i2, w2c_i3;
+  u64 w2c_j0, w2c_j1, w2c_j2, w2c_j3, w2c_j4;
+  w2c_j0 = instance->w2c_g0;
+  w2c_j1 = 16ull;
+  w2c_j0 -= w2c_j1;
+  w2c_l6 = w2c_j0;
+  instance->w2c_g0 = w2c_j0;
+  w2c_j0 = w2c_l6;
+  w2c_l7 = w2c_j0;
+  w2c_j1 = 16ull;
+  w2c_i0 = (u64)((s64)w2c_j0 < (s64)w2c_j1);
+  if (w2c_i0) {goto w2c_B0;}
+  w2c_i0 = 4u;
+  w2c_l16 = w2c_i0;
+  w2c_j0 = w2c_p2;
+  w2c_j1 = 18446744073709551592ull;
+  w2c_j0 += w2c_j1;
+  w2c_j1 = 1048560ull;
+  w2c_i0 = w2c_j0 > w2c_j1;
+  if (w2c_i0) {goto w2c_B1;}
+  w2c_j0 = w2c_p5;
+  w2c_j1 = 15ull;
+  w2c_j0 &= w2c_j1;
+  w2c_j1 = w2c_p2;
+  w2c_j2 = 7ull;
+  w2c_j1 &= w2c_j2;
+  w2c_j0 |= w2c_j1;
+  w2c_j1 = 0ull;
+  w2c_i0 = w2c_j0 != w2c_j1;
+  if (w2c_i0) {goto w2c_B1;}
+  w2c_j0 = w2c_l7;
+  w2c_j1 = w2c_p5;
+  w2c_j2 = 4ull;
+  w2c_j1 >>= (w2c_j2 & 63);
+  w2c_p5 = w2c_j1;
+  w2c_j2 = 0ull;
+  w2c_j3 = w2c_p2;
+  w2c_j4 = 0ull;
+  w2c_f9(instance, w2c_j0, w2c_j1, w2c_j2, w2c_j3, w2c_j4);
+  w2c_j0 = w2c_l7;
+  w2c_i0 = (u32)(w2c_j0);
+  w2c_j0 = i64_load(memory, (u64)(w2c_i0) + 8u);
+  w2c_j1 = 0ull;
+  w2c_i0 = w2c_j0 != w2c_j1;
+  w2c_l17 = w2c_i0;
+  if (w2c_i0) {goto w2c_B1;}
+  w2c_j0 = 0ull;
+  w2c_j1 = w2c_p5;
+  w2c_j2 = w2c_p2;
+  w2c_j1 *= w2c_j2;
+  w2c_i2 = w2c_l17;
+  w2c_j0 = w2c_i2 ? w2c_j0 : w2c_j1;
+  w2c_j1 = w2c_p1;
+  w2c_i0 = w2c_j0 != w2c_j1;
+  if (w2c_i0) {goto w2c_B1;}
+  w2c_j0 = w2c_p3;
+  w2c_i0 = (u32)(w2c_j0);
+  w2c_j0 = i64_load(memory, (u64)(w2c_i0));
+  w2c_l6 = w2c_j0;
+  w2c_i0 = !(w2c_j0);
+  if (w2c_i0) {goto w2c_B1;}
+  w2c_j0 = w2c_p2;
+  w2c_j1 = 18446744073709551608ull;
+  w2c_j0 += w2c_j1;
+  w2c_j1 = 3ull;
+  w2c_j0 >>= (w2c_j1 & 63);
+  w2c_j1 = 6ull;
+  w2c_j0 *= w2c_j1;
+  w2c_j1 = w2c_l6;
+  w2c_i0 = w2c_j0 < w2c_j1;
+  if (w2c_i0) {goto w2c_B1;}
+  w2c_j0 = w2c_p3;
+  w2c_i0 = (u32)(w2c_j0);
+  w2c_j1 = w2c_l6;
+  w2c_j2 = 18446744073709551615ull;
+  w2c_j1 += w2c_j2;
+  w2c_l6 = w2c_j1;
+  i64_store(memory, (u64)(w2c_i0), w2c_j1);
+  w2c_i0 = 0u;
+  w2c_l16 = w2c_i0;
+  w2c_j0 = w2c_p5;
+  w2c_i0 = !(w2c_j0);
+  if (w2c_i0) {goto w2c_B1;}
+  w2c_j0 = w2c_p4;
+  w2c_j1 = 4096ull;
+  w2c_j2 = 0ull;
+  w2c_j3 = w2c_p4;
+  w2c_i3 = !(w2c_j3);
+  w2c_j1 = w2c_i3 ? w2c_j1 : w2c_j2;
+  w2c_j0 += w2c_j1;
+  w2c_l8 = w2c_j0;
+  w2c_j0 = w2c_p0;
+  w2c_j1 = 4096ull;
+  w2c_j2 = 0ull;
+  w2c_j3 = w2c_p0;
+  w2c_i3 = !(w2c_j3);
+  w2c_j1 = w2c_i3 ? w2c_j1 : w2c_j2;
+  w2c_p1 = w2c_j1;
+  w2c_j0 += w2c_j1;
+  w2c_p3 = w2c_j0;
+  w2c_j0 = w2c_l6;
+  w2c_j1 = 56ull;
+  w2c_j0 <<= (w2c_j1 & 63);
+  w2c_j1 = w2c_l6;
+  w2c_j2 = 65280ull;
+  w2c_j1 &= w2c_j2;
+  w2c_j2 = 40ull;
+  w2c_j1 <<= (w2c_j2 & 63);
+  w2c_j0 |= w2c_j1;
+  w2c_j1 = w2c_l6;
+  w2c_j2 = 16711680ull;
+  w2c_j1 &= w2c_j2;
+  w2c_j2 = 24ull;
+  w2c_j1 <<= (w2c_j2 & 63);
+  w2c_j2 = w2c_l6;
+  w2c_j3 = 4278190080ull;
+  w2c_j2 &= w2c_j3;
+  w2c_j3 = 8ull;
+  w2c_j2 <<= (w2c_j3 & 63);
+  w2c_j1 |= w2c_j2;
+  w2c_j0 |= w2c_j1;
+  w2c_j1 = w2c_l6;
+  w2c_j2 = 8ull;
+  w2c_j1 >>= (w2c_j2 & 63);
+  w2c_j2 = 4278190080ull;
+  w2c_j1 &= w2c_j2;
+  w2c_j2 = w2c_l6;
+  w2c_j3 = 24ull;
+  w2c_j2 >>= (w2c_j3 & 63);
+  w2c_j3 = 16711680ull;
+  w2c_j2 &= w2c_j3;
+  w2c_j1 |= w2c_j2;
+  w2c_j2 = w2c_l6;
+  w2c_j3 = 40ull;
+  w2c_j2 >>= (w2c_j3 & 63);
+  w2c_j3 = 65280ull;
+  w2c_j2 &= w2c_j3;
+  w2c_j3 = w2c_l6;
+  w2c_j4 = 56ull;
+  w2c_j3 >>= (w2c_j4 & 63);
+  w2c_j2 |= w2c_j3;
+  w2c_j1 |= w2c_j2;
+  w2c_j0 |= w2c_j1;
+  w2c_p4 = w2c_j0;
+  w2c_j0 = w2c_l6;
+  w2c_i0 = (u32)(w2c_j0);
+  w2c_j1 = w2c_p2;
+  w2c_j2 = 3ull;
+  w2c_j1 >>= (w2c_j2 & 63);
+  w2c_i1 = (u32)(w2c_j1);
+  w2c_i2 = 4294967295u;
+  w2c_i1 += w2c_i2;
+  w2c_l17 = w2c_i1;
+  w2c_i0 = REM_U(w2c_i0, w2c_i1);
+  w2c_l18 = w2c_i0;
+  w2c_j0 = (u64)(w2c_i0);
+  w2c_l6 = w2c_j0;
+  w2c_i1 = w2c_l17;
+  w2c_j1 = (u64)(w2c_i1);
+  w2c_i2 = w2c_l18;
+  w2c_j0 = w2c_i2 ? w2c_j0 : w2c_j1;
+  w2c_j1 = 3ull;
+  w2c_j0 <<= (w2c_j1 & 63);
+  w2c_l9 = w2c_j0;
+  w2c_j0 = w2c_l6;
+  w2c_j1 = 3ull;
+  w2c_j0 <<= (w2c_j1 & 63);
+  w2c_l10 = w2c_j0;
+  w2c_j0 = 0ull;
+  w2c_l6 = w2c_j0;
+  w2c_j0 = w2c_p5;
+  w2c_j1 = 1ull;
+  w2c_i0 = w2c_j0 == w2c_j1;
+  if (w2c_i0) {goto w2c_B2;}
+  w2c_j0 = w2c_p5;
+  w2c_j1 = 1ull;
+  w2c_j0 &= w2c_j1;
+  w2c_l11 = w2c_j0;
+  w2c_j0 = w2c_p2;
+  w2c_j1 = 1ull;
+  w2c_j0 <<= (w2c_j1 & 63);
+  w2c_l12 = w2c_j0;
+  w2c_j0 = w2c_p5;
+  w2c_j1 = 1152921504606846974ull;
+  w2c_j0 &= w2c_j1;
+  w2c_l13 = w2c_j0;
+  w2c_j0 = w2c_p0;
+  w2c_j1 = w2c_p1;
+  w2c_j2 = w2c_l9;
+  w2c_j1 += w2c_j2;
+  w2c_j0 += w2c_j1;
+  w2c_p1 = w2c_j0;
+  w2c_j0 = 0ull;
+  w2c_l6 = w2c_j0;
+  w2c_j0 = w2c_l8;
+  w2c_p5 = w2c_j0;
+  w2c_L3: 
+    w2c_j0 = w2c_p5;
+    w2c_i0 = (u32)(w2c_j0);
+    w2c_j0 = i64_load(memory, (u64)(w2c_i0));
+    w2c_p0 = w2c_j0;
+    w2c_j0 = w2c_p3;
+    w2c_j1 = w2c_l6;
+    w2c_j2 = w2c_p2;
+    w2c_j1 *= w2c_j2;
+    w2c_j0 += w2c_j1;
+    w2c_j1 = w2c_l10;
+    w2c_j0 += w2c_j1;
+    w2c_j1 = 8ull;
+    w2c_j0 += w2c_j1;
+    w2c_i0 = (u32)(w2c_j0);
+    w2c_j1 = w2c_p5;
+    w2c_j2 = 8ull;
+    w2c_j1 += w2c_j2;
+    w2c_l14 = w2c_j1;
+    w2c_i1 = (u32)(w2c_j1);
+    w2c_j1 = i64_load(memory, (u64)(w2c_i1));
+    i64_store(memory, (u64)(w2c_i0), w2c_j1);
+    w2c_j0 = w2c_l14;
+    w2c_i0 = (u32)(w2c_j0);
+    w2c_j1 = w2c_p1;
+    w2c_i1 = (u32)(w2c_j1);
+    w2c_j1 = i64_load(memory, (u64)(w2c_i1));
+    i64_store(memory, (u64)(w2c_i0), w2c_j1);
+    w2c_j0 = w2c_p5;
+    w2c_i0 = (u32)(w2c_j0);
+    w2c_j1 = w2c_p0;
+    w2c_j2 = w2c_p4;
+    w2c_j1 ^= w2c_j2;
+    i64_store(memory, (u64)(w2c_i0), w2c_j1);
+    w2c_j0 = w2c_p5;
+    w2c_j1 = 16ull;
+    w2c_j0 += w2c_j1;
+    w2c_p0 = w2c_j0;
+    w2c_i0 = (u32)(w2c_j0);
+    w2c_j0 = i64_load(memory, (u64)(w2c_i0));
+    w2c_l14 = w2c_j0;
+    w2c_j0 = w2c_p3;
+    w2c_j1 = w2c_l6;
+    w2c_j2 = 1ull;
+    w2c_j1 |= w2c_j2;
+    w2c_j2 = w2c_p2;
+    w2c_j1 *= w2c_j2;
+    w2c_j0 += w2c_j1;
+    w2c_j1 = w2c_l10;
+    w2c_j0 += w2c_j1;
+    w2c_j1 = 8ull;
+    w2c_j0 += w2c_j1;
+    w2c_i0 = (u32)(w2c_j0);
+    w2c_j1 = w2c_p5;
+    w2c_j2 = 24ull;
+    w2c_j1 += w2c_j2;
+    w2c_l15 = w2c_j1;
+    w2c_i1 = (u32)(w2c_j1);
+    w2c_j1 = i64_load(memory, (u64)(w2c_i1));
+    i64_store(memory, (u64)(w2c_i0), w2c_j1);
+    w2c_j0 = w2c_l15;
+    w2c_i0 = (u32)(w2c_j0);
+    w2c_j1 = w2c_p1;
+    w2c_j2 = w2c_p2;
+    w2c_j1 += w2c_j2;
+    w2c_i1 = (u32)(w2c_j1);
+    w2c_j1 = i64_load(memory, (u64)(w2c_i1));
+    i64_store(memory, (u64)(w2c_i0), w2c_j1);
+    w2c_j0 = w2c_p0;
+    w2c_i0 = (u32)(w2c_j0);
+    w2c_j1 = w2c_l14;
+    w2c_j2 = w2c_p4;
+    w2c_j1 ^= w2c_j2;
+    i64_store(memory, (u64)(w2c_i0), w2c_j1);
+    w2c_j0 = w2c_p5;
+    w2c_j1 = 32ull;
+    w2c_j0 += w2c_j1;
+    w2c_p5 = w2c_j0;
+    w2c_j0 = w2c_p1;
+    w2c_j1 = w2c_l12;
+    w2c_j0 += w2c_j1;
+    w2c_p1 = w2c_j0;
+    w2c_j0 = w2c_l13;
+    w2c_j1 = w2c_l6;
+    w2c_j2 = 2ull;
+    w2c_j1 += w2c_j2;
+    w2c_l6 = w2c_j1;
+    w2c_i0 = w2c_j0 != w2c_j1;
+    if (w2c_i0) {goto w2c_L3;}
+  w2c_j0 = w2c_l11;
+  w2c_i0 = !(w2c_j0);
+  if (w2c_i0) {goto w2c_B1;}
+  w2c_B2:;
+  w2c_j0 = w2c_l8;
+  w2c_j1 = w2c_l6;
+  w2c_j2 = 4ull;
+  w2c_j1 <<= (w2c_j2 & 63);
+  w2c_j0 += w2c_j1;
+  w2c_p5 = w2c_j0;
+  w2c_i0 = (u32)(w2c_j0);
+  w2c_j0 = i64_load(memory, (u64)(w2c_i0));
+  w2c_p1 = w2c_j0;
+  w2c_j0 = w2c_p3;
+  w2c_j1 = w2c_l6;
+  w2c_j2 = w2c_p2;
+  w2c_j1 *= w2c_j2;
+  w2c_j0 += w2c_j1;
+  w2c_p2 = w2c_j0;
+  w2c_j1 = w2c_l10;
+  w2c_j0 += w2c_j1;
+  w2c_j1 = 8ull;
+  w2c_j0 += w2c_j1;
+  w2c_i0 = (u32)(w2c_j0);
+  w2c_j1 = w2c_p5;
+  w2c_j2 = 8ull;
+  w2c_j1 += w2c_j2;
+  w2c_l6 = w2c_j1;
+  w2c_i1 = (u32)(w2c_j1);
+  w2c_j1 = i64_load(memory, (u64)(w2c_i1));
+  i64_store(memory, (u64)(w2c_i0), w2c_j1);
+  w2c_j0 = w2c_l6;
+  w2c_i0 = (u32)(w2c_j0);
+  w2c_j1 = w2c_p2;
+  w2c_j2 = w2c_l9;
+  w2c_j1 += w2c_j2;
+  w2c_i1 = (u32)(w2c_j1);
+  w2c_j1 = i64_load(memory, (u64)(w2c_i1));
+  i64_store(memory, (u64)(w2c_i0), w2c_j1);
+  w2c_j0 = w2c_p5;
+  w2c_i0 = (u32)(w2c_j0);
+  w2c_j1 = w2c_p1;
+  w2c_j2 = w2c_p4;
+  w2c_j1 ^= w2c_j2;
+  i64_store(memory, (u64)(w2c_i0), w2c_j1);
+  w2c_B1:;
+  w2c_j0 = w2c_l7;
+  w2c_j1 = 16ull;
+  w2c_j0 += w2c_j1;
+  instance->w2c_g0 = w2c_j0;
+  w2c_i0 = w2c_l16;
+  goto w2c_Bfunc;
+  w2c_B0:;
+  UNREACHABLE;
+  w2c_Bfunc:;
+  return w2c_i0;
+}
+static u32 w2c_keywrap_step_wrap(struct instance *instance, u64 w2c_p0, u64 w2c_p1, u64 w2c_p2, u64 w2c_p3) {
+  u32 w2c_l4 = 0;
+  const struct memory memory = instance->w2c_memory;
+  (void)memory;
+  u32 w2c_i0;
+  u64 w2c_j0, w2c_j1, w2c_j2, w2c_j3;
+  w2c_i0 = w2c_f6(instance);
+  w2c_i0 = !(w2c_i0);
+  if (w2c_i0) {goto w2c_B0;}
+  w2c_f8(instance);
+  UNREACHABLE;
+  w2c_B0:;
+  w2c_j0 = w2c_p0;
+  w2c_j1 = w2c_p1;
+  w2c_j2 = w2c_p2;
+  w2c_j3 = w2c_p3;
+  w2c_i0 = w2c_f149(instance, w2c_j0, w2c_j1, w2c_j2, w2c_j3);
   w2c_l4 = w2c_i0;
-  w2c_f1(instance);
+  w2c_f7(instance);
   w2c_i0 = w2c_l4;
   return w2c_i0;
 }
-static u32 w2c_f97(struct instance *instance, u64 w2c_p0, u64 w2c_p1, u64 w2c_p2, u64 w2c_p3) {
+static u32 w2c_f149(struct instance *instance, u64 w2c_p0, u64 w2c_p1, u64 w2c_p2, u64 w2c_p3) {
   u32 w2c_l4 = 0;
   u64 w2c_l5 = 0, w2c_l6 = 0, w2c_l7 = 0, w2c_l8 = 0, w2c_l9 = 0;
   const struct memory memory = instance->w2c_memory;
@@ -18496,17 +33173,16 @@ static u32 w2c_f97(struct instance *instance, u64 w2c_p0, u64 w2c_p1, u64 w2c_p2
   w2c_Bfunc:;
   return w2c_i0;
 }
-#ifndef KEYWRAP_STEPS_ONLY
-static u32 w2c_keywrap_unwrap(struct instance *instance, u64 w2c_p0, u64 w2c_p1, u64 w2c_p2, u64 w2c_p3, u64 w2c_p4, u64 w2c_p5) {
+static u32 w2c_keywrap_step_wrap_many(struct instance *instance, u64 w2c_p0, u64 w2c_p1, u64 w2c_p2, u64 w2c_p3, u64 w2c_p4, u64 w2c_p5) {
   u32 w2c_l6 = 0;
   const struct memory memory = instance->w2c_memory;
   (void)memory;
   u32 w2c_i0;
   u64 w2c_j0, w2c_j1, w2c_j2, w2c_j3, w2c_j4, w2c_j5;
-  w2c_i0 = w2c_f0(instance);
+  w2c_i0 = w2c_f6(instance);
   w2c_i0 = !(w2c_i0);
   if (w2c_i0) {goto w2c_B0;}
-  w2c_f2(instance);
+  w2c_f8(instance);
   UNREACHABLE;
   w2c_B0:;
   w2c_j0 = w2c_p0;
@@ -18515,13 +33191,389 @@ static u32 w2c_keywrap_unwrap(struct instance *instance, u64 w2c_p0, u64 w2c_p1,
   w2c_j3 = w2c_p3;
   w2c_j4 = w2c_p4;
   w2c_j5 = w2c_p5;
-  w2c_i0 = w2c_f99(instance, w2c_j0, w2c_j1, w2c_j2, w2c_j3, w2c_j4, w2c_j5);
+  w2c_i0 = w2c_f151(instance, w2c_j0, w2c_j1, w2c_j2, w2c_j3, w2c_j4, w2c_j5);
   w2c_l6 = w2c_i0;
-  w2c_f1(instance);
+  w2c_f7(instance);
   w2c_i0 = w2c_l6;
   return w2c_i0;
 }
-static u32 w2c_f99(struct instance *instance, u64 w2c_p0, u64 w2c_p1, u64 w2c_p2, u64 w2c_p3, u64 w2c_p4, u64 w2c_p5) {
+static u32 w2c_f151(struct instance *instance, u64 w2c_p0, u64 w2c_p1, u64 w2c_p2, u64 w2c_p3, u64 w2c_p4, u64 w2c_p5) {
+  u32 w2c_l16 = 0, w2c_l17 = 0;
+  u64 w2c_l6 = 0, w2c_l7 = 0, w2c_l8 = 0, w2c_l9 = 0, w2c_l10 = 0, w2c_l11 = 0, w2c_l12 = 0, w2c_l13 = 0, 
+      w2c_l14 = 0, w2c_l15 = 0;
+  const struct memory memory = instance->w2c_memory;
+  (void)memory;
+  u32 w2c_i0, w2c_i1, w2c_i2, w2c_i3;
+  u64 w2c_j0, w2c_j1, w2c_j2, w2c_j3, w2c_j4;
+  w2c_j0 = instance->w2c_g0;
+  w2c_j1 = 16ull;
+  w2c_j0 -= w2c_j1;
+  w2c_l6 = w2c_j0;
+  instance->w2c_g0 = w2c_j0;
+  w2c_j0 = w2c_l6;
+  w2c_l7 = w2c_j0;
+  w2c_j1 = 16ull;
+  w2c_i0 = (u64)((s64)w2c_j0 < (s64)w2c_j1);
+  if (w2c_i0) {goto w2c_B0;}
+  w2c_i0 = 4u;
+  w2c_l16 = w2c_i0;
+  w2c_j0 = w2c_p2;
+  w2c_j1 = 18446744073709551592ull;
+  w2c_j0 += w2c_j1;
+  w2c_j1 = 1048560ull;
+  w2c_i0 = w2c_j0 > w2c_j1;
+  if (w2c_i0) {goto w2c_B1;}
+  w2c_j0 = w2c_p5;
+  w2c_j1 = 15ull;
+  w2c_j0 &= w2c_j1;
+  w2c_j1 = w2c_p2;
+  w2c_j2 = 7ull;
+  w2c_j1 &= w2c_j2;
+  w2c_j0 |= w2c_j1;
+  w2c_j1 = 0ull;
+  w2c_i0 = w2c_j0 != w2c_j1;
+  if (w2c_i0) {goto w2c_B1;}
+  w2c_j0 = w2c_l7;
+  w2c_j1 = w2c_p5;
+  w2c_j2 = 4ull;
+  w2c_j1 >>= (w2c_j2 & 63);
+  w2c_p5 = w2c_j1;
+  w2c_j2 = 0ull;
+  w2c_j3 = w2c_p2;
+  w2c_j4 = 0ull;
+  w2c_f9(instance, w2c_j0, w2c_j1, w2c_j2, w2c_j3, w2c_j4);
+  w2c_j0 = w2c_l7;
+  w2c_i0 = (u32)(w2c_j0);
+  w2c_j0 = i64_load(memory, (u64)(w2c_i0) + 8u);
+  w2c_j1 = 0ull;
+  w2c_i0 = w2c_j0 != w2c_j1;
+  w2c_l17 = w2c_i0;
+  if (w2c_i0) {goto w2c_B1;}
+  w2c_j0 = 0ull;
+  w2c_j1 = w2c_p5;
+  w2c_j2 = w2c_p2;
+  w2c_j1 *= w2c_j2;
+  w2c_i2 = w2c_l17;
+  w2c_j0 = w2c_i2 ? w2c_j0 : w2c_j1;
+  w2c_j1 = w2c_p1;
+  w2c_i0 = w2c_j0 != w2c_j1;
+  if (w2c_i0) {goto w2c_B1;}
+  w2c_j0 = w2c_p2;
+  w2c_j1 = 18446744073709551608ull;
+  w2c_j0 += w2c_j1;
+  w2c_j1 = 3ull;
+  w2c_j0 >>= (w2c_j1 & 63);
+  w2c_j1 = 6ull;
+  w2c_j0 *= w2c_j1;
+  w2c_j1 = w2c_p3;
+  w2c_i1 = (u32)(w2c_j1);
+  w2c_j1 = i64_load(memory, (u64)(w2c_i1));
+  w2c_l8 = w2c_j1;
+  w2c_i0 = w2c_j0 <= w2c_j1;
+  if (w2c_i0) {goto w2c_B1;}
+  w2c_j0 = w2c_p3;
+  w2c_i0 = (u32)(w2c_j0);
+  w2c_j1 = w2c_l8;
+  w2c_j2 = 1ull;
+  w2c_j1 += w2c_j2;
+  w2c_l6 = w2c_j1;
+  i64_store(memory, (u64)(w2c_i0), w2c_j1);
+  w2c_i0 = 0u;
+  w2c_l16 = w2c_i0;
+  w2c_j0 = w2c_p5;
+  w2c_i0 = !(w2c_j0);
+  if (w2c_i0) {goto w2c_B1;}
+  w2c_j0 = w2c_p4;
+  w2c_j1 = 4096ull;
+  w2c_j2 = 0ull;
+  w2c_j3 = w2c_p4;
+  w2c_i3 = !(w2c_j3);
+  w2c_j1 = w2c_i3 ? w2c_j1 : w2c_j2;
+  w2c_j0 += w2c_j1;
+  w2c_l9 = w2c_j0;
+  w2c_j0 = w2c_p0;
+  w2c_j1 = 4096ull;
+  w2c_j2 = 0ull;
+  w2c_j3 = w2c_p0;
+  w2c_i3 = !(w2c_j3);
+  w2c_j1 = w2c_i3 ? w2c_j1 : w2c_j2;
+  w2c_l10 = w2c_j1;
+  w2c_j0 += w2c_j1;
+  w2c_p1 = w2c_j0;
+  w2c_j0 = w2c_l6;
+  w2c_j1 = 56ull;
+  w2c_j0 <<= (w2c_j1 & 63);
+  w2c_j1 = w2c_l6;
+  w2c_j2 = 65280ull;
+  w2c_j1 &= w2c_j2;
+  w2c_j2 = 40ull;
+  w2c_j1 <<= (w2c_j2 & 63);
+  w2c_j0 |= w2c_j1;
+  w2c_j1 = w2c_l6;
+  w2c_j2 = 16711680ull;
+  w2c_j1 &= w2c_j2;
+  w2c_j2 = 24ull;
+  w2c_j1 <<= (w2c_j2 & 63);
+  w2c_j2 = w2c_l6;
+  w2c_j3 = 4278190080ull;
+  w2c_j2 &= w2c_j3;
+  w2c_j3 = 8ull;
+  w2c_j2 <<= (w2c_j3 & 63);
+  w2c_j1 |= w2c_j2;
+  w2c_j0 |= w2c_j1;
+  w2c_j1 = w2c_l6;
+  w2c_j2 = 8ull;
+  w2c_j1 >>= (w2c_j2 & 63);
+  w2c_j2 = 4278190080ull;
+  w2c_j1 &= w2c_j2;
+  w2c_j2 = w2c_l6;
+  w2c_j3 = 24ull;
+  w2c_j2 >>= (w2c_j3 & 63);
+  w2c_j3 = 16711680ull;
+  w2c_j2 &= w2c_j3;
+  w2c_j1 |= w2c_j2;
+  w2c_j2 = w2c_l6;
+  w2c_j3 = 40ull;
+  w2c_j2 >>= (w2c_j3 & 63);
+  w2c_j3 = 65280ull;
+  w2c_j2 &= w2c_j3;
+  w2c_j3 = w2c_l6;
+  w2c_j4 = 56ull;
+  w2c_j3 >>= (w2c_j4 & 63);
+  w2c_j2 |= w2c_j3;
+  w2c_j1 |= w2c_j2;
+  w2c_j0 |= w2c_j1;
+  w2c_p4 = w2c_j0;
+  w2c_j0 = 0ull;
+  w2c_l6 = w2c_j0;
+  w2c_j0 = 0ull;
+  w2c_j1 = w2c_l8;
+  w2c_i1 = (u32)(w2c_j1);
+  w2c_j2 = w2c_p2;
+  w2c_j3 = 3ull;
+  w2c_j2 >>= (w2c_j3 & 63);
+  w2c_i2 = (u32)(w2c_j2);
+  w2c_i3 = 4294967295u;
+  w2c_i2 += w2c_i3;
+  w2c_l17 = w2c_i2;
+  w2c_i1 = REM_U(w2c_i1, w2c_i2);
+  w2c_j1 = (u64)(w2c_i1);
+  w2c_p3 = w2c_j1;
+  w2c_j2 = 1ull;
+  w2c_j1 += w2c_j2;
+  w2c_l8 = w2c_j1;
+  w2c_j2 = 3ull;
+  w2c_j1 <<= (w2c_j2 & 63);
+  w2c_j2 = w2c_l8;
+  w2c_i3 = w2c_l17;
+  w2c_j3 = (u64)(w2c_i3);
+  w2c_i2 = w2c_j2 == w2c_j3;
+  w2c_j0 = w2c_i2 ? w2c_j0 : w2c_j1;
+  w2c_l11 = w2c_j0;
+  w2c_j0 = w2c_p3;
+  w2c_j1 = 3ull;
+  w2c_j0 <<= (w2c_j1 & 63);
+  w2c_l8 = w2c_j0;
+  w2c_j0 = w2c_p5;
+  w2c_j1 = 1ull;
+  w2c_i0 = w2c_j0 == w2c_j1;
+  if (w2c_i0) {goto w2c_B2;}
+  w2c_j0 = w2c_p5;
+  w2c_j1 = 1ull;
+  w2c_j0 &= w2c_j1;
+  w2c_l12 = w2c_j0;
+  w2c_j0 = w2c_p2;
+  w2c_j1 = 1ull;
+  w2c_j0 <<= (w2c_j1 & 63);
+  w2c_l13 = w2c_j0;
+  w2c_j0 = w2c_p5;
+  w2c_j1 = 1152921504606846974ull;
+  w2c_j0 &= w2c_j1;
+  w2c_l14 = w2c_j0;
+  w2c_j0 = w2c_l11;
+  w2c_j1 = w2c_l10;
+  w2c_j0 += w2c_j1;
+  w2c_j1 = w2c_p0;
+  w2c_j0 += w2c_j1;
+  w2c_j1 = 8ull;
+  w2c_j0 += w2c_j1;
+  w2c_p3 = w2c_j0;
+  w2c_j0 = 0ull;
+  w2c_l6 = w2c_j0;
+  w2c_j0 = w2c_l9;
+  w2c_p5 = w2c_j0;
+  w2c_L3: 
+    w2c_j0 = w2c_p5;
+    w2c_i0 = (u32)(w2c_j0);
+    w2c_j0 = i64_load(memory, (u64)(w2c_i0));
+    w2c_p0 = w2c_j0;
+    w2c_j0 = w2c_p1;
+    w2c_j1 = w2c_l6;
+    w2c_j2 = w2c_p2;
+    w2c_j1 *= w2c_j2;
+    w2c_j0 += w2c_j1;
+    w2c_j1 = w2c_l8;
+    w2c_j0 += w2c_j1;
+    w2c_j1 = 8ull;
+    w2c_j0 += w2c_j1;
+    w2c_i0 = (u32)(w2c_j0);
+    w2c_j1 = w2c_p5;
+    w2c_j2 = 8ull;
+    w2c_j1 += w2c_j2;
+    w2c_l10 = w2c_j1;
+    w2c_i1 = (u32)(w2c_j1);
+    w2c_j1 = i64_load(memory, (u64)(w2c_i1));
+    i64_store(memory, (u64)(w2c_i0), w2c_j1);
+    w2c_j0 = w2c_l10;
+    w2c_i0 = (u32)(w2c_j0);
+    w2c_j1 = w2c_p3;
+    w2c_i1 = (u32)(w2c_j1);
+    w2c_j1 = i64_load(memory, (u64)(w2c_i1));
+    i64_store(memory, (u64)(w2c_i0), w2c_j1);
+    w2c_j0 = w2c_p5;
+    w2c_i0 = (u32)(w2c_j0);
+    w2c_j1 = w2c_p0;
+    w2c_j2 = w2c_p4;
+    w2c_j1 ^= w2c_j2;
+    i64_store(memory, (u64)(w2c_i0), w2c_j1);
+    w2c_j0 = w2c_p5;
+    w2c_j1 = 16ull;
+    w2c_j0 += w2c_j1;
+    w2c_p0 = w2c_j0;
+    w2c_i0 = (u32)(w2c_j0);
+    w2c_j0 = i64_load(memory, (u64)(w2c_i0));
+    w2c_l10 = w2c_j0;
+    w2c_j0 = w2c_p1;
+    w2c_j1 = w2c_l6;
+    w2c_j2 = 1ull;
+    w2c_j1 |= w2c_j2;
+    w2c_j2 = w2c_p2;
+    w2c_j1 *= w2c_j2;
+    w2c_j0 += w2c_j1;
+    w2c_j1 = w2c_l8;
+    w2c_j0 += w2c_j1;
+    w2c_j1 = 8ull;
+    w2c_j0 += w2c_j1;
+    w2c_i0 = (u32)(w2c_j0);
+    w2c_j1 = w2c_p5;
+    w2c_j2 = 24ull;
+    w2c_j1 += w2c_j2;
+    w2c_l15 = w2c_j1;
+    w2c_i1 = (u32)(w2c_j1);
+    w2c_j1 = i64_load(memory, (u64)(w2c_i1));
+    i64_store(memory, (u64)(w2c_i0), w2c_j1);
+    w2c_j0 = w2c_l15;
+    w2c_i0 = (u32)(w2c_j0);
+    w2c_j1 = w2c_p3;
+    w2c_j2 = w2c_p2;
+    w2c_j1 += w2c_j2;
+    w2c_i1 = (u32)(w2c_j1);
+    w2c_j1 = i64_load(memory, (u64)(w2c_i1));
+    i64_store(memory, (u64)(w2c_i0), w2c_j1);
+    w2c_j0 = w2c_p0;
+    w2c_i0 = (u32)(w2c_j0);
+    w2c_j1 = w2c_l10;
+    w2c_j2 = w2c_p4;
+    w2c_j1 ^= w2c_j2;
+    i64_store(memory, (u64)(w2c_i0), w2c_j1);
+    w2c_j0 = w2c_p5;
+    w2c_j1 = 32ull;
+    w2c_j0 += w2c_j1;
+    w2c_p5 = w2c_j0;
+    w2c_j0 = w2c_p3;
+    w2c_j1 = w2c_l13;
+    w2c_j0 += w2c_j1;
+    w2c_p3 = w2c_j0;
+    w2c_j0 = w2c_l14;
+    w2c_j1 = w2c_l6;
+    w2c_j2 = 2ull;
+    w2c_j1 += w2c_j2;
+    w2c_l6 = w2c_j1;
+    w2c_i0 = w2c_j0 != w2c_j1;
+    if (w2c_i0) {goto w2c_L3;}
+  w2c_j0 = w2c_l12;
+  w2c_i0 = !(w2c_j0);
+  if (w2c_i0) {goto w2c_B1;}
+  w2c_B2:;
+  w2c_j0 = w2c_l9;
+  w2c_j1 = w2c_l6;
+  w2c_j2 = 4ull;
+  w2c_j1 <<= (w2c_j2 & 63);
+  w2c_j0 += w2c_j1;
+  w2c_p5 = w2c_j0;
+  w2c_i0 = (u32)(w2c_j0);
+  w2c_j0 = i64_load(memory, (u64)(w2c_i0));
+  w2c_p3 = w2c_j0;
+  w2c_j0 = w2c_p1;
+  w2c_j1 = w2c_l6;
+  w2c_j2 = w2c_p2;
+  w2c_j1 *= w2c_j2;
+  w2c_j0 += w2c_j1;
+  w2c_j1 = 8ull;
+  w2c_j0 += w2c_j1;
+  w2c_p2 = w2c_j0;
+  w2c_j1 = w2c_l8;
+  w2c_j0 += w2c_j1;
+  w2c_i0 = (u32)(w2c_j0);
+  w2c_j1 = w2c_p5;
+  w2c_j2 = 8ull;
+  w2c_j1 += w2c_j2;
+  w2c_l6 = w2c_j1;
+  w2c_i1 = (u32)(w2c_j1);
+  w2c_j1 = i64_load(memory, (u64)(w2c_i1));
+  i64_store(memory, (u64)(w2c_i0), w2c_j1);
+  w2c_j0 = w2c_l6;
+  w2c_i0 = (u32)(w2c_j0);
+  w2c_j1 = w2c_p2;
+  w2c_j2 = w2c_l11;
+  w2c_j1 += w2c_j2;
+  w2c_i1 = (u32)(w2c_j1);
+  w2c_j1 = i64_load(memory, (u64)(w2c_i1));
+  i64_store(memory, (u64)(w2c_i0), w2c_j1);
+  w2c_j0 = w2c_p5;
+  w2c_i0 = (u32)(w2c_j0);
+  w2c_j1 = w2c_p3;
+  w2c_j2 = w2c_p4;
+  w2c_j1 ^= w2c_j2;
+  i64_store(memory, (u64)(w2c_i0), w2c_j1);
+  w2c_B1:;
+  w2c_j0 = w2c_l7;
+  w2c_j1 = 16ull;
+  w2c_j0 += w2c_j1;
+  instance->w2c_g0 = w2c_j0;
+  w2c_i0 = w2c_l16;
+  goto w2c_Bfunc;
+  w2c_B0:;
+  UNREACHABLE;
+  w2c_Bfunc:;
+  return w2c_i0;
+}
+#ifndef KEYWRAP_STEPS_ONLY
+static u32 w2c_keywrap_unwrap(struct instance *instance, u64 w2c_p0, u64 w2c_p1, u64 w2c_p2, u64 w2c_p3, u64 w2c_p4, u64 w2c_p5) {
+  u32 w2c_l6 = 0;
+  const struct memory memory = instance->w2c_memory;
+  (void)memory;
+  u32 w2c_i0;
+  u64 w2c_j0, w2c_j1, w2c_j2, w2c_j3, w2c_j4, w2c_j5;
+  w2c_i0 = w2c_f6(instance);
+  w2c_i0 = !(w2c_i0);
+  if (w2c_i0) {goto w2c_B0;}
+  w2c_f8(instance);
+  UNREACHABLE;
+  w2c_B0:;
+  w2c_j0 = w2c_p0;
+  w2c_j1 = w2c_p1;
+  w2c_j2 = w2c_p2;
+  w2c_j3 = w2c_p3;
+  w2c_j4 = w2c_p4;
+  w2c_j5 = w2c_p5;
+  w2c_i0 = w2c_f153(instance, w2c_j0, w2c_j1, w2c_j2, w2c_j3, w2c_j4, w2c_j5);
+  w2c_l6 = w2c_i0;
+  w2c_f7(instance);
+  w2c_i0 = w2c_l6;
+  return w2c_i0;
+}
+static u32 w2c_f153(struct instance *instance, u64 w2c_p0, u64 w2c_p1, u64 w2c_p2, u64 w2c_p3, u64 w2c_p4, u64 w2c_p5) {
   const struct memory memory = instance->w2c_memory;
   (void)memory;
   u32 w2c_i0, w2c_i3, w2c_i5, w2c_i7;
@@ -18550,7 +33602,7 @@ static u32 w2c_f99(struct instance *instance, u64 w2c_p0, u64 w2c_p1, u64 w2c_p2
   w2c_j5 = w2c_i7 ? w2c_j5 : w2c_j6;
   w2c_j4 += w2c_j5;
   w2c_j5 = w2c_p5;
-  w2c_i0 = w2c_f18(instance, w2c_j0, w2c_j1, w2c_j2, w2c_j3, w2c_j4, w2c_j5);
+  w2c_i0 = w2c_f48(instance, w2c_j0, w2c_j1, w2c_j2, w2c_j3, w2c_j4, w2c_j5);
   return w2c_i0;
 }
 static u32 w2c_keywrap_unwrap_any(struct instance *instance, u64 w2c_p0, u64 w2c_p1, u64 w2c_p2, u64 w2c_p3, u64 w2c_p4, u64 w2c_p5, u64 w2c_p6, u64 w2c_p7) {
@@ -18559,10 +33611,10 @@ static u32 w2c_keywrap_unwrap_any(struct instance *instance, u64 w2c_p0, u64 w2c
   (void)memory;
   u32 w2c_i0;
   u64 w2c_j0, w2c_j1, w2c_j2, w2c_j3, w2c_j4, w2c_j5, w2c_j6, w2c_j7;
-  w2c_i0 = w2c_f0(instance);
+  w2c_i0 = w2c_f6(instance);
   w2c_i0 = !(w2c_i0);
   if (w2c_i0) {goto w2c_B0;}
-  w2c_f2(instance);
+  w2c_f8(instance);
   UNREACHABLE;
   w2c_B0:;
   w2c_j0 = w2c_p0;
@@ -18573,13 +33625,13 @@ static u32 w2c_keywrap_unwrap_any(struct instance *instance, u64 w2c_p0, u64 w2c
   w2c_j5 = w2c_p5;
   w2c_j6 = w2c_p6;
   w2c_j7 = w2c_p7;
-  w2c_i0 = w2c_f101(instance, w2c_j0, w2c_j1, w2c_j2, w2c_j3, w2c_j4, w2c_j5, w2c_j6, w2c_j7);
+  w2c_i0 = w2c_f155(instance, w2c_j0, w2c_j1, w2c_j2, w2c_j3, w2c_j4, w2c_j5, w2c_j6, w2c_j7);
   w2c_l8 = w2c_i0;
-  w2c_f1(instance);
+  w2c_f7(instance);
   w2c_i0 = w2c_l8;
   return w2c_i0;
 }
-static u32 w2c_f101(struct instance *instance, u64 w2c_p0, u64 w2c_p1, u64 w2c_p2, u64 w2c_p3, u64 w2c_p4, u64 w2c_p5, u64 w2c_p6, u64 w2c_p7) {
+static u32 w2c_f155(struct instance *instance, u64 w2c_p0, u64 w2c_p1, u64 w2c_p2, u64 w2c_p3, u64 w2c_p4, u64 w2c_p5, u64 w2c_p6, u64 w2c_p7) {
   u32 w2c_l9 = 0;
   u64 w2c_l8 = 0;
   const struct memory memory = instance->w2c_memory;
@@ -18636,7 +33688,7 @@ static u32 w2c_f101(struct instance *instance, u64 w2c_p0, u64 w2c_p1, u64 w2c_p
   w2c_j2 = w2c_i4 ? w2c_j2 : w2c_j3;
   w2c_j1 += w2c_j2;
   w2c_j2 = w2c_p1;
-  w2c_f4(instance, w2c_j0, w2c_j1, w2c_j2);
+  w2c_f37(instance, w2c_j0, w2c_j1, w2c_j2);
   w2c_i0 = 3u;
   w2c_l9 = w2c_i0;
   w2c_j0 = w2c_l8;
@@ -18693,7 +33745,7 @@ static u32 w2c_f101(struct instance *instance, u64 w2c_p0, u64 w2c_p1, u64 w2c_p
   w2c_j6 = w2c_i8 ? w2c_j6 : w2c_j7;
   w2c_j5 += w2c_j6;
   w2c_j6 = w2c_p5;
-  w2c_f5(instance, w2c_j0, w2c_j1, w2c_j2, w2c_j3, w2c_j4, w2c_j5, w2c_j6);
+  w2c_f38(instance, w2c_j0, w2c_j1, w2c_j2, w2c_j3, w2c_j4, w2c_j5, w2c_j6);
   w2c_j0 = w2c_l8;
   w2c_i0 = (u32)(w2c_j0);
   w2c_i0 = i32_load8_u(memory, (u64)(w2c_i0) + 24u);
@@ -18739,23 +33791,23 @@ static u32 w2c_keywrap_unwrap_in_place(struct instance *instance, u64 w2c_p0, u6
   (void)memory;
   u32 w2c_i0;
   u64 w2c_j0, w2c_j1, w2c_j2, w2c_j3;
-  w2c_i0 = w2c_f0(instance);
+  w2c_i0 = w2c_f6(instance);
   w2c_i0 = !(w2c_i0);
   if (w2c_i0) {goto w2c_B0;}
-  w2c_f2(instance);
+  w2c_f8(instance);
   UNREACHABLE;
   w2c_B0:;
   w2c_j0 = w2c_p0;
   w2c_j1 = w2c_p1;
   w2c_j2 = w2c_p2;
   w2c_j3 = w2c_p3;
-  w2c_i0 = w2c_f103(instance, w2c_j0, w2c_j1, w2c_j2, w2c_j3);
+  w2c_i0 = w2c_f157(instance, w2c_j0, w2c_j1, w2c_j2, w2c_j3);
   w2c_l4 = w2c_i0;
-  w2c_f1(instance);
+  w2c_f7(instance);
   w2c_i0 = w2c_l4;
   return w2c_i0;
 }
-static u32 w2c_f103(struct instance *instance, u64 w2c_p0, u64 w2c_p1, u64 w2c_p2, u64 w2c_p3) {
+static u32 w2c_f157(struct instance *instance, u64 w2c_p0, u64 w2c_p1, u64 w2c_p2, u64 w2c_p3) {
   u32 w2c_l5 = 0;
   u64 w2c_l4 = 0;
   const struct memory memory = instance->w2c_memory;
@@ -18791,7 +33843,7 @@ static u32 w2c_f103(struct instance *instance, u64 w2c_p0, u64 w2c_p1, u64 w2c_p
   w2c_j2 = w2c_i4 ? w2c_j2 : w2c_j3;
   w2c_j1 += w2c_j2;
   w2c_j2 = w2c_p1;
-  w2c_f4(instance, w2c_j0, w2c_j1, w2c_j2);
+  w2c_f37(instance, w2c_j0, w2c_j1, w2c_j2);
   w2c_i0 = 3u;
   w2c_l5 = w2c_i0;
   w2c_j0 = w2c_l4;
@@ -18905,12 +33957,12 @@ static u32 w2c_f103(struct instance *instance, u64 w2c_p0, u64 w2c_p1, u64 w2c_p
   w2c_j5 = 18446744073709551608ull;
   w2c_j4 += w2c_j5;
   w2c_p3 = w2c_j4;
-  w2c_j1 = w2c_f6(instance, w2c_j1, w2c_j2, w2c_j3, w2c_j4);
+  w2c_j1 = w2c_f39(instance, w2c_j1, w2c_j2, w2c_j3, w2c_j4);
   w2c_j2 = 12008468691120727718ull;
   w2c_j1 ^= w2c_j2;
   w2c_j2 = w2c_p0;
   w2c_j3 = w2c_p3;
-  w2c_f3(instance, w2c_j0, w2c_j1, w2c_j2, w2c_j3);
+  w2c_f13(instance, w2c_j0, w2c_j1, w2c_j2, w2c_j3);
   w2c_i0 = 5u;
   w2c_i1 = 4u;
   w2c_j2 = w2c_l4;
@@ -18945,10 +33997,10 @@ static u32 w2c_keywrap_unwrap_many(struct instance *instance, u64 w2c_p0, u64 w2
   (void)memory;
   u32 w2c_i0, w2c_i4;
   u64 w2c_j0, w2c_j1, w2c_j2, w2c_j3, w2c_j5, w2c_j6, w2c_j7, w2c_j8;
-  w2c_i0 = w2c_f0(instance);
+  w2c_i0 = w2c_f6(instance);
   w2c_i0 = !(w2c_i0);
   if (w2c_i0) {goto w2c_B0;}
-  w2c_f2(instance);
+  w2c_f8(instance);
   UNREACHABLE;
   w2c_B0:;
   w2c_j0 = w2c_p0;
@@ -18960,13 +34012,13 @@ static u32 w2c_keywrap_unwrap_many(struct instance *instance, u64 w2c_p0, u64 w2
   w2c_j6 = w2c_p6;
   w2c_j7 = w2c_p7;
   w2c_j8 = w2c_p8;
-  w2c_i0 = w2c_f105(instance, w2c_j0, w2c_j1, w2c_j2, w2c_j3, w2c_i4, w2c_j5, w2c_j6, w2c_j7, w2c_j8);
+  w2c_i0 = w2c_f159(instance, w2c_j0, w2c_j1, w2c_j2, w2c_j3, w2c_i4, w2c_j5, w2c_j6, w2c_j7, w2c_j8);
   w2c_p4 = w2c_i0;
-  w2c_f1(instance);
+  w2c_f7(instance);
   w2c_i0 = w2c_p4;
   return w2c_i0;
 }
-static u32 w2c_f105(struct instance *instance, u64 w2c_p0, u64 w2c_p1, u64 w2c_p2, u64 w2c_p3, u32 w2c_p4, u64 w2c_p5, u64 w2c_p6, u64 w2c_p7, 
+static u32 w2c_f159(struct instance *instance, u64 w2c_p0, u64 w2c_p1, u64 w2c_p2, u64 w2c_p3, u32 w2c_p4, u64 w2c_p5, u64 w2c_p6, u64 w2c_p7, 
     u64 w2c_p8) {
   u32 w2c_l10 = 0, w2c_l11 = 0, w2c_l12 = 0;
   u64 w2c_l9 = 0;
@@ -19004,7 +34056,7 @@ static u32 w2c_f105(struct instance *instance, u64 w2c_p0, u64 w2c_p1, u64 w2c_p
   w2c_j2 = w2c_i4 ? w2c_j2 : w2c_j3;
   w2c_j1 += w2c_j2;
   w2c_j2 = w2c_p1;
-  w2c_f4(instance, w2c_j0, w2c_j1, w2c_j2);
+  w2c_f37(instance, w2c_j0, w2c_j1, w2c_j2);
   w2c_i0 = 3u;
   w2c_l10 = w2c_i0;
   w2c_j0 = w2c_l9;
@@ -19107,7 +34159,7 @@ static u32 w2c_f105(struct instance *instance, u64 w2c_p0, u64 w2c_p1, u64 w2c_p
   w2c_j6 = w2c_i8 ? w2c_j6 : w2c_j7;
   w2c_j5 += w2c_j6;
   w2c_j6 = w2c_p8;
-  w2c_f22(instance, w2c_j0, w2c_i1, w2c_j2, w2c_j3, w2c_j4, w2c_j5, w2c_j6);
+  w2c_f52(instance, w2c_j0, w2c_i1, w2c_j2, w2c_j3, w2c_j4, w2c_j5, w2c_j6);
   w2c_i0 = 0u;
   w2c_l10 = w2c_i0;
   w2c_B1:;
@@ -19128,10 +34180,10 @@ static u32 w2c_keywrap_unwrap_padded(struct instance *instance, u64 w2c_p0, u64 
   (void)memory;
   u32 w2c_i0;
   u64 w2c_j0, w2c_j1, w2c_j2, w2c_j3, w2c_j4, w2c_j5, w2c_j6;
-  w2c_i0 = w2c_f0(instance);
+  w2c_i0 = w2c_f6(instance);
   w2c_i0 = !(w2c_i0);
   if (w2c_i0) {goto w2c_B0;}
-  w2c_f2(instance);
+  w2c_f8(instance);
   UNREACHABLE;
   w2c_B0:;
   w2c_j0 = w2c_p0;
@@ -19141,13 +34193,13 @@ static u32 w2c_keywrap_unwrap_padded(struct instance *instance, u64 w2c_p0, u64 
   w2c_j4 = w2c_p4;
   w2c_j5 = w2c_p5;
   w2c_j6 = w2c_p6;
-  w2c_i0 = w2c_f107(instance, w2c_j0, w2c_j1, w2c_j2, w2c_j3, w2c_j4, w2c_j5, w2c_j6);
+  w2c_i0 = w2c_f161(instance, w2c_j0, w2c_j1, w2c_j2, w2c_j3, w2c_j4, w2c_j5, w2c_j6);
   w2c_l7 = w2c_i0;
-  w2c_f1(instance);
+  w2c_f7(instance);
   w2c_i0 = w2c_l7;
   return w2c_i0;
 }
-static u32 w2c_f107(struct instance *instance, u64 w2c_p0, u64 w2c_p1, u64 w2c_p2, u64 w2c_p3, u64 w2c_p4, u64 w2c_p5, u64 w2c_p6) {
+static u32 w2c_f161(struct instance *instance, u64 w2c_p0, u64 w2c_p1, u64 w2c_p2, u64 w2c_p3, u64 w2c_p4, u64 w2c_p5, u64 w2c_p6) {
   const struct memory memory = instance->w2c_memory;
   (void)memory;
   u32 w2c_i0, w2c_i3, w2c_i5, w2c_i7;
@@ -19177,7 +34229,7 @@ static u32 w2c_f107(struct instance *instance, u64 w2c_p0, u64 w2c_p1, u64 w2c_p
   w2c_j4 += w2c_j5;
   w2c_j5 = w2c_p5;
   w2c_j6 = w2c_p6;
-  w2c_i0 = w2c_f21(instance, w2c_j0, w2c_j1, w2c_j2, w2c_j3, w2c_j4, w2c_j5, w2c_j6);
+  w2c_i0 = w2c_f51(instance, w2c_j0, w2c_j1, w2c_j2, w2c_j3, w2c_j4, w2c_j5, w2c_j6);
   return w2c_i0;
 }
 static u32 w2c_keywrap_unwrap_padded_in_place(struct instance *instance, u64 w2c_p0, u64 w2c_p1, u64 w2c_p2, u64 w2c_p3, u64 w2c_p4) {
@@ -19186,10 +34238,10 @@ static u32 w2c_keywrap_unwrap_padded_in_place(struct instance *instance, u64 w2c
   (void)memory;
   u32 w2c_i0;
   u64 w2c_j0, w2c_j1, w2c_j2, w2c_j3, w2c_j4;
-  w2c_i0 = w2c_f0(instance);
+  w2c_i0 = w2c_f6(instance);
   w2c_i0 = !(w2c_i0);
   if (w2c_i0) {goto w2c_B0;}
-  w2c_f2(instance);
+  w2c_f8(instance);
   UNREACHABLE;
   w2c_B0:;
   w2c_j0 = w2c_p0;
@@ -19197,13 +34249,13 @@ static u32 w2c_keywrap_unwrap_padded_in_place(struct instance *instance, u64 w2c
   w2c_j2 = w2c_p2;
   w2c_j3 = w2c_p3;
   w2c_j4 = w2c_p4;
-  w2c_i0 = w2c_f109(instance, w2c_j0, w2c_j1, w2c_j2, w2c_j3, w2c_j4);
+  w2c_i0 = w2c_f163(instance, w2c_j0, w2c_j1, w2c_j2, w2c_j3, w2c_j4);
   w2c_l5 = w2c_i0;
-  w2c_f1(instance);
+  w2c_f7(instance);
   w2c_i0 = w2c_l5;
   return w2c_i0;
 }
-static u32 w2c_f109(struct instance *instance, u64 w2c_p0, u64 w2c_p1, u64 w2c_p2, u64 w2c_p3, u64 w2c_p4) {
+static u32 w2c_f163(struct instance *instance, u64 w2c_p0, u64 w2c_p1, u64 w2c_p2, u64 w2c_p3, u64 w2c_p4) {
   u32 w2c_l8 = 0;
   u64 w2c_l5 = 0, w2c_l6 = 0, w2c_l7 = 0;
   const struct memory memory = instance->w2c_memory;
@@ -19243,7 +34295,7 @@ static u32 w2c_f109(struct instance *instance, u64 w2c_p0, u64 w2c_p1, u64 w2c_p
   w2c_j2 = w2c_i4 ? w2c_j2 : w2c_j3;
   w2c_j1 += w2c_j2;
   w2c_j2 = w2c_p1;
-  w2c_f4(instance, w2c_j0, w2c_j1, w2c_j2);
+  w2c_f37(instance, w2c_j0, w2c_j1, w2c_j2);
   w2c_i0 = 3u;
   w2c_l8 = w2c_i0;
   w2c_j0 = w2c_l5;
@@ -19361,7 +34413,7 @@ static u32 w2c_f109(struct instance *instance, u64 w2c_p0, u64 w2c_p1, u64 w2c_p
   w2c_j4 += w2c_j5;
   w2c_p2 = w2c_j4;
   w2c_j5 = w2c_p3;
-  w2c_j2 = w2c_f6(instance, w2c_j2, w2c_j3, w2c_j4, w2c_j5);
+  w2c_j2 = w2c_f39(instance, w2c_j2, w2c_j3, w2c_j4, w2c_j5);
   w2c_p0 = w2c_j2;
   w2c_j3 = 4294967295ull;
   w2c_j2 &= w2c_j3;
@@ -19435,7 +34487,7 @@ static u32 w2c_f109(struct instance *instance, u64 w2c_p0, u64 w2c_p1, u64 w2c_p
   w2c_j1 |= w2c_j2;
   w2c_j2 = w2c_p2;
   w2c_j3 = w2c_p3;
-  w2c_f3(instance, w2c_j0, w2c_j1, w2c_j2, w2c_j3);
+  w2c_f13(instance, w2c_j0, w2c_j1, w2c_j2, w2c_j3);
   w2c_j0 = w2c_l5;
   w2c_i0 = (u32)(w2c_j0);
   w2c_i0 = i32_load8_u(memory, (u64)(w2c_i0));
@@ -19479,10 +34531,10 @@ static u32 w2c_keywrap_unwrap_with(struct instance *instance, u64 w2c_p0, u64 w2
   (void)memory;
   u32 w2c_i0;
   u64 w2c_j0, w2c_j1, w2c_j2, w2c_j3, w2c_j4, w2c_j5, w2c_j6, w2c_j7;
-  w2c_i0 = w2c_f0(instance);
+  w2c_i0 = w2c_f6(instance);
   w2c_i0 = !(w2c_i0);
   if (w2c_i0) {goto w2c_B0;}
-  w2c_f2(instance);
+  w2c_f8(instance);
   UNREACHABLE;
   w2c_B0:;
   w2c_j0 = w2c_p0;
@@ -19493,13 +34545,13 @@ static u32 w2c_keywrap_unwrap_with(struct instance *instance, u64 w2c_p0, u64 w2
   w2c_j5 = w2c_p5;
   w2c_j6 = w2c_p6;
   w2c_j7 = w2c_p7;
-  w2c_i0 = w2c_f111(instance, w2c_j0, w2c_j1, w2c_j2, w2c_j3, w2c_j4, w2c_j5, w2c_j6, w2c_j7);
+  w2c_i0 = w2c_f165(instance, w2c_j0, w2c_j1, w2c_j2, w2c_j3, w2c_j4, w2c_j5, w2c_j6, w2c_j7);
   w2c_l8 = w2c_i0;
-  w2c_f1(instance);
+  w2c_f7(instance);
   w2c_i0 = w2c_l8;
   return w2c_i0;
 }
-static u32 w2c_f111(struct instance *instance, u64 w2c_p0, u64 w2c_p1, u64 w2c_p2, u64 w2c_p3, u64 w2c_p4, u64 w2c_p5, u64 w2c_p6, u64 w2c_p7) {
+static u32 w2c_f165(struct instance *instance, u64 w2c_p0, u64 w2c_p1, u64 w2c_p2, u64 w2c_p3, u64 w2c_p4, u64 w2c_p5, u64 w2c_p6, u64 w2c_p7) {
   u32 w2c_l14 = 0;
   u64 w2c_l8 = 0, w2c_l9 = 0, w2c_l10 = 0, w2c_l11 = 0, w2c_l12 = 0, w2c_l13 = 0;
   const struct memory memory = instance->w2c_memory;
@@ -19599,7 +34651,7 @@ static u32 w2c_f111(struct instance *instance, u64 w2c_p0, u64 w2c_p1, u64 w2c_p
   w2c_j2 = w2c_i4 ? w2c_j2 : w2c_j3;
   w2c_j1 += w2c_j2;
   w2c_j2 = w2c_p1;
-  w2c_f4(instance, w2c_j0, w2c_j1, w2c_j2);
+  w2c_f37(instance, w2c_j0, w2c_j1, w2c_j2);
   w2c_i0 = 3u;
   w2c_l14 = w2c_i0;
   w2c_j0 = w2c_l8;
@@ -19850,12 +34902,12 @@ static u32 w2c_f111(struct instance *instance, u64 w2c_p0, u64 w2c_p1, u64 w2c_p
   w2c_j2 |= w2c_j3;
   w2c_j3 = w2c_p1;
   w2c_j4 = w2c_p7;
-  w2c_j1 = w2c_f6(instance, w2c_j1, w2c_j2, w2c_j3, w2c_j4);
+  w2c_j1 = w2c_f39(instance, w2c_j1, w2c_j2, w2c_j3, w2c_j4);
   w2c_j2 = w2c_l9;
   w2c_j1 ^= w2c_j2;
   w2c_j2 = w2c_p1;
   w2c_j3 = w2c_p7;
-  w2c_f3(instance, w2c_j0, w2c_j1, w2c_j2, w2c_j3);
+  w2c_f13(instance, w2c_j0, w2c_j1, w2c_j2, w2c_j3);
   w2c_i0 = 5u;
   w2c_i1 = 4u;
   w2c_j2 = w2c_l8;
@@ -19888,18 +34940,18 @@ static u32 w2c_keywrap_version(struct instance *instance) {
   const struct memory memory = instance->w2c_memory;
   (void)memory;
   u32 w2c_i0;
-  w2c_i0 = w2c_f0(instance);
+  w2c_i0 = w2c_f6(instance);
   w2c_i0 = !(w2c_i0);
   if (w2c_i0) {goto w2c_B0;}
-  w2c_f2(instance);
+  w2c_f8(instance);
   UNREACHABLE;
   w2c_B0:;
-  w2c_f113(instance);
-  w2c_f1(instance);
+  w2c_f167(instance);
+  w2c_f7(instance);
   w2c_i0 = 66304u;
   return w2c_i0;
 }
-static void w2c_f113(struct instance *instance) {
+static void w2c_f167(struct instance *instance) {
   const struct memory memory = instance->w2c_memory;
   (void)memory;
   u32 w2c_i0;
@@ -19917,10 +34969,10 @@ static u32 w2c_keywrap_wrap(struct instance *instance, u64 w2c_p0, u64 w2c_p1, u
   (void)memory;
   u32 w2c_i0;
   u64 w2c_j0, w2c_j1, w2c_j2, w2c_j3, w2c_j4, w2c_j5;
-  w2c_i0 = w2c_f0(instance);
+  w2c_i0 = w2c_f6(instance);
   w2c_i0 = !(w2c_i0);
   if (w2c_i0) {goto w2c_B0;}
-  w2c_f2(instance);
+  w2c_f8(instance);
   UNREACHABLE;
   w2c_B0:;
   w2c_j0 = w2c_p0;
@@ -19929,13 +34981,13 @@ static u32 w2c_keywrap_wrap(struct instance *instance, u64 w2c_p0, u64 w2c_p1, u
   w2c_j3 = w2c_p3;
   w2c_j4 = w2c_p4;
   w2c_j5 = w2c_p5;
-  w2c_i0 = w2c_f115(instance, w2c_j0, w2c_j1, w2c_j2, w2c_j3, w2c_j4, w2c_j5);
+  w2c_i0 = w2c_f169(instance, w2c_j0, w2c_j1, w2c_j2, w2c_j3, w2c_j4, w2c_j5);
   w2c_l6 = w2c_i0;
-  w2c_f1(instance);
+  w2c_f7(instance);
   w2c_i0 = w2c_l6;
   return w2c_i0;
 }
-static u32 w2c_f115(struct instance *instance, u64 w2c_p0, u64 w2c_p1, u64 w2c_p2, u64 w2c_p3, u64 w2c_p4, u64 w2c_p5) {
+static u32 w2c_f169(struct instance *instance, u64 w2c_p0, u64 w2c_p1, u64 w2c_p2, u64 w2c_p3, u64 w2c_p4, u64 w2c_p5) {
   u32 w2c_l8 = 0;
   u64 w2c_l6 = 0, w2c_l7 = 0;
   const struct memory memory = instance->w2c_memory;
@@ -19971,7 +35023,7 @@ static u32 w2c_f115(struct instance *instance, u64 w2c_p0, u64 w2c_p1, u64 w2c_p
   w2c_j2 = w2c_i4 ? w2c_j2 : w2c_j3;
   w2c_j1 += w2c_j2;
   w2c_j2 = w2c_p1;
-  w2c_f4(instance, w2c_j0, w2c_j1, w2c_j2);
+  w2c_f37(instance, w2c_j0, w2c_j1, w2c_j2);
   w2c_i0 = 3u;
   w2c_l8 = w2c_i0;
   w2c_j0 = w2c_l7;
@@ -20116,7 +35168,7 @@ static u32 w2c_f115(struct instance *instance, u64 w2c_p0, u64 w2c_p1, u64 w2c_p
   w2c_j1 = 12008468691120727718ull;
   w2c_j2 = w2c_p4;
   w2c_j3 = w2c_p5;
-  w2c_f13(instance, w2c_j0, w2c_j1, w2c_j2, w2c_j3);
+  w2c_f44(instance, w2c_j0, w2c_j1, w2c_j2, w2c_j3);
   w2c_i0 = 0u;
   w2c_l8 = w2c_i0;
   w2c_B1:;
@@ -20137,23 +35189,23 @@ static u32 w2c_keywrap_wrap_in_place(struct instance *instance, u64 w2c_p0, u64 
   (void)memory;
   u32 w2c_i0;
   u64 w2c_j0, w2c_j1, w2c_j2, w2c_j3;
-  w2c_i0 = w2c_f0(instance);
+  w2c_i0 = w2c_f6(instance);
   w2c_i0 = !(w2c_i0);
   if (w2c_i0) {goto w2c_B0;}
-  w2c_f2(instance);
+  w2c_f8(instance);
   UNREACHABLE;
   w2c_B0:;
   w2c_j0 = w2c_p0;
   w2c_j1 = w2c_p1;
   w2c_j2 = w2c_p2;
   w2c_j3 = w2c_p3;
-  w2c_i0 = w2c_f117(instance, w2c_j0, w2c_j1, w2c_j2, w2c_j3);
+  w2c_i0 = w2c_f171(instance, w2c_j0, w2c_j1, w2c_j2, w2c_j3);
   w2c_l4 = w2c_i0;
-  w2c_f1(instance);
+  w2c_f7(instance);
   w2c_i0 = w2c_l4;
   return w2c_i0;
 }
-static u32 w2c_f117(struct instance *instance, u64 w2c_p0, u64 w2c_p1, u64 w2c_p2, u64 w2c_p3) {
+static u32 w2c_f171(struct instance *instance, u64 w2c_p0, u64 w2c_p1, u64 w2c_p2, u64 w2c_p3) {
   u32 w2c_l5 = 0;
   u64 w2c_l4 = 0;
   const struct memory memory = instance->w2c_memory;
@@ -20189,7 +35241,7 @@ static u32 w2c_f117(struct instance *instance, u64 w2c_p0, u64 w2c_p1, u64 w2c_p
   w2c_j2 = w2c_i4 ? w2c_j2 : w2c_j3;
   w2c_j1 += w2c_j2;
   w2c_j2 = w2c_p1;
-  w2c_f4(instance, w2c_j0, w2c_j1, w2c_j2);
+  w2c_f37(instance, w2c_j0, w2c_j1, w2c_j2);
   w2c_i0 = 3u;
   w2c_l5 = w2c_i0;
   w2c_j0 = w2c_l4;
@@ -20245,7 +35297,7 @@ static u32 w2c_f117(struct instance *instance, u64 w2c_p0, u64 w2c_p1, u64 w2c_p
   w2c_j3 = w2c_i5 ? w2c_j3 : w2c_j4;
   w2c_j2 += w2c_j3;
   w2c_j3 = w2c_p3;
-  w2c_f13(instance, w2c_j0, w2c_j1, w2c_j2, w2c_j3);
+  w2c_f44(instance, w2c_j0, w2c_j1, w2c_j2, w2c_j3);
   w2c_i0 = 0u;
   w2c_l5 = w2c_i0;
   w2c_B1:;
@@ -20265,10 +35317,10 @@ static u32 w2c_keywrap_wrap_many(struct instance *instance, u64 w2c_p0, u64 w2c_
   (void)memory;
   u32 w2c_i0, w2c_i5;
   u64 w2c_j0, w2c_j1, w2c_j2, w2c_j3, w2c_j4, w2c_j6, w2c_j7;
-  w2c_i0 = w2c_f0(instance);
+  w2c_i0 = w2c_f6(instance);
   w2c_i0 = !(w2c_i0);
   if (w2c_i0) {goto w2c_B0;}
-  w2c_f2(instance);
+  w2c_f8(instance);
   UNREACHABLE;
   w2c_B0:;
   w2c_j0 = w2c_p0;
@@ -20279,13 +35331,13 @@ static u32 w2c_keywrap_wrap_many(struct instance *instance, u64 w2c_p0, u64 w2c_
   w2c_i5 = w2c_p5;
   w2c_j6 = w2c_p6;
   w2c_j7 = w2c_p7;
-  w2c_i0 = w2c_f119(instance, w2c_j0, w2c_j1, w2c_j2, w2c_j3, w2c_j4, w2c_i5, w2c_j6, w2c_j7);
+  w2c_i0 = w2c_f173(instance, w2c_j0, w2c_j1, w2c_j2, w2c_j3, w2c_j4, w2c_i5, w2c_j6, w2c_j7);
   w2c_p5 = w2c_i0;
-  w2c_f1(instance);
+  w2c_f7(instance);
   w2c_i0 = w2c_p5;
   return w2c_i0;
 }
-static u32 w2c_f119(struct instance *instance, u64 w2c_p0, u64 w2c_p1, u64 w2c_p2, u64 w2c_p3, u64 w2c_p4, u32 w2c_p5, u64 w2c_p6, u64 w2c_p7) {
+static u32 w2c_f173(struct instance *instance, u64 w2c_p0, u64 w2c_p1, u64 w2c_p2, u64 w2c_p3, u64 w2c_p4, u32 w2c_p5, u64 w2c_p6, u64 w2c_p7) {
   u32 w2c_l9 = 0;
   u64 w2c_l8 = 0;
   const struct memory memory = instance->w2c_memory;
@@ -20322,7 +35374,7 @@ static u32 w2c_f119(struct instance *instance, u64 w2c_p0, u64 w2c_p1, u64 w2c_p
   w2c_j2 = w2c_i4 ? w2c_j2 : w2c_j3;
   w2c_j1 += w2c_j2;
   w2c_j2 = w2c_p1;
-  w2c_f4(instance, w2c_j0, w2c_j1, w2c_j2);
+  w2c_f37(instance, w2c_j0, w2c_j1, w2c_j2);
   w2c_i0 = 3u;
   w2c_l9 = w2c_i0;
   w2c_j0 = w2c_l8;
@@ -20428,7 +35480,7 @@ static u32 w2c_f119(struct instance *instance, u64 w2c_p0, u64 w2c_p1, u64 w2c_p
   w2c_j6 = w2c_i8 ? w2c_j6 : w2c_j7;
   w2c_j5 += w2c_j6;
   w2c_j6 = w2c_p7;
-  w2c_f23(instance, w2c_j0, w2c_i1, w2c_j2, w2c_j3, w2c_j4, w2c_j5, w2c_j6);
+  w2c_f53(instance, w2c_j0, w2c_i1, w2c_j2, w2c_j3, w2c_j4, w2c_j5, w2c_j6);
   w2c_i0 = 0u;
   w2c_l9 = w2c_i0;
   w2c_B1:;
@@ -20449,10 +35501,10 @@ static u32 w2c_keywrap_wrap_padded(struct instance *instance, u64 w2c_p0, u64 w2
   (void)memory;
   u32 w2c_i0;
   u64 w2c_j0, w2c_j1, w2c_j2, w2c_j3, w2c_j4, w2c_j5;
-  w2c_i0 = w2c_f0(instance);
+  w2c_i0 = w2c_f6(instance);
   w2c_i0 = !(w2c_i0);
   if (w2c_i0) {goto w2c_B0;}
-  w2c_f2(instance);
+  w2c_f8(instance);
   UNREACHABLE;
   w2c_B0:;
   w2c_j0 = w2c_p0;
@@ -20461,13 +35513,13 @@ static u32 w2c_keywrap_wrap_padded(struct instance *instance, u64 w2c_p0, u64 w2
   w2c_j3 = w2c_p3;
   w2c_j4 = w2c_p4;
   w2c_j5 = w2c_p5;
-  w2c_i0 = w2c_f121(instance, w2c_j0, w2c_j1, w2c_j2, w2c_j3, w2c_j4, w2c_j5);
+  w2c_i0 = w2c_f175(instance, w2c_j0, w2c_j1, w2c_j2, w2c_j3, w2c_j4, w2c_j5);
   w2c_l6 = w2c_i0;
-  w2c_f1(instance);
+  w2c_f7(instance);
   w2c_i0 = w2c_l6;
   return w2c_i0;
 }
-static u32 w2c_f121(struct instance *instance, u64 w2c_p0, u64 w2c_p1, u64 w2c_p2, u64 w2c_p3, u64 w2c_p4, u64 w2c_p5) {
+static u32 w2c_f175(struct instance *instance, u64 w2c_p0, u64 w2c_p1, u64 w2c_p2, u64 w2c_p3, u64 w2c_p4, u64 w2c_p5) {
   const struct memory memory = instance->w2c_memory;
   (void)memory;
   u32 w2c_i0, w2c_i3, w2c_i5, w2c_i7;
@@ -20496,7 +35548,7 @@ static u32 w2c_f121(struct instance *instance, u64 w2c_p0, u64 w2c_p1, u64 w2c_p
   w2c_j5 = w2c_i7 ? w2c_j5 : w2c_j6;
   w2c_j4 += w2c_j5;
   w2c_j5 = w2c_p5;
-  w2c_i0 = w2c_f20(instance, w2c_j0, w2c_j1, w2c_j2, w2c_j3, w2c_j4, w2c_j5);
+  w2c_i0 = w2c_f50(instance, w2c_j0, w2c_j1, w2c_j2, w2c_j3, w2c_j4, w2c_j5);
   return w2c_i0;
 }
 static u32 w2c_keywrap_wrap_padded_in_place(struct instance *instance, u64 w2c_p0, u64 w2c_p1, u64 w2c_p2, u64 w2c_p3, u64 w2c_p4) {
@@ -20505,10 +35557,10 @@ static u32 w2c_keywrap_wrap_padded_in_place(struct instance *instance, u64 w2c_p
   (void)memory;
   u32 w2c_i0;
   u64 w2c_j0, w2c_j1, w2c_j2, w2c_j3, w2c_j4;
-  w2c_i0 = w2c_f0(instance);
+  w2c_i0 = w2c_f6(instance);
   w2c_i0 = !(w2c_i0);
   if (w2c_i0) {goto w2c_B0;}
-  w2c_f2(instance);
+  w2c_f8(instance);
   UNREACHABLE;
   w2c_B0:;
   w2c_j0 = w2c_p0;
@@ -20516,13 +35568,13 @@ static u32 w2c_keywrap_wrap_padded_in_place(struct instance *instance, u64 w2c_p
   w2c_j2 = w2c_p2;
   w2c_j3 = w2c_p3;
   w2c_j4 = w2c_p4;
-  w2c_i0 = w2c_f123(instance, w2c_j0, w2c_j1, w2c_j2, w2c_j3, w2c_j4);
+  w2c_i0 = w2c_f177(instance, w2c_j0, w2c_j1, w2c_j2, w2c_j3, w2c_j4);
   w2c_l5 = w2c_i0;
-  w2c_f1(instance);
+  w2c_f7(instance);
   w2c_i0 = w2c_l5;
   return w2c_i0;
 }
-static u32 w2c_f123(struct instance *instance, u64 w2c_p0, u64 w2c_p1, u64 w2c_p2, u64 w2c_p3, u64 w2c_p4) {
+static u32 w2c_f177(struct instance *instance, u64 w2c_p0, u64 w2c_p1, u64 w2c_p2, u64 w2c_p3, u64 w2c_p4) {
   u32 w2c_l6 = 0;
   u64 w2c_l5 = 0;
   const struct memory memory = instance->w2c_memory;
@@ -20558,7 +35610,7 @@ static u32 w2c_f123(struct instance *instance, u64 w2c_p0, u64 w2c_p1, u64 w2c_p
   w2c_j2 = w2c_i4 ? w2c_j2 : w2c_j3;
   w2c_j1 += w2c_j2;
   w2c_j2 = w2c_p1;
-  w2c_f4(instance, w2c_j0, w2c_j1, w2c_j2);
+  w2c_f37(instance, w2c_j0, w2c_j1, w2c_j2);
   w2c_i0 = 3u;
   w2c_l6 = w2c_i0;
   w2c_j0 = w2c_l5;
@@ -20656,7 +35708,7 @@ static u32 w2c_f123(struct instance *instance, u64 w2c_p0, u64 w2c_p1, u64 w2c_p
   w2c_j1 |= w2c_j2;
   w2c_j2 = w2c_p0;
   w2c_j3 = w2c_p3;
-  w2c_f13(instance, w2c_j0, w2c_j1, w2c_j2, w2c_j3);
+  w2c_f44(instance, w2c_j0, w2c_j1, w2c_j2, w2c_j3);
   w2c_i0 = 0u;
   w2c_l6 = w2c_i0;
   w2c_B1:;
@@ -20677,10 +35729,10 @@ static u32 w2c_keywrap_wrap_with(struct instance *instance, u64 w2c_p0, u64 w2c_
   (void)memory;
   u32 w2c_i0;
   u64 w2c_j0, w2c_j1, w2c_j2, w2c_j3, w2c_j4, w2c_j5, w2c_j6, w2c_j7;
-  w2c_i0 = w2c_f0(instance);
+  w2c_i0 = w2c_f6(instance);
   w2c_i0 = !(w2c_i0);
   if (w2c_i0) {goto w2c_B0;}
-  w2c_f2(instance);
+  w2c_f8(instance);
   UNREACHABLE;
   w2c_B0:;
   w2c_j0 = w2c_p0;
@@ -20691,13 +35743,13 @@ static u32 w2c_keywrap_wrap_with(struct instance *instance, u64 w2c_p0, u64 w2c_
   w2c_j5 = w2c_p5;
   w2c_j6 = w2c_p6;
   w2c_j7 = w2c_p7;
-  w2c_i0 = w2c_f125(instance, w2c_j0, w2c_j1, w2c_j2, w2c_j3, w2c_j4, w2c_j5, w2c_j6, w2c_j7);
+  w2c_i0 = w2c_f179(instance, w2c_j0, w2c_j1, w2c_j2, w2c_j3, w2c_j4, w2c_j5, w2c_j6, w2c_j7);
   w2c_l8 = w2c_i0;
-  w2c_f1(instance);
+  w2c_f7(instance);
   w2c_i0 = w2c_l8;
   return w2c_i0;
 }
-static u32 w2c_f125(struct instance *instance, u64 w2c_p0, u64 w2c_p1, u64 w2c_p2, u64 w2c_p3, u64 w2c_p4, u64 w2c_p5, u64 w2c_p6, u64 w2c_p7) {
+static u32 w2c_f179(struct instance *instance, u64 w2c_p0, u64 w2c_p1, u64 w2c_p2, u64 w2c_p3, u64 w2c_p4, u64 w2c_p5, u64 w2c_p6, u64 w2c_p7) {
   u32 w2c_l10 = 0;
   u64 w2c_l8 = 0, w2c_l9 = 0;
   const struct memory memory = instance->w2c_memory;
@@ -20797,7 +35849,7 @@ static u32 w2c_f125(struct instance *instance, u64 w2c_p0, u64 w2c_p1, u64 w2c_p
   w2c_j2 = w2c_i4 ? w2c_j2 : w2c_j3;
   w2c_j1 += w2c_j2;
   w2c_j2 = w2c_p1;
-  w2c_f4(instance, w2c_j0, w2c_j1, w2c_j2);
+  w2c_f37(instance, w2c_j0, w2c_j1, w2c_j2);
   w2c_i0 = 3u;
   w2c_l10 = w2c_i0;
   w2c_j0 = w2c_l8;
@@ -20942,7 +35994,7 @@ static u32 w2c_f125(struct instance *instance, u64 w2c_p0, u64 w2c_p1, u64 w2c_p
   w2c_j1 = w2c_l9;
   w2c_j2 = w2c_p1;
   w2c_j3 = w2c_p7;
-  w2c_f13(instance, w2c_j0, w2c_j1, w2c_j2, w2c_j3);
+  w2c_f44(instance, w2c_j0, w2c_j1, w2c_j2, w2c_j3);
   w2c_i0 = 0u;
   w2c_l10 = w2c_i0;
   w2c_B1:;
@@ -20960,51 +36012,67 @@ static u32 w2c_f125(struct instance *instance, u64 w2c_p0, u64 w2c_p1, u64 w2c_p
 #endif
 
 #ifndef KEYWRAP_STEPS_ONLY
-/*** The calls of keywrap.h: the proved ones, which those by the processor's instructions call, too ***/
-
-#ifdef WITH_AES
-#define PROVED(type, name) static type proved_##name
-#else
-#define PROVED(type, name) type name
-#endif
+/*** The calls of keywrap.h ***/
 
 #define KEK(bytes, len) READS(bytes, len, KEYWRAP_KEK_LEN(32))
 #define MANY(bytes, len) WRITES(bytes, len, SIZE_MAX)
 
-static u64 perform(struct call *call) {
-    return perform_in(call, STACK);
-}
+/* Each call is there twice in the module: by its own tables, and by the processor's AES. CHOICE(name)
+ * declares the memory of the call, as `words`, which of the two runs, and how many words it uses. */
+#define RUN(name, given)                                                                           \
+    static u64 run_##name(struct instance *module, const struct call *call) {                      \
+        return w2c_##name given;                                                                   \
+    }
+#ifdef WITH_AES
+#define RUNS(name, given) RUN(keywrap_##name, given) RUN(aes_##name, given)
+#define CHOICE(name)                                                                               \
+    u64 words[WORDS(LARGER(STACK_keywrap_##name, STACK_aes_##name))];                              \
+    const int by_aes = keywrap_aes_available();                                                    \
+    const size_t used = by_aes ? WORDS(STACK_aes_##name) : WORDS(STACK_keywrap_##name);            \
+    run_function *const run = by_aes ? run_aes_##name : run_keywrap_##name
+#define LARGER(one, other) ((one) > (other) ? (one) : (other))
+#else
+#define RUNS(name, given) RUN(keywrap_##name, given)
+#define CHOICE(name)                                                                               \
+    u64 words[WORDS(STACK_keywrap_##name)];                                                        \
+    const size_t used = WORDS(STACK_keywrap_##name);                                               \
+    run_function *const run = run_keywrap_##name
+#endif
 
-static u64 run_version(struct instance *module, const struct call *call) {
-    (void)call;
-    return w2c_keywrap_version(module);
-}
+/* A call: its name and parameters; the arguments of the module's function; what is set in the struct
+ * call; and the buffers. */
+#define CALL(name, parameters, given, set, ...)                                                    \
+    RUNS(name, given)                                                                              \
+    int32_t keywrap_##name parameters {                                                            \
+        CHOICE(name);                                                                              \
+        struct buffer buffers[] = {__VA_ARGS__};                                                   \
+        struct call call = {.run = run, THESE set};                                                \
+        return (int32_t)perform(&call, words, used);                                               \
+    }
 
+/* It uses no memory of the module. */
 uint32_t keywrap_version(void) {
-    struct call call = {.run = run_version};
-    return (uint32_t)perform(&call);
+    struct instance module = WITHOUT_MEMORY;
+    return w2c_keywrap_version(&module);
 }
 
-static u64 run_self_test(struct instance *module, const struct call *call) {
-    (void)call;
-    return w2c_keywrap_self_test(module);
+RUNS(self_test, (((void)call, module)))
+
+int32_t keywrap_self_test(void) {
+    CHOICE(self_test);
+    struct call call = {.run = run};
+    return (int32_t)perform(&call, words, used);
 }
 
-PROVED(int32_t, keywrap_self_test)(void) {
-    struct call call = {.run = run_self_test};
-    return (int32_t)perform(&call);
-}
-
-static u64 run_status_text(struct instance *module, const struct call *call) {
-    return w2c_keywrap_status_text(module, (u32)call->number, BUFFER(0));
-}
+RUN(keywrap_status_text, (module, (u32)NUM(0), BUFFER(0)))
 
 size_t keywrap_status_text(int32_t status, char *text, size_t capacity) {
     enum { LONGEST = 80 };
+    u64 words[WORDS(STACK_keywrap_status_text)];
     u8 *bytes = (u8 *)text;
     struct buffer buffers[] = {WRITES(bytes, capacity < LONGEST ? capacity : LONGEST, LONGEST)};
-    struct call call = {.run = run_status_text, BUFFERS, .number = (u32)status};
-    return (size_t)perform(&call);
+    struct call call = {.run = run_keywrap_status_text, BUFFERS, NUMBERS((u32)status)};
+    return (size_t)perform(&call, words, WORDS(STACK_keywrap_status_text));
 }
 
 static u64 run_kek_clear(struct instance *module, const struct call *call) {
@@ -21013,86 +36081,86 @@ static u64 run_kek_clear(struct instance *module, const struct call *call) {
 }
 
 void keywrap_kek_clear(uint8_t *kept, size_t kept_len) {
+    u64 words[WORDS(STACK_keywrap_kek_clear)];
     struct buffer buffers[] = {WRITES(kept, kept_len, (size_t)1 << 30)};
     struct call call = {.run = run_kek_clear, BUFFERS};
-    perform(&call);
+    perform(&call, words, WORDS(STACK_keywrap_kek_clear));
 }
 
-CALL(SHOWN, perform, kek_init, (const uint8_t *kek, size_t kek_len, uint8_t *kept, size_t kept_len),
+CALL(kek_init, (const uint8_t *kek, size_t kek_len, uint8_t *kept, size_t kept_len),
      (module, BUFFER(0), BUFFER(1)), (BUFFERS), KEK(kek, kek_len), WRITES(kept, kept_len, kept_len))
 
-CALL(PROVED, perform, wrap, (const uint8_t *kek, size_t kek_len, const uint8_t *key, size_t key_len,
+CALL(wrap, (const uint8_t *kek, size_t kek_len, const uint8_t *key, size_t key_len,
      uint8_t *wrapped, size_t wrapped_len), (module, BUFFER(0), BUFFER(1), BUFFER(2)), (BUFFERS),
      KEK(kek, kek_len), READS(key, key_len, KEYWRAP_MAX_KEY),
      WRITES(wrapped, wrapped_len, KEYWRAP_MAX_TEXT))
 
-CALL(PROVED, perform, unwrap, (const uint8_t *kek, size_t kek_len, const uint8_t *wrapped,
-     size_t wrapped_len, uint8_t *key, size_t key_len), (module, BUFFER(0), BUFFER(1), BUFFER(2)),
-     (BUFFERS), KEK(kek, kek_len), READS(wrapped, wrapped_len, KEYWRAP_MAX_TEXT),
+CALL(unwrap, (const uint8_t *kek, size_t kek_len, const uint8_t *wrapped, size_t wrapped_len,
+     uint8_t *key, size_t key_len), (module, BUFFER(0), BUFFER(1), BUFFER(2)), (BUFFERS),
+     KEK(kek, kek_len), READS(wrapped, wrapped_len, KEYWRAP_MAX_TEXT),
      WRITES(key, key_len, KEYWRAP_MAX_KEY))
 
-CALL(PROVED, perform, wrap_with, (const uint8_t *kek, size_t kek_len, const uint8_t *iv,
-     size_t iv_len, const uint8_t *key, size_t key_len, uint8_t *wrapped, size_t wrapped_len),
+CALL(wrap_with, (const uint8_t *kek, size_t kek_len, const uint8_t *iv, size_t iv_len,
+     const uint8_t *key, size_t key_len, uint8_t *wrapped, size_t wrapped_len),
      (module, BUFFER(0), BUFFER(1), BUFFER(2), BUFFER(3)), (BUFFERS), KEK(kek, kek_len),
      READS(iv, iv_len, 8), READS(key, key_len, KEYWRAP_MAX_KEY),
      WRITES(wrapped, wrapped_len, KEYWRAP_MAX_TEXT))
 
-CALL(PROVED, perform, unwrap_with, (const uint8_t *kek, size_t kek_len, const uint8_t *iv,
-     size_t iv_len, const uint8_t *wrapped, size_t wrapped_len, uint8_t *key, size_t key_len),
+CALL(unwrap_with, (const uint8_t *kek, size_t kek_len, const uint8_t *iv, size_t iv_len,
+     const uint8_t *wrapped, size_t wrapped_len, uint8_t *key, size_t key_len),
      (module, BUFFER(0), BUFFER(1), BUFFER(2), BUFFER(3)), (BUFFERS), KEK(kek, kek_len),
      READS(iv, iv_len, 8), READS(wrapped, wrapped_len, KEYWRAP_MAX_TEXT),
      WRITES(key, key_len, KEYWRAP_MAX_KEY))
 
-CALL(PROVED, perform, wrap_padded, (const uint8_t *kek, size_t kek_len, const uint8_t *key,
-     size_t key_len, uint8_t *wrapped, size_t wrapped_len),
-     (module, BUFFER(0), BUFFER(1), BUFFER(2)), (BUFFERS), KEK(kek, kek_len),
-     READS(key, key_len, KEYWRAP_MAX_KEY), WRITES(wrapped, wrapped_len, KEYWRAP_MAX_TEXT))
+CALL(wrap_padded, (const uint8_t *kek, size_t kek_len, const uint8_t *key, size_t key_len,
+     uint8_t *wrapped, size_t wrapped_len), (module, BUFFER(0), BUFFER(1), BUFFER(2)), (BUFFERS),
+     KEK(kek, kek_len), READS(key, key_len, KEYWRAP_MAX_KEY),
+     WRITES(wrapped, wrapped_len, KEYWRAP_MAX_TEXT))
 
-CALL(PROVED, perform, unwrap_padded, (const uint8_t *kek, size_t kek_len, const uint8_t *wrapped,
-     size_t wrapped_len, uint8_t *key, size_t room, size_t *key_len),
-     (module, BUFFER(0), BUFFER(1), BUFFER(2), NUMBER), (BUFFERS, .key_len = key_len),
-     KEK(kek, kek_len), READS(wrapped, wrapped_len, KEYWRAP_MAX_TEXT),
-     WRITES(key, room, KEYWRAP_MAX_KEY))
+CALL(unwrap_padded, (const uint8_t *kek, size_t kek_len, const uint8_t *wrapped, size_t wrapped_len,
+     uint8_t *key, size_t room, size_t *key_len), (module, BUFFER(0), BUFFER(1), BUFFER(2), NUMBER),
+     (BUFFERS, .key_len = key_len), KEK(kek, kek_len),
+     READS(wrapped, wrapped_len, KEYWRAP_MAX_TEXT), WRITES(key, room, KEYWRAP_MAX_KEY))
 
-CALL(PROVED, perform, wrap_in_place, (const uint8_t *kek, size_t kek_len, uint8_t *buffer,
-     size_t wrapped_len), (module, BUFFER(0), BUFFER(1)), (BUFFERS), KEK(kek, kek_len),
+CALL(wrap_in_place, (const uint8_t *kek, size_t kek_len, uint8_t *buffer, size_t wrapped_len),
+     (module, BUFFER(0), BUFFER(1)), (BUFFERS), KEK(kek, kek_len),
      WRITES(buffer, wrapped_len, KEYWRAP_MAX_TEXT))
 
-CALL(PROVED, perform, unwrap_in_place, (const uint8_t *kek, size_t kek_len, uint8_t *buffer,
-     size_t wrapped_len), (module, BUFFER(0), BUFFER(1)), (BUFFERS), KEK(kek, kek_len),
+CALL(unwrap_in_place, (const uint8_t *kek, size_t kek_len, uint8_t *buffer, size_t wrapped_len),
+     (module, BUFFER(0), BUFFER(1)), (BUFFERS), KEK(kek, kek_len),
      WRITES(buffer, wrapped_len, KEYWRAP_MAX_TEXT))
 
-CALL(PROVED, perform, wrap_padded_in_place, (const uint8_t *kek, size_t kek_len, uint8_t *buffer,
-     size_t wrapped_len, size_t key_len), (module, BUFFER(0), BUFFER(1), call->number),
-     (BUFFERS, .number = key_len), KEK(kek, kek_len), WRITES(buffer, wrapped_len, KEYWRAP_MAX_TEXT))
+CALL(wrap_padded_in_place, (const uint8_t *kek, size_t kek_len, uint8_t *buffer, size_t wrapped_len,
+     size_t key_len), (module, BUFFER(0), BUFFER(1), NUM(0)), (BUFFERS, NUMBERS(key_len)),
+     KEK(kek, kek_len), WRITES(buffer, wrapped_len, KEYWRAP_MAX_TEXT))
 
-CALL(PROVED, perform, unwrap_padded_in_place, (const uint8_t *kek, size_t kek_len, uint8_t *buffer,
+CALL(unwrap_padded_in_place, (const uint8_t *kek, size_t kek_len, uint8_t *buffer,
      size_t wrapped_len, size_t *key_len), (module, BUFFER(0), BUFFER(1), NUMBER),
      (BUFFERS, .key_len = key_len), KEK(kek, kek_len),
      WRITES(buffer, wrapped_len, KEYWRAP_MAX_TEXT))
 
-CALL(PROVED, perform, kind, (const uint8_t *kek, size_t kek_len, const uint8_t *wrapped,
-     size_t wrapped_len, uint8_t *scratch, size_t room, uint32_t *padded, size_t *key_len),
+CALL(kind, (const uint8_t *kek, size_t kek_len, const uint8_t *wrapped, size_t wrapped_len,
+     uint8_t *scratch, size_t room, uint32_t *padded, size_t *key_len),
      (module, BUFFER(0), BUFFER(1), BUFFER(2), FLAG, NUMBER),
      (BUFFERS, .flag = padded, .key_len = key_len), KEK(kek, kek_len),
      READS(wrapped, wrapped_len, KEYWRAP_MAX_TEXT), WRITES(scratch, room, KEYWRAP_MAX_KEY))
 
-CALL(PROVED, perform, unwrap_any, (const uint8_t *kek, size_t kek_len, const uint8_t *wrapped,
-     size_t wrapped_len, uint8_t *key, size_t room, uint32_t *padded, size_t *key_len),
+CALL(unwrap_any, (const uint8_t *kek, size_t kek_len, const uint8_t *wrapped, size_t wrapped_len,
+     uint8_t *key, size_t room, uint32_t *padded, size_t *key_len),
      (module, BUFFER(0), BUFFER(1), BUFFER(2), FLAG, NUMBER),
      (BUFFERS, .flag = padded, .key_len = key_len), KEK(kek, kek_len),
      READS(wrapped, wrapped_len, KEYWRAP_MAX_TEXT), WRITES(key, room, KEYWRAP_MAX_KEY))
 
-CALL(PROVED, perform, rewrap, (const uint8_t *old_kek, size_t old_kek_len, const uint8_t *new_kek,
+CALL(rewrap, (const uint8_t *old_kek, size_t old_kek_len, const uint8_t *new_kek,
      size_t new_kek_len, uint8_t *buffer, size_t wrapped_len, uint32_t flags, uint32_t *already),
-     (module, BUFFER(0), BUFFER(1), BUFFER(2), call->flags, FLAG),
-     (BUFFERS, .flags = flags, .flag = already), KEK(old_kek, old_kek_len),
+     (module, BUFFER(0), BUFFER(1), BUFFER(2), (u32)NUM(0), FLAG),
+     (BUFFERS, .flag = already, NUMBERS(flags)), KEK(old_kek, old_kek_len),
      KEK(new_kek, new_kek_len), WRITES(buffer, wrapped_len, KEYWRAP_MAX_TEXT))
 
-CALL(PROVED, perform, rewrap_in_place, (const uint8_t *old_kek, size_t old_kek_len,
-     const uint8_t *new_kek, size_t new_kek_len, uint8_t *buffer, size_t wrapped_len,
-     uint32_t forms), (module, BUFFER(0), BUFFER(1), BUFFER(2), call->flags),
-     (BUFFERS, .flags = forms), KEK(old_kek, old_kek_len), KEK(new_kek, new_kek_len),
+CALL(rewrap_in_place, (const uint8_t *old_kek, size_t old_kek_len, const uint8_t *new_kek,
+     size_t new_kek_len, uint8_t *buffer, size_t wrapped_len, uint32_t forms),
+     (module, BUFFER(0), BUFFER(1), BUFFER(2), (u32)NUM(0)), (BUFFERS, NUMBERS(forms)),
+     KEK(old_kek, old_kek_len), KEK(new_kek, new_kek_len),
      WRITES(buffer, wrapped_len, KEYWRAP_MAX_TEXT))
 
 /* The number of slots, or 0, which the call refuses: a slot is shorter or longer than any wrapped
@@ -21102,8 +36170,15 @@ static size_t slots_of(size_t texts_len, size_t count, size_t lens) {
     return texts_len / count < 16 || texts_len / count > KEYWRAP_MAX_TEXT ? 0 : count;
 }
 
-/* The lengths of keys that one run of the module returns. */
+/* Whether a length in the module's memory is what a size_t is here. Otherwise a run of the module
+ * returns at most so many lengths, which are copied. */
+#if SIZE_MAX == UINT64_MAX
+#define SAME_LENS (MODULE_ORDER((u64)1, 8) == 1)
+#else
+#define SAME_LENS 0
+#endif
 enum { MOST_LENS = 32 };
+#define LENS(key_lens) MANY(SAME_LENS ? (u8 *)(key_lens + done) : lens, 8 * now)
 
 /* How many of the slots that are left one run takes: the module has addresses of 32 bits. */
 static size_t slots_now(size_t left, size_t text_len, size_t most) {
@@ -21125,10 +36200,9 @@ static void put_lens(size_t *key_lens, const u8 *bytes, size_t count) {
  * arguments of the module's function; what is set in the struct call; how many slots there are, and how
  * many one run takes; and the buffers. It puts what the module returned in `lens` into `key_lens`. */
 #define CALL_OF_MANY(name, parameters, given, set, all, most, key_lens, ...)                       \
-    static u64 run_##name(struct instance *module, const struct call *call) {                      \
-        return w2c_keywrap_##name given;                                                           \
-    }                                                                                              \
-    PROVED(int32_t, keywrap_##name) parameters {                                                   \
+    RUNS(name, given)                                                                              \
+    int32_t keywrap_##name parameters {                                                            \
+        CHOICE(name);                                                                              \
         const size_t slots = all, len = slots ? texts_len / slots : 0;                             \
         u8 lens[8 * MOST_LENS];                                                                    \
         int32_t status;                                                                            \
@@ -21137,8 +36211,8 @@ static void put_lens(size_t *key_lens, const u8 *bytes, size_t count) {
         do {                                                                                       \
             const size_t now = slots_now(slots - done, len, most);                                 \
             struct buffer buffers[] = {__VA_ARGS__};                                               \
-            struct call call = {.run = run_##name, THESE set};                                     \
-            status = (int32_t)perform(&call);                                                      \
+            struct call call = {.run = run, THESE set};                                            \
+            status = (int32_t)perform(&call, words, used);                                         \
             if (to && status == KEYWRAP_OK) put_lens(to + done, lens, now);                        \
             done += now;                                                                           \
         } while (status == KEYWRAP_OK && done < slots);                                            \
@@ -21148,24 +36222,25 @@ static void put_lens(size_t *key_lens, const u8 *bytes, size_t count) {
 CALL_OF_MANY(rewrap_many,
      (const uint8_t *old_kek, size_t old_kek_len, const uint8_t *new_kek, size_t new_kek_len,
       uint8_t *texts, size_t texts_len, uint32_t flags, uint8_t *statuses, size_t count),
-     (module, BUFFER(0), BUFFER(1), BUFFER(2), (u32)call->number, BUFFER(3)),
-     (BUFFERS, .number = flags), slots_of(texts_len, count, count), SIZE_MAX, NULL,
+     (module, BUFFER(0), BUFFER(1), BUFFER(2), (u32)NUM(0), BUFFER(3)),
+     (BUFFERS, NUMBERS(flags)), slots_of(texts_len, count, count), SIZE_MAX, NULL,
      KEK(old_kek, old_kek_len), KEK(new_kek, new_kek_len), MANY(texts + len * done, len * now),
      MANY(statuses + done, now))
 
 CALL_OF_MANY(wrap_many,
      (const uint8_t *kek, size_t kek_len, uint8_t *texts, size_t texts_len, size_t key_len,
       uint32_t flags, uint8_t *statuses, size_t count),
-     (module, BUFFER(0), BUFFER(1), call->number, call->flags, BUFFER(2)),
-     (BUFFERS, .number = key_len, .flags = flags), slots_of(texts_len, count, count), SIZE_MAX, NULL,
+     (module, BUFFER(0), BUFFER(1), NUM(0), (u32)NUM(1), BUFFER(2)),
+     (BUFFERS, NUMBERS(key_len, flags)), slots_of(texts_len, count, count), SIZE_MAX, NULL,
      KEK(kek, kek_len), MANY(texts + len * done, len * now), MANY(statuses + done, now))
 
 CALL_OF_MANY(unwrap_many,
      (const uint8_t *kek, size_t kek_len, uint8_t *texts, size_t texts_len, uint32_t flags,
       size_t *key_lens, size_t key_lens_count, uint8_t *statuses, size_t count),
-     (module, BUFFER(0), BUFFER(1), (u32)call->number, ADDRESS(2), call->buffers[3].len, BUFFER(3)),
-     (BUFFERS, .number = flags), slots_of(texts_len, count, key_lens_count), MOST_LENS, key_lens,
-     KEK(kek, kek_len), MANY(texts + len * done, len * now), MANY(lens, 8 * now),
+     (module, BUFFER(0), BUFFER(1), (u32)NUM(0), ADDRESS(2), call->buffers[3].len, BUFFER(3)),
+     (BUFFERS, NUMBERS(flags)), slots_of(texts_len, count, key_lens_count),
+     SAME_LENS ? SIZE_MAX : MOST_LENS, SAME_LENS ? NULL : key_lens,
+     KEK(kek, kek_len), MANY(texts + len * done, len * now), LENS(key_lens),
      MANY(statuses + done, now))
 
 CALL_OF_MANY(kind_many,
@@ -21173,22 +36248,34 @@ CALL_OF_MANY(kind_many,
       size_t room, uint8_t *forms, size_t forms_count, size_t *key_lens, size_t key_lens_count,
       uint8_t *statuses, size_t count),
      (module, BUFFER(0), BUFFER(1), BUFFER(2), BUFFER(3), ADDRESS(4), call->buffers[5].len, BUFFER(5)),
-     (BUFFERS), forms_count == count ? slots_of(texts_len, count, key_lens_count) : 0, MOST_LENS,
-     key_lens,
+     (BUFFERS), forms_count == count ? slots_of(texts_len, count, key_lens_count) : 0,
+     SAME_LENS ? SIZE_MAX : MOST_LENS, SAME_LENS ? NULL : key_lens,
      KEK(kek, kek_len), READS(texts + len * done, len * now, SIZE_MAX),
-     WRITES(scratch, room, KEYWRAP_MAX_KEY), MANY(forms + done, now), MANY(lens, 8 * now),
+     WRITES(scratch, room, KEYWRAP_MAX_KEY), MANY(forms + done, now), LENS(key_lens),
      MANY(statuses + done, now))
 #endif
 
 /*** The calls of keywrap_steps.h ***/
 
-ALWAYS_INLINE u64 perform_steps(struct call *call) {
-    return perform_in(call, STEP_STACK);
-}
+/* A call: its name and parameters; the arguments of the module's function; what is set in the struct
+ * call; and the buffers. */
+#define STEP(name, parameters, given, set, ...)                                                    \
+    static u64 run_##name(struct instance *module, const struct call *call) {                      \
+        return w2c_keywrap_##name given;                                                           \
+    }                                                                                              \
+    int32_t keywrap_##name parameters {                                                            \
+        u64 words[WORDS(STACK_keywrap_##name)];                                                    \
+        struct buffer buffers[] = {__VA_ARGS__};                                                   \
+        struct call call = {.run = run_##name, THESE set};                                         \
+        return (int32_t)perform(&call, words, WORDS(STACK_keywrap_##name));                        \
+    }
 
-ALWAYS_INLINE u64 perform_turn(struct call *call) {
-    return perform_in(call, STEPS_STACK);
-}
+/* The module has addresses of 32 bits. Of a longer buffer it sees a length that none of the calls for
+ * many keys takes. */
+#define MOST_OF_MANY ((size_t)1 << 30)
+#define OF_MANY(len) ((len) > MOST_OF_MANY ? 1 : (len))
+#define READS_OF_MANY(bytes, len) READS(bytes, OF_MANY(len), MOST_OF_MANY)
+#define WRITES_OF_MANY(bytes, len) WRITES(bytes, OF_MANY(len), MOST_OF_MANY)
 
 /* It uses no memory of the module. */
 uint64_t keywrap_step_count(size_t len) {
@@ -21196,1233 +36283,98 @@ uint64_t keywrap_step_count(size_t len) {
     return w2c_keywrap_step_count(&module, len);
 }
 
-CALL(SHOWN, perform_steps, begin_wrap, (const uint8_t *iv, size_t iv_len, const uint8_t *registers,
-     size_t len, uint64_t *done, uint8_t *block), (module, BUFFER(0), BUFFER(1), NUMBER, BLOCK_AT),
+STEP(begin_wrap, (const uint8_t *iv, size_t iv_len, const uint8_t *registers, size_t len,
+     uint64_t *done, uint8_t *block), (module, BUFFER(0), BUFFER(1), NUMBER, BLOCK_AT),
      (BUFFERS, .steps = done, .block = block, .begins = 1), READS(iv, iv_len, 8),
      READS(registers, len, KEYWRAP_MAX_KEY))
 
-CALL(SHOWN, perform_steps, begin_wrap_padded, (size_t key_len, uint8_t *registers, size_t len,
-     uint64_t *done, uint8_t *block), (module, call->number, BUFFER(0), NUMBER, BLOCK_AT),
-     (BUFFERS, .number = key_len, .steps = done, .block = block, .begins = 1),
+STEP(begin_wrap_padded, (size_t key_len, uint8_t *registers, size_t len, uint64_t *done,
+     uint8_t *block), (module, NUM(0), BUFFER(0), NUMBER, BLOCK_AT),
+     (BUFFERS, .steps = done, .block = block, NUMBERS(key_len), .begins = 1),
      WRITES(registers, len, KEYWRAP_MAX_KEY))
 
-CALL(SHOWN, perform_steps, step_wrap, (uint8_t *registers, size_t len, uint64_t *done,
-     uint8_t *block), (module, BUFFER(0), NUMBER, BLOCK_AT),
-     (BUFFERS, .steps = done, .block = block), WRITES(registers, len, KEYWRAP_MAX_KEY))
+STEP(step_wrap, (uint8_t *registers, size_t len, uint64_t *done, uint8_t *block),
+     (module, BUFFER(0), NUMBER, BLOCK_AT), (BUFFERS, .steps = done, .block = block),
+     WRITES(registers, len, KEYWRAP_MAX_KEY))
 
-CALL(SHOWN, perform_steps, end_wrap, (uint8_t *first, const uint8_t *registers, size_t len,
-     uint64_t done, const uint8_t *block),
-     (module, ADDRESS(0), BUFFER(1), call->number, ADDRESS(2)), (BUFFERS, .number = done),
-     WRITES(first, 8, 8), READS(registers, len, KEYWRAP_MAX_KEY), READS(block, 16, 16))
+STEP(end_wrap, (uint8_t *first, const uint8_t *registers, size_t len, uint64_t done,
+     const uint8_t *block), (module, ADDRESS(0), BUFFER(1), NUM(0), ADDRESS(2)),
+     (BUFFERS, NUMBERS(done)), WRITES(first, 8, 8), READS(registers, len, KEYWRAP_MAX_KEY),
+     READS(block, 16, 16))
 
-CALL(SHOWN, perform_steps, begin_unwrap, (const uint8_t *first, const uint8_t *registers,
-     size_t len, uint64_t *left, uint8_t *block), (module, ADDRESS(0), BUFFER(1), NUMBER, BLOCK_AT),
+STEP(begin_unwrap, (const uint8_t *first, const uint8_t *registers, size_t len, uint64_t *left,
+     uint8_t *block), (module, ADDRESS(0), BUFFER(1), NUMBER, BLOCK_AT),
      (BUFFERS, .steps = left, .block = block, .begins = 1), READS(first, 8, 8),
      READS(registers, len, KEYWRAP_MAX_KEY))
 
-CALL(SHOWN, perform_steps, begin_unwrap_padded, (const uint8_t *first, const uint8_t *registers,
-     size_t len, uint64_t *left, uint8_t *block), (module, ADDRESS(0), BUFFER(1), NUMBER, BLOCK_AT),
+STEP(begin_unwrap_padded, (const uint8_t *first, const uint8_t *registers, size_t len,
+     uint64_t *left, uint8_t *block), (module, ADDRESS(0), BUFFER(1), NUMBER, BLOCK_AT),
      (BUFFERS, .steps = left, .block = block, .begins = 1), READS(first, 8, 8),
      READS(registers, len, KEYWRAP_MAX_KEY))
 
-CALL(SHOWN, perform_steps, step_unwrap, (uint8_t *registers, size_t len, uint64_t *left,
-     uint8_t *block), (module, BUFFER(0), NUMBER, BLOCK_AT),
-     (BUFFERS, .steps = left, .block = block), WRITES(registers, len, KEYWRAP_MAX_KEY))
-
-CALL(SHOWN, perform_steps, end_unwrap, (const uint8_t *iv, size_t iv_len, uint8_t *registers,
-     size_t len, uint64_t left, uint8_t *block),
-     (module, BUFFER(0), BUFFER(1), call->number, BLOCK_AT),
-     (BUFFERS, .number = left, .block = block), READS(iv, iv_len, 8),
+STEP(step_unwrap, (uint8_t *registers, size_t len, uint64_t *left, uint8_t *block),
+     (module, BUFFER(0), NUMBER, BLOCK_AT), (BUFFERS, .steps = left, .block = block),
      WRITES(registers, len, KEYWRAP_MAX_KEY))
 
-CALL(SHOWN, perform_steps, end_unwrap_padded, (uint8_t *registers, size_t len, uint64_t left,
-     uint8_t *block, size_t *key_len), (module, BUFFER(0), call->number, BLOCK_AT, NUMBER),
-     (BUFFERS, .number = left, .block = block, .key_len = key_len),
+STEP(end_unwrap, (const uint8_t *iv, size_t iv_len, uint8_t *registers, size_t len, uint64_t left,
+     uint8_t *block), (module, BUFFER(0), BUFFER(1), NUM(0), BLOCK_AT),
+     (BUFFERS, .block = block, NUMBERS(left)), READS(iv, iv_len, 8),
      WRITES(registers, len, KEYWRAP_MAX_KEY))
 
-CALL(SHOWN, perform_steps, end_unwrap_any, (uint8_t *registers, size_t len, uint64_t left,
-     uint8_t *block, uint32_t *padded, size_t *key_len),
-     (module, BUFFER(0), call->number, BLOCK_AT, FLAG, NUMBER),
-     (BUFFERS, .number = left, .block = block, .flag = padded, .key_len = key_len),
+STEP(end_unwrap_padded, (uint8_t *registers, size_t len, uint64_t left, uint8_t *block,
+     size_t *key_len), (module, BUFFER(0), NUM(0), BLOCK_AT, NUMBER),
+     (BUFFERS, .block = block, .key_len = key_len, NUMBERS(left)),
      WRITES(registers, len, KEYWRAP_MAX_KEY))
 
-CALL(SHOWN, perform_steps, begin_rewrap, (uint32_t flags, const uint8_t *text, size_t text_len,
-     uint32_t *phase, uint64_t *steps, uint8_t *block),
-     (module, call->flags, BUFFER(0), FLAG, NUMBER, BLOCK_AT),
-     (BUFFERS, .flags = flags, .flag = phase, .steps = steps, .block = block, .begins = 1),
+STEP(end_unwrap_any, (uint8_t *registers, size_t len, uint64_t left, uint8_t *block,
+     uint32_t *padded, size_t *key_len), (module, BUFFER(0), NUM(0), BLOCK_AT, FLAG, NUMBER),
+     (BUFFERS, .block = block, .flag = padded, .key_len = key_len, NUMBERS(left)),
+     WRITES(registers, len, KEYWRAP_MAX_KEY))
+
+STEP(begin_rewrap, (uint32_t flags, const uint8_t *text, size_t text_len, uint32_t *phase,
+     uint64_t *steps, uint8_t *block), (module, (u32)NUM(0), BUFFER(0), FLAG, NUMBER, BLOCK_AT),
+     (BUFFERS, .flag = phase, .steps = steps, .block = block, NUMBERS(flags), .begins = 1),
      READS(text, text_len, KEYWRAP_MAX_TEXT))
 
-CALL(SHOWN, perform_turn, next_rewrap, (uint32_t flags, uint8_t *text, size_t text_len,
-     uint32_t *phase, uint64_t *steps, uint8_t *block),
-     (module, call->flags, BUFFER(0), FLAG, NUMBER, BLOCK_AT),
-     (BUFFERS, .flags = flags, .flag = phase, .steps = steps, .block = block),
+STEP(next_rewrap, (uint32_t flags, uint8_t *text, size_t text_len, uint32_t *phase, uint64_t *steps,
+     uint8_t *block), (module, (u32)NUM(0), BUFFER(0), FLAG, NUMBER, BLOCK_AT),
+     (BUFFERS, .flag = phase, .steps = steps, .block = block, NUMBERS(flags)),
      WRITES(text, text_len, KEYWRAP_MAX_TEXT))
 
-CALL(SHOWN, perform_turn, next_rewrap_from, (uint32_t flags, const uint8_t *copy, size_t copy_len,
-     uint8_t *text, size_t text_len, uint32_t *phase, uint64_t *steps, uint8_t *block),
-     (module, call->flags, BUFFER(0), BUFFER(1), FLAG, NUMBER, BLOCK_AT),
-     (BUFFERS, .flags = flags, .flag = phase, .steps = steps, .block = block),
+STEP(next_rewrap_from, (uint32_t flags, const uint8_t *copy, size_t copy_len, uint8_t *text,
+     size_t text_len, uint32_t *phase, uint64_t *steps, uint8_t *block),
+     (module, (u32)NUM(0), BUFFER(0), BUFFER(1), FLAG, NUMBER, BLOCK_AT),
+     (BUFFERS, .flag = phase, .steps = steps, .block = block, NUMBERS(flags)),
      READS(copy, copy_len, KEYWRAP_MAX_TEXT), WRITES(text, text_len, KEYWRAP_MAX_TEXT))
 
-#ifdef WITH_AES
-/*** The calls by the processor's AES ***/
-
-/* aes.h: AES by the processor's instructions (FIPS 197), chosen at run time. A key schedule is the
- * standard's, 16 bytes for each round key: 176, 208 or 240 bytes. */
-
-#ifndef KEYWRAP_AES_H
-#define KEYWRAP_AES_H
-
-#include <stdbool.h>
-
-/* The bytes of a block and of the longest key schedule; the blocks that are worked on at once. */
-enum { BLOCK = 16, SCHEDULE = 240, GROUP = 8 };
-
-/* Returns whether the processor has the instructions and they passed a known-answer test. The first
- * call decides. Threads may make it at once. */
-static APART bool keywrap_aes_available(void);
-
-/* Makes that test. The processor needs the instructions for it, as for all functions below. */
-static APART bool keywrap_aes_known_answers(void);
-
-/* Writes the key schedule of a KEK of 16, 24 or 32 bytes. */
-static APART void keywrap_aes_expand(const uint8_t *kek, size_t kek_len, uint8_t *schedule, size_t len);
-
-/* Encrypts or decrypts one block. */
-static APART void keywrap_aes_encrypt(const uint8_t *schedule, size_t len, uint8_t block[BLOCK]);
-static APART void keywrap_aes_decrypt(const uint8_t *schedule, size_t len, uint8_t block[BLOCK]);
-
-/* Encrypts or decrypts each block of a buffer of whole blocks. */
-static APART void keywrap_aes_encrypt_many(const uint8_t *schedule, size_t len, uint8_t *blocks,
-                              size_t blocks_len);
-static APART void keywrap_aes_decrypt_many(const uint8_t *schedule, size_t len, uint8_t *blocks,
-                              size_t blocks_len);
-
-/* Clears the memory of a key schedule, and what the call that used it has left below this function's
- * frame: the block of the last step, and words of it. */
-static APART void keywrap_aes_clear(uint8_t room[SCHEDULE]);
-
-/* x86_64.c and aarch64.c have these, and the functions above for a KEK and for one block. The first
- * returns whether the processor has the instructions. The others work on whole groups of blocks. */
-static APART bool keywrap_aes_has_instructions(void);
-static APART void keywrap_aes_encrypt_groups(const uint8_t *schedule, size_t len, uint8_t *blocks,
-                                size_t blocks_len);
-static APART void keywrap_aes_decrypt_groups(const uint8_t *schedule, size_t len, uint8_t *blocks,
-                                size_t blocks_len);
-
-/* Clears memory even if nothing reads it afterwards. */
-static inline void wipe(void *memory, size_t len) {
-    memset(memory, 0, len);
-    __asm__ volatile("" : : "r"(memory) : "memory");
-}
-
-#endif
-
-/* x86_64.c: AES by AES-NI. The block is loaded as two words of 8 bytes: a load of 16 bytes would
- * wait for the two stores of the step before. */
-
-#ifdef __x86_64__
-
-#include <cpuid.h>
-#include <wmmintrin.h>
-
-
-#define BY_AES __attribute__((target("aes,sse2")))
-
-bool keywrap_aes_has_instructions(void) {
-    unsigned a, b, c, d;
-    return __get_cpuid(1, &a, &b, &c, &d) && (c & bit_AES);
-}
-
-BY_AES static __m128i round_key(const uint8_t *schedule, size_t i) {
-    return _mm_loadu_si128((const __m128i *)(schedule + BLOCK * i));
-}
-
-BY_AES static void set_round_key(uint8_t *schedule, size_t i, __m128i key) {
-    _mm_storeu_si128((__m128i *)(schedule + BLOCK * i), key);
-}
-
-/* Each word is the sum of the words up to it. */
-BY_AES static __m128i sums(__m128i words) {
-    words = _mm_xor_si128(words, _mm_slli_si128(words, 4));
-    return _mm_xor_si128(words, _mm_slli_si128(words, 8));
-}
-
-/* SubWord and an addition, in four equal words: ShiftRows changes nothing in equal columns. This is
- * several times as fast as AESKEYGENASSIST. */
-BY_AES static __m128i sub_words(__m128i words, __m128i constant) {
-    return _mm_aesenclast_si128(words, constant);
-}
-
-/* RotWord, in four equal words. */
-BY_AES static __m128i rotated(__m128i words) {
-    return _mm_or_si128(_mm_srli_epi32(words, 8), _mm_slli_epi32(words, 24));
-}
-
-BY_AES static void expand_16(uint8_t *schedule, __m128i a) {
-    __m128i constant = _mm_set1_epi32(1);
-    set_round_key(schedule, 0, a);
-    for (unsigned i = 1; i <= 10; i++) {
-        __m128i last = rotated(_mm_shuffle_epi32(a, 0xff));
-        if (i == 9) constant = _mm_set1_epi32(0x1b);
-        a = _mm_xor_si128(sums(a), sub_words(last, constant));
-        set_round_key(schedule, i, a);
-        constant = _mm_slli_epi32(constant, 1);
-    }
-}
-
-/* Turns: six words each, in a and the lower half of b. */
-BY_AES static void expand_24(uint8_t *at, __m128i a, __m128i b) {
-    __m128i constant = _mm_set1_epi32(1);
-    for (unsigned turn = 0;; turn++, at += 24) {
-        _mm_storeu_si128((__m128i *)at, a);
-        if (turn == 8) break;
-        _mm_storel_epi64((__m128i *)(at + 16), b);
-        __m128i last = rotated(_mm_shuffle_epi32(b, 0x55));
-        a = _mm_xor_si128(sums(a), sub_words(last, constant));
-        b = _mm_xor_si128(sums(b), _mm_shuffle_epi32(a, 0xff));
-        constant = _mm_slli_epi32(constant, 1);
-    }
-}
-
-BY_AES static void expand_32(uint8_t *schedule, __m128i a, __m128i b) {
-    __m128i constant = _mm_set1_epi32(1);
-    set_round_key(schedule, 0, a);
-    set_round_key(schedule, 1, b);
-    for (unsigned i = 2;; i += 2) {
-        a = _mm_xor_si128(sums(a), sub_words(rotated(_mm_shuffle_epi32(b, 0xff)), constant));
-        set_round_key(schedule, i, a);
-        if (i == 14) break;
-        b = _mm_xor_si128(sums(b), sub_words(_mm_shuffle_epi32(a, 0xff), _mm_setzero_si128()));
-        set_round_key(schedule, i + 1, b);
-        constant = _mm_slli_epi32(constant, 1);
-    }
-}
-
-BY_AES void keywrap_aes_expand(const uint8_t *kek, size_t kek_len, uint8_t *schedule, size_t len) {
-    __m128i a = _mm_loadu_si128((const __m128i *)kek);
-    (void)len;
-    if (kek_len == 16) expand_16(schedule, a);
-    else if (kek_len == 24) expand_24(schedule, a, _mm_loadl_epi64((const __m128i *)(kek + 16)));
-    else expand_32(schedule, a, _mm_loadu_si128((const __m128i *)(kek + 16)));
-}
-
-BY_AES static __m128i load(const uint8_t block[BLOCK]) {
-    __m128i low = _mm_loadl_epi64((const __m128i *)block);
-    __m128i high = _mm_loadl_epi64((const __m128i *)(block + 8));
-    return _mm_unpacklo_epi64(low, high);
-}
-
-/* Adds the first round key. Only the lower half of a block depends on the AES of the block before, so
- * it is added last: the empty asm keeps the compiler from another order. */
-BY_AES static __m128i begin(__m128i key, const uint8_t block[BLOCK]) {
-    __m128i high = _mm_loadl_epi64((const __m128i *)(block + 8));
-    __m128i state = _mm_xor_si128(_mm_slli_si128(high, 8), key);
-    __asm__("" : "+x"(state));
-    return _mm_xor_si128(state, _mm_loadl_epi64((const __m128i *)block));
-}
-
-BY_AES void keywrap_aes_encrypt(const uint8_t *schedule, size_t len, uint8_t block[BLOCK]) {
-    const size_t rounds = len / BLOCK - 1;
-    __m128i state = begin(round_key(schedule, 0), block);
-    for (size_t i = 1; i < rounds; i++) state = _mm_aesenc_si128(state, round_key(schedule, i));
-    state = _mm_aesenclast_si128(state, round_key(schedule, rounds));
-    _mm_storeu_si128((__m128i *)block, state);
-}
-
-/* The equivalent inverse cipher (section 5.3.5). Its round keys are made on the way: this does not
- * wait for the block, and so takes no time. */
-BY_AES void keywrap_aes_decrypt(const uint8_t *schedule, size_t len, uint8_t block[BLOCK]) {
-    size_t i = len / BLOCK - 1;
-    __m128i state = begin(round_key(schedule, i), block);
-    while (--i > 0) state = _mm_aesdec_si128(state, _mm_aesimc_si128(round_key(schedule, i)));
-    state = _mm_aesdeclast_si128(state, round_key(schedule, 0));
-    _mm_storeu_si128((__m128i *)block, state);
-}
-
-/* The processor begins a round of each block before the round of the first one ends. */
-#define EACH(X) X(0) X(1) X(2) X(3) X(4) X(5) X(6) X(7)
-#define BEGIN(i) __m128i b##i = _mm_xor_si128(load(blocks + BLOCK * i), key);
-#define END(i) _mm_storeu_si128((__m128i *)(blocks + BLOCK * i), b##i);
-#define ENCRYPT(i) b##i = _mm_aesenc_si128(b##i, key);
-#define ENCRYPT_LAST(i) b##i = _mm_aesenclast_si128(b##i, key);
-#define DECRYPT(i) b##i = _mm_aesdec_si128(b##i, key);
-#define DECRYPT_LAST(i) b##i = _mm_aesdeclast_si128(b##i, key);
-
-BY_AES static void encrypt_8(const uint8_t *schedule, size_t rounds, uint8_t *blocks) {
-    __m128i key = round_key(schedule, 0);
-    EACH(BEGIN)
-    for (size_t i = 1; i < rounds; i++) {
-        key = round_key(schedule, i);
-        EACH(ENCRYPT)
-    }
-    key = round_key(schedule, rounds);
-    EACH(ENCRYPT_LAST)
-    EACH(END)
-}
-
-/* By a schedule that is inverted. */
-BY_AES static void decrypt_8(const uint8_t *inverted, size_t rounds, uint8_t *blocks) {
-    __m128i key = round_key(inverted, 0);
-    EACH(BEGIN)
-    for (size_t i = 1; i < rounds; i++) {
-        key = round_key(inverted, i);
-        EACH(DECRYPT)
-    }
-    key = round_key(inverted, rounds);
-    EACH(DECRYPT_LAST)
-    EACH(END)
-}
-
-/* The schedule of the equivalent inverse cipher (section 5.3.5): in the other order, with all round
- * keys but the outer two mixed. */
-BY_AES static void invert(const uint8_t *schedule, size_t rounds, uint8_t *inverted) {
-    set_round_key(inverted, 0, round_key(schedule, rounds));
-    for (size_t i = 1; i < rounds; i++)
-        set_round_key(inverted, i, _mm_aesimc_si128(round_key(schedule, rounds - i)));
-    set_round_key(inverted, rounds, round_key(schedule, 0));
-}
-
-/* Clears a schedule. gcc would make one slow instruction of memset. */
-BY_AES static void forget(uint8_t *schedule, size_t rounds) {
-    for (size_t i = 0; i <= rounds; i++) {
-        set_round_key(schedule, i, _mm_setzero_si128());
-        __asm__ volatile("" : : "r"(schedule) : "memory");
-    }
-}
-
-void keywrap_aes_encrypt_groups(const uint8_t *schedule, size_t len, uint8_t *blocks,
-                                size_t blocks_len) {
-    for (size_t at = 0; at < blocks_len; at += GROUP * BLOCK)
-        encrypt_8(schedule, len / BLOCK - 1, blocks + at);
-}
-
-void keywrap_aes_decrypt_groups(const uint8_t *schedule, size_t len, uint8_t *blocks,
-                                size_t blocks_len) {
-    uint8_t inverted[SCHEDULE];
-    invert(schedule, len / BLOCK - 1, inverted);
-    for (size_t at = 0; at < blocks_len; at += GROUP * BLOCK)
-        decrypt_8(inverted, len / BLOCK - 1, blocks + at);
-    forget(inverted, len / BLOCK - 1);
-}
-
-#else
-typedef int of_another_processor;
-#endif
-
-/* aarch64.c: AES by the Arm cryptographic extension. AESE and AESD add the round key first, so the
- * last round key needs an addition of its own. */
-
-#ifdef __aarch64__
-
-#include <arm_neon.h>
-#ifndef __ARM_FEATURE_AES
-#include <sys/auxv.h>
-#endif
-
-
-#ifdef __clang__
-#define BY_AES __attribute__((target("aes")))
-#else
-#define BY_AES __attribute__((target("+crypto")))
-#endif
-
-/* The compiler knows it of every processor of Apple. Otherwise Linux is asked: HWCAP_AES of asm/hwcap.h. */
-bool keywrap_aes_has_instructions(void) {
-#ifdef __ARM_FEATURE_AES
-    return 1;
-#else
-    enum { HAS_AES = 1 << 3 };
-    return (getauxval(AT_HWCAP) & HAS_AES) != 0;
-#endif
-}
-
-/* ShiftRows changes nothing in a block of four equal columns. */
-BY_AES static uint32_t sub_word(uint32_t word) {
-    uint8x16_t columns = vreinterpretq_u8_u32(vdupq_n_u32(word));
-    return vgetq_lane_u32(vreinterpretq_u32_u8(vaeseq_u8(columns, vdupq_n_u8(0))), 0);
-}
-
-static uint32_t word_at(const uint8_t *schedule, size_t i) {
-    uint32_t word;
-    memcpy(&word, schedule + 4 * i, 4);
-    return word;
-}
-
-/* Words are in the order of their bytes in memory. */
-void keywrap_aes_expand(const uint8_t *kek, size_t kek_len, uint8_t *schedule, size_t len) {
-    const size_t n = kek_len / 4;
-    uint32_t constant = 1;
-    memcpy(schedule, kek, kek_len);
-    for (size_t i = n; i < len / 4; i++) {
-        uint32_t word = word_at(schedule, i - 1);
-        if (i % n == 0) {
-            word = sub_word(word >> 8 | word << 24) ^ constant;
-            constant = constant << 1 ^ (constant >> 7) * 0x11b;
-        } else if (n == 8 && i % n == 4) {
-            word = sub_word(word);
-        }
-        word ^= word_at(schedule, i - n);
-        memcpy(schedule + 4 * i, &word, 4);
-    }
-}
-
-static uint8x16_t round_key(const uint8_t *schedule, size_t i) {
-    return vld1q_u8(schedule + BLOCK * i);
-}
-
-static void set_round_key(uint8_t *schedule, size_t i, uint8x16_t key) {
-    vst1q_u8(schedule + BLOCK * i, key);
-}
-
-static uint8x16_t load(const uint8_t block[BLOCK]) {
-    return vcombine_u8(vld1_u8(block), vld1_u8(block + 8));
-}
-
-BY_AES void keywrap_aes_encrypt(const uint8_t *schedule, size_t len, uint8_t block[BLOCK]) {
-    const size_t last = len / BLOCK - 2;
-    uint8x16_t state = load(block);
-    for (size_t i = 0; i < last; i++) state = vaesmcq_u8(vaeseq_u8(state, round_key(schedule, i)));
-    state = vaeseq_u8(state, round_key(schedule, last));
-    vst1q_u8(block, veorq_u8(state, round_key(schedule, last + 1)));
-}
-
-/* The equivalent inverse cipher (section 5.3.5). Its round keys are made on the way: this does not
- * wait for the block. */
-BY_AES void keywrap_aes_decrypt(const uint8_t *schedule, size_t len, uint8_t block[BLOCK]) {
-    size_t i = len / BLOCK - 1;
-    uint8x16_t state = vaesimcq_u8(vaesdq_u8(load(block), round_key(schedule, i)));
-    while (--i > 1) state = vaesimcq_u8(vaesdq_u8(state, vaesimcq_u8(round_key(schedule, i))));
-    state = vaesdq_u8(state, vaesimcq_u8(round_key(schedule, 1)));
-    vst1q_u8(block, veorq_u8(state, round_key(schedule, 0)));
-}
-
-#define EACH(X) X(0) X(1) X(2) X(3) X(4) X(5) X(6) X(7)
-#define BEGIN(i) uint8x16_t b##i = load(blocks + BLOCK * i);
-#define END(i) vst1q_u8(blocks + BLOCK * i, veorq_u8(b##i, key));
-#define ENCRYPT(i) b##i = vaesmcq_u8(vaeseq_u8(b##i, key));
-#define ENCRYPT_LAST(i) b##i = vaeseq_u8(b##i, key);
-#define DECRYPT(i) b##i = vaesimcq_u8(vaesdq_u8(b##i, key));
-#define DECRYPT_LAST(i) b##i = vaesdq_u8(b##i, key);
-
-BY_AES static void encrypt_8(const uint8_t *schedule, size_t rounds, uint8_t *blocks) {
-    uint8x16_t key = round_key(schedule, 0);
-    EACH(BEGIN)
-    for (size_t i = 1; i < rounds; i++) {
-        EACH(ENCRYPT)
-        key = round_key(schedule, i);
-    }
-    EACH(ENCRYPT_LAST)
-    key = round_key(schedule, rounds);
-    EACH(END)
-}
-
-/* By a schedule that is inverted. */
-BY_AES static void decrypt_8(const uint8_t *inverted, size_t rounds, uint8_t *blocks) {
-    uint8x16_t key = round_key(inverted, 0);
-    EACH(BEGIN)
-    for (size_t i = 1; i < rounds; i++) {
-        EACH(DECRYPT)
-        key = round_key(inverted, i);
-    }
-    EACH(DECRYPT_LAST)
-    key = round_key(inverted, rounds);
-    EACH(END)
-}
-
-/* The schedule of the equivalent inverse cipher (section 5.3.5): in the other order, with all round
- * keys but the outer two mixed. */
-BY_AES static void invert(const uint8_t *schedule, size_t rounds, uint8_t *inverted) {
-    set_round_key(inverted, 0, round_key(schedule, rounds));
-    for (size_t i = 1; i < rounds; i++)
-        set_round_key(inverted, i, vaesimcq_u8(round_key(schedule, rounds - i)));
-    set_round_key(inverted, rounds, round_key(schedule, 0));
-}
-
-void keywrap_aes_encrypt_groups(const uint8_t *schedule, size_t len, uint8_t *blocks,
-                                size_t blocks_len) {
-    for (size_t at = 0; at < blocks_len; at += GROUP * BLOCK)
-        encrypt_8(schedule, len / BLOCK - 1, blocks + at);
-}
-
-void keywrap_aes_decrypt_groups(const uint8_t *schedule, size_t len, uint8_t *blocks,
-                                size_t blocks_len) {
-    uint8_t inverted[SCHEDULE];
-    invert(schedule, len / BLOCK - 1, inverted);
-    for (size_t at = 0; at < blocks_len; at += GROUP * BLOCK)
-        decrypt_8(inverted, len / BLOCK - 1, blocks + at);
-    wipe(inverted, len);
-}
-
-#else
-typedef int of_another_processor;
-#endif
-
-/* aes.c: whether the processor's AES is used, and the blocks that are not a whole group. */
-
-
-static void crypt_groups(bool decrypts, const uint8_t *schedule, size_t len, uint8_t *blocks,
-                         size_t blocks_len) {
-    if (decrypts) keywrap_aes_decrypt_groups(schedule, len, blocks, blocks_len);
-    else keywrap_aes_encrypt_groups(schedule, len, blocks, blocks_len);
-}
-
-/* The blocks behind the last whole group become a group of their own. */
-static void crypt_many(bool decrypts, const uint8_t *schedule, size_t len, uint8_t *blocks,
-                       size_t blocks_len) {
-    const size_t rest = blocks_len % (GROUP * BLOCK);
-    uint8_t *const last = blocks + blocks_len - rest;
-    if (last != blocks) crypt_groups(decrypts, schedule, len, blocks, blocks_len - rest);
-    if (rest != 0) {
-        uint8_t group[GROUP * BLOCK] = {0};
-        memcpy(group, last, rest);
-        crypt_groups(decrypts, schedule, len, group, sizeof group);
-        memcpy(last, group, rest);
-        wipe(group, sizeof group);
-    }
-}
-
-void keywrap_aes_encrypt_many(const uint8_t *schedule, size_t len, uint8_t *blocks,
-                              size_t blocks_len) {
-    crypt_many(false, schedule, len, blocks, blocks_len);
-}
-
-void keywrap_aes_decrypt_many(const uint8_t *schedule, size_t len, uint8_t *blocks,
-                              size_t blocks_len) {
-    crypt_many(true, schedule, len, blocks, blocks_len);
-}
-
-/* 16 bytes at any address. */
-typedef uint64_t zeros __attribute__((vector_size(16), aligned(1), may_alias));
-
-/* gcc would make one slow instruction of memset. The empty asm keeps these stores. */
-static inline void write_zeros(uint8_t *memory, size_t len) {
-    for (size_t i = 0; i < len; i += 16) {
-        *(zeros *)(memory + i) = (zeros){0, 0};
-        __asm__ volatile("" : : "r"(memory) : "memory");
-    }
-}
-
-void keywrap_aes_clear(uint8_t room[SCHEDULE]) {
-    uint8_t cover[512];
-    write_zeros(room, SCHEDULE);
-    write_zeros(cover, sizeof cover);
-}
-
-/* FIPS 197, appendix C: 00112233445566778899aabbccddeeff under the keys that count from 00. */
-static const uint8_t CIPHERTEXTS[3][BLOCK] = {
-    {0x69, 0xc4, 0xe0, 0xd8, 0x6a, 0x7b, 0x04, 0x30, 0xd8, 0xcd, 0xb7, 0x80, 0x70, 0xb4, 0xc5,
-     0x5a},
-    {0xdd, 0xa9, 0x7c, 0xa4, 0x86, 0x4c, 0xdf, 0xe0, 0x6e, 0xaf, 0x70, 0xa0, 0xec, 0x0d, 0x71,
-     0x91},
-    {0x8e, 0xa2, 0xb7, 0xca, 0x51, 0x67, 0x45, 0xbf, 0xea, 0xfc, 0x49, 0x90, 0x4b, 0x49, 0x60,
-     0x89},
-};
-
-/* A group and the blocks of most of another. */
-enum { TESTED = 2 * GROUP - 1 };
-
-/* Whether each of these blocks is this one. */
-static bool are_all(const uint8_t blocks[TESTED * BLOCK], const uint8_t block[BLOCK]) {
-    bool same = true;
-    for (unsigned i = 0; i < TESTED; i++) same &= memcmp(blocks + BLOCK * i, block, BLOCK) == 0;
-    return same;
-}
-
-bool keywrap_aes_known_answers(void) {
-    uint8_t kek[32], plaintext[BLOCK], block[BLOCK], blocks[TESTED * BLOCK];
-    uint8_t schedule[SCHEDULE];
-    for (unsigned i = 0; i < sizeof kek; i++) kek[i] = (uint8_t)i;
-    for (unsigned i = 0; i < BLOCK; i++) block[i] = plaintext[i] = (uint8_t)(0x11 * i);
-    for (unsigned i = 0; i < TESTED; i++) memcpy(blocks + BLOCK * i, plaintext, BLOCK);
-    for (unsigned i = 0; i < 3; i++) {
-        const size_t len = 176 + 32 * i;
-        keywrap_aes_expand(kek, 16 + 8 * i, schedule, len);
-        keywrap_aes_encrypt(schedule, len, block);
-        keywrap_aes_encrypt_many(schedule, len, blocks, sizeof blocks);
-        if (memcmp(block, CIPHERTEXTS[i], BLOCK) != 0 || !are_all(blocks, block)) return false;
-        keywrap_aes_decrypt(schedule, len, block);
-        keywrap_aes_decrypt_many(schedule, len, blocks, sizeof blocks);
-        if (memcmp(block, plaintext, BLOCK) != 0 || !are_all(blocks, block)) return false;
-    }
-    return true;
-}
-
-bool keywrap_aes_available(void) {
-    enum { UNKNOWN, WORKS, MISSING };
-    static int state = UNKNOWN;
-    int known = __atomic_load_n(&state, __ATOMIC_ACQUIRE);
-    if (known == UNKNOWN) {
-        const bool works = keywrap_aes_has_instructions() && keywrap_aes_known_answers();
-        known = works ? WORKS : MISSING;
-        __atomic_store_n(&state, known, __ATOMIC_RELEASE);
-    }
-    return known == WORKS;
-}
-
-/* run.h: what the calls for one key and those for many share. */
-
-#ifndef HARDWARE_RUN_H
-#define HARDWARE_RUN_H
-
-
-static const uint8_t DEFAULT_IV[8] = {0xa6, 0xa6, 0xa6, 0xa6, 0xa6, 0xa6, 0xa6, 0xa6};
-
-/* On a processor without the instructions a call is the proved one of the whole library, by its name in
- * c/hardware/names. */
-#define OR_PROVED(call, ...)                                 \
-    extern __typeof__(keywrap_##call) proved_keywrap_##call; \
-    if (!keywrap_aes_available()) return proved_keywrap_##call(__VA_ARGS__)
-
-/* AES under one KEK: its key schedule, in memory of its own or in a kept KEK. */
-struct aes {
-    uint8_t own[SCHEDULE];
-    const uint8_t *schedule;
-    size_t len;
-};
-
-/* Takes a KEK of 16, 24 or 32 bytes, or a kept KEK, which a proved call has checked. */
-static APART void aes_set(struct aes *aes, const uint8_t *kek, size_t kek_len);
-
-/* Clears the schedule, except that of a kept KEK. */
-static APART void aes_clear(struct aes *aes);
-
-/* A wrapping or an unwrapping that has begun. */
-struct run {
-    uint64_t steps;
-    uint8_t block[BLOCK];
-};
-
-/* The calls for one key in place, in the form of the flags, whose arguments are checked. */
-static APART int32_t wrap_slot(const uint8_t *kek, size_t kek_len, uint32_t flags, uint8_t *text,
-                  size_t text_len, size_t key_len);
-static APART int32_t unwrap_slot(const uint8_t *kek, size_t kek_len, uint32_t flags, uint8_t *text,
-                    size_t text_len, size_t *key_len);
-static APART int32_t rewrap_slot(const uint8_t *old_kek, size_t old_kek_len, const uint8_t *new_kek,
-                    size_t new_kek_len, uint8_t *text, size_t text_len, uint32_t flags);
-
-#endif
-
-/* checks.c: the calls of keywrap_checks.h. */
-
-#define NUM(n) call->numbers[n]
-
-CALL(HIDDEN, perform_steps, check_plain, (const uint8_t *kek, size_t kek_len, const uint8_t *iv,
-     size_t iv_len, size_t key_len, size_t text_len),
-     (module, BUFFER(0), BUFFER(1), NUM(0), NUM(1)),
-     (BUFFERS, .numbers = (const u64[]){key_len, text_len}), KEK(kek, kek_len),
-     READS(iv, iv_len, 8))
-
-CALL(HIDDEN, perform_steps, check_padded, (const uint8_t *kek, size_t kek_len, size_t key_len,
-     size_t text_len), (module, BUFFER(0), NUM(0), NUM(1)),
-     (BUFFERS, .numbers = (const u64[]){key_len, text_len}), KEK(kek, kek_len))
-
-CALL(HIDDEN, perform_steps, check_room, (const uint8_t *kek, size_t kek_len, size_t room,
-     size_t text_len), (module, BUFFER(0), NUM(0), NUM(1)),
-     (BUFFERS, .numbers = (const u64[]){room, text_len}), KEK(kek, kek_len))
-
-CALL(HIDDEN, perform_steps, check_kind, (const uint8_t *kek, size_t kek_len, size_t room,
-     size_t text_len), (module, BUFFER(0), NUM(0), NUM(1)),
-     (BUFFERS, .numbers = (const u64[]){room, text_len}), KEK(kek, kek_len))
-
-CALL(HIDDEN, perform_steps, check_keks, (const uint8_t *old_kek, size_t old_kek_len,
-     const uint8_t *new_kek, size_t new_kek_len), (module, BUFFER(0), BUFFER(1)), (BUFFERS),
-     KEK(old_kek, old_kek_len), KEK(new_kek, new_kek_len))
-
-CALL(HIDDEN, perform_steps, check_rewrap_in_place, (const uint8_t *old_kek, size_t old_kek_len,
-     const uint8_t *new_kek, size_t new_kek_len, uint32_t forms),
-     (module, BUFFER(0), BUFFER(1), (u32)NUM(0)), (BUFFERS, .numbers = (const u64[]){forms}),
-     KEK(old_kek, old_kek_len), KEK(new_kek, new_kek_len))
-
-CALL(HIDDEN, perform_steps, check_wrap_many, (const uint8_t *kek, size_t kek_len, size_t texts_len,
-     size_t key_len, uint32_t flags, size_t count),
-     (module, BUFFER(0), NUM(0), NUM(1), (u32)NUM(2), NUM(3)),
-     (BUFFERS, .numbers = (const u64[]){texts_len, key_len, flags, count}), KEK(kek, kek_len))
-
-CALL(HIDDEN, perform_steps, check_unwrap_many, (const uint8_t *kek, size_t kek_len,
-     size_t texts_len, uint32_t flags, size_t key_lens, size_t count),
-     (module, BUFFER(0), NUM(0), (u32)NUM(1), NUM(2), NUM(3)),
-     (BUFFERS, .numbers = (const u64[]){texts_len, flags, key_lens, count}), KEK(kek, kek_len))
-
-CALL(HIDDEN, perform_steps, check_rewrap_many, (const uint8_t *old_kek, size_t old_kek_len,
-     const uint8_t *new_kek, size_t new_kek_len, size_t texts_len, uint32_t flags, size_t count),
-     (module, BUFFER(0), BUFFER(1), NUM(0), (u32)NUM(1), NUM(2)),
-     (BUFFERS, .numbers = (const u64[]){texts_len, flags, count}), KEK(old_kek, old_kek_len),
-     KEK(new_kek, new_kek_len))
-
-CALL(HIDDEN, perform_steps, check_kind_many, (const uint8_t *kek, size_t kek_len, size_t texts_len,
-     size_t room, size_t forms, size_t key_lens, size_t count),
-     (module, BUFFER(0), NUM(0), NUM(1), NUM(2), NUM(3), NUM(4)),
-     (BUFFERS, .numbers = (const u64[]){texts_len, room, forms, key_lens, count}),
-     KEK(kek, kek_len))
-
-CALL(HIDDEN, perform_steps, begin_wrap_slot, (uint32_t flags, size_t key_len, uint8_t *registers,
-     size_t len, uint64_t *done, uint8_t *block),
-     (module, call->flags, call->number, BUFFER(0), NUMBER, BLOCK_AT),
-     (BUFFERS, .flags = flags, .number = key_len, .steps = done, .block = block, .begins = 1),
-     WRITES(registers, len, KEYWRAP_MAX_KEY))
-
-CALL(HIDDEN, perform_steps, end_unwrap_slot, (uint32_t flags, uint8_t *registers, size_t len,
-     uint64_t left, uint8_t *block, size_t *key_len),
-     (module, call->flags, BUFFER(0), call->number, BLOCK_AT, NUMBER),
-     (BUFFERS, .flags = flags, .number = left, .block = block, .key_len = key_len),
-     WRITES(registers, len, KEYWRAP_MAX_KEY))
-
-CALL(HIDDEN, perform_steps, end_rewrap_in_place, (uint32_t status, uint8_t *buffer, size_t len),
-     (module, call->flags, BUFFER(0)), (BUFFERS, .flags = status),
-     WRITES(buffer, len, KEYWRAP_MAX_TEXT))
-
-static u64 run_end_rewrap(struct instance *module, const struct call *call) {
-    return w2c_keywrap_end_rewrap(module, call->flags, FLAG);
-}
-
-static int32_t keywrap_end_rewrap(uint32_t status, uint32_t *already) {
-    struct call call = {.run = run_end_rewrap, .flags = status, .flag = already};
-    return (int32_t)perform_steps(&call);
-}
-
-/* keywrap.c: the calls of keywrap.h by the processor's AES, over the proved steps. Each call begins with
- * a proved check of its arguments. On a processor without the instructions it is the proved call,
- * whose name begins with proved_ here. */
-
-
-
-void aes_set(struct aes *aes, const uint8_t *kek, size_t kek_len) {
-    if (kek_len > 32) {
-        /* A kept KEK has its schedule behind 8 bytes. */
-        aes->schedule = kek + 8;
-        aes->len = kek_len - 8;
-    } else {
-        aes->schedule = aes->own;
-        aes->len = 4 * kek_len + 112;
-        keywrap_aes_expand(kek, kek_len, aes->own, aes->len);
-    }
-}
-
-void aes_clear(struct aes *aes) {
-    if (aes->schedule == aes->own) wipe(aes->own, aes->len);
-}
-
-/* Makes all steps over the registers, or undoes them. */
-static inline void run_steps(const uint8_t *kek, size_t kek_len, int decrypts, struct run *run,
-                             uint8_t *registers, size_t len) {
-    const uint64_t end = decrypts ? 0 : keywrap_step_count(len);
-    int32_t status = KEYWRAP_OK;
-    struct aes aes;
-    aes_set(&aes, kek, kek_len);
-    while (status == KEYWRAP_OK && run->steps != end) {
-        decrypts ? keywrap_aes_decrypt(aes.schedule, aes.len, run->block)
-                 : keywrap_aes_encrypt(aes.schedule, aes.len, run->block);
-        status = decrypts ? keywrap_step_unwrap(registers, len, &run->steps, run->block)
-                          : keywrap_step_wrap(registers, len, &run->steps, run->block);
-    }
-    aes_clear(&aes);
-}
-
-/* Makes all steps of a wrapping that has begun, and writes the first 8 bytes of the text. */
-static int32_t wrap(const uint8_t *kek, size_t kek_len, struct run *run, uint8_t *text,
-                    size_t text_len) {
-    run_steps(kek, kek_len, 0, run, text + 8, text_len - 8);
-    const int32_t status = keywrap_end_wrap(text, text + 8, text_len - 8, run->steps, run->block);
-    wipe(run, sizeof *run);
-    return status;
-}
-
-/* Copies the text after its first 8 bytes, and undoes all steps there. */
-static int32_t unwrap(const uint8_t *kek, size_t kek_len, struct run *run, const uint8_t *text,
-                      uint8_t *registers, size_t len) {
-    const int32_t status =
-        keywrap_begin_unwrap_padded(text, text + 8, len, &run->steps, run->block);
-    if (status != KEYWRAP_OK) return status;
-    memmove(registers, text + 8, len);
-    run_steps(kek, kek_len, 1, run, registers, len);
-    return KEYWRAP_OK;
-}
-
-int32_t wrap_slot(const uint8_t *kek, size_t kek_len, uint32_t flags, uint8_t *text,
-                  size_t text_len, size_t key_len) {
-    struct run run;
-    const int32_t status =
-        keywrap_begin_wrap_slot(flags, key_len, text + 8, text_len - 8, &run.steps, run.block);
-    return status == KEYWRAP_OK ? wrap(kek, kek_len, &run, text, text_len) : status;
-}
-
-int32_t unwrap_slot(const uint8_t *kek, size_t kek_len, uint32_t flags, uint8_t *text,
-                    size_t text_len, size_t *key_len) {
-    struct run run;
-    const int32_t status = unwrap(kek, kek_len, &run, text, text + 8, text_len - 8);
-    if (status != KEYWRAP_OK) return status;
-    memset(text, 0, 8);
-    return keywrap_end_unwrap_slot(flags, text + 8, text_len - 8, run.steps, run.block, key_len);
-}
-
-/* The proved calls decide which steps come next, under which KEK, and what the text becomes. */
-int32_t rewrap_slot(const uint8_t *old_kek, size_t old_kek_len, const uint8_t *new_kek,
-                    size_t new_kek_len, uint8_t *text, size_t text_len, uint32_t flags) {
-    struct run run;
-    uint32_t phase;
-    int32_t status = keywrap_begin_rewrap(flags, text, text_len, &phase, &run.steps, run.block);
-    while (phase != 0) {
-        run_steps(phase & KEYWRAP_NEW ? new_kek : old_kek,
-                  phase & KEYWRAP_NEW ? new_kek_len : old_kek_len, phase & KEYWRAP_DECRYPT, &run,
-                  text + 8, text_len - 8);
-        status = keywrap_next_rewrap(flags, text, text_len, &phase, &run.steps, run.block);
-    }
-    wipe(&run, sizeof run);
-    return status;
-}
-
-int32_t keywrap_wrap_with(const uint8_t *kek, size_t kek_len, const uint8_t *iv, size_t iv_len,
-                          const uint8_t *key, size_t key_len, uint8_t *wrapped,
-                          size_t wrapped_len) {
-    OR_PROVED(wrap_with, kek, kek_len, iv, iv_len, key, key_len, wrapped, wrapped_len);
-    struct run run;
-    int32_t status = keywrap_check_plain(kek, kek_len, iv, iv_len, key_len, wrapped_len);
-    if (status == KEYWRAP_OK)
-        status = keywrap_begin_wrap(iv, iv_len, key, key_len, &run.steps, run.block);
-    if (status != KEYWRAP_OK) return status;
-    memcpy(wrapped + 8, key, key_len);
-    return wrap(kek, kek_len, &run, wrapped, wrapped_len);
-}
-
-int32_t keywrap_unwrap_with(const uint8_t *kek, size_t kek_len, const uint8_t *iv, size_t iv_len,
-                            const uint8_t *wrapped, size_t wrapped_len, uint8_t *key,
-                            size_t key_len) {
-    OR_PROVED(unwrap_with, kek, kek_len, iv, iv_len, wrapped, wrapped_len, key, key_len);
-    struct run run;
-    int32_t status = keywrap_check_plain(kek, kek_len, iv, iv_len, key_len, wrapped_len);
-    if (status == KEYWRAP_OK) status = unwrap(kek, kek_len, &run, wrapped, key, key_len);
-    return status == KEYWRAP_OK ? keywrap_end_unwrap(iv, iv_len, key, key_len, run.steps, run.block)
-                                : status;
-}
-
-int32_t keywrap_wrap(const uint8_t *kek, size_t kek_len, const uint8_t *key, size_t key_len,
-                     uint8_t *wrapped, size_t wrapped_len) {
-    OR_PROVED(wrap, kek, kek_len, key, key_len, wrapped, wrapped_len);
-    const int32_t status = keywrap_check_plain(kek, kek_len, DEFAULT_IV, 8, key_len, wrapped_len);
-    if (status != KEYWRAP_OK) return status;
-    memcpy(wrapped + 8, key, key_len);
-    return wrap_slot(kek, kek_len, 0, wrapped, wrapped_len, key_len);
-}
-
-int32_t keywrap_unwrap(const uint8_t *kek, size_t kek_len, const uint8_t *wrapped,
-                       size_t wrapped_len, uint8_t *key, size_t key_len) {
-    OR_PROVED(unwrap, kek, kek_len, wrapped, wrapped_len, key, key_len);
-    struct run run;
-    int32_t status = keywrap_check_plain(kek, kek_len, DEFAULT_IV, 8, key_len, wrapped_len);
-    if (status == KEYWRAP_OK) status = unwrap(kek, kek_len, &run, wrapped, key, key_len);
-    return status == KEYWRAP_OK
-               ? keywrap_end_unwrap(DEFAULT_IV, 8, key, key_len, run.steps, run.block)
-               : status;
-}
-
-int32_t keywrap_wrap_in_place(const uint8_t *kek, size_t kek_len, uint8_t *buffer,
-                              size_t wrapped_len) {
-    OR_PROVED(wrap_in_place, kek, kek_len, buffer, wrapped_len);
-    const size_t len = wrapped_len - 8;
-    const int32_t status = keywrap_check_plain(kek, kek_len, DEFAULT_IV, 8, len, wrapped_len);
-    return status == KEYWRAP_OK ? wrap_slot(kek, kek_len, 0, buffer, wrapped_len, len) : status;
-}
-
-int32_t keywrap_unwrap_in_place(const uint8_t *kek, size_t kek_len, uint8_t *buffer,
-                                size_t wrapped_len) {
-    OR_PROVED(unwrap_in_place, kek, kek_len, buffer, wrapped_len);
-    size_t len = wrapped_len - 8;
-    const int32_t status = keywrap_check_plain(kek, kek_len, DEFAULT_IV, 8, len, wrapped_len);
-    return status == KEYWRAP_OK ? unwrap_slot(kek, kek_len, 0, buffer, wrapped_len, &len) : status;
-}
-
-int32_t keywrap_wrap_padded_in_place(const uint8_t *kek, size_t kek_len, uint8_t *buffer,
-                                     size_t wrapped_len, size_t key_len) {
-    OR_PROVED(wrap_padded_in_place, kek, kek_len, buffer, wrapped_len, key_len);
-    const int32_t status = keywrap_check_padded(kek, kek_len, key_len, wrapped_len);
-    return status == KEYWRAP_OK
-               ? wrap_slot(kek, kek_len, KEYWRAP_NEW_PADDED, buffer, wrapped_len, key_len)
-               : status;
-}
-
-int32_t keywrap_unwrap_padded_in_place(const uint8_t *kek, size_t kek_len, uint8_t *buffer,
-                                       size_t wrapped_len, size_t *key_len) {
-    OR_PROVED(unwrap_padded_in_place, kek, kek_len, buffer, wrapped_len, key_len);
-    *key_len = 0;
-    const int32_t status = keywrap_check_room(kek, kek_len, wrapped_len - 8, wrapped_len);
-    return status == KEYWRAP_OK
-               ? unwrap_slot(kek, kek_len, KEYWRAP_OLD_PADDED, buffer, wrapped_len, key_len)
-               : status;
-}
-
-int32_t keywrap_wrap_padded(const uint8_t *kek, size_t kek_len, const uint8_t *key, size_t key_len,
-                            uint8_t *wrapped, size_t wrapped_len) {
-    OR_PROVED(wrap_padded, kek, kek_len, key, key_len, wrapped, wrapped_len);
-    const int32_t status = keywrap_check_padded(kek, kek_len, key_len, wrapped_len);
-    if (status != KEYWRAP_OK) return status;
-    memcpy(wrapped + 8, key, key_len);
-    return wrap_slot(kek, kek_len, KEYWRAP_NEW_PADDED, wrapped, wrapped_len, key_len);
-}
-
-int32_t keywrap_unwrap_padded(const uint8_t *kek, size_t kek_len, const uint8_t *wrapped,
-                              size_t wrapped_len, uint8_t *key, size_t room, size_t *key_len) {
-    OR_PROVED(unwrap_padded, kek, kek_len, wrapped, wrapped_len, key, room, key_len);
-    struct run run;
-    *key_len = 0;
-    int32_t status = keywrap_check_room(kek, kek_len, room, wrapped_len);
-    if (status == KEYWRAP_OK) status = unwrap(kek, kek_len, &run, wrapped, key, room);
-    return status == KEYWRAP_OK
-               ? keywrap_end_unwrap_padded(key, room, run.steps, run.block, key_len)
-               : status;
-}
-
-int32_t keywrap_unwrap_any(const uint8_t *kek, size_t kek_len, const uint8_t *wrapped,
-                           size_t wrapped_len, uint8_t *key, size_t room, uint32_t *padded,
-                           size_t *key_len) {
-    OR_PROVED(unwrap_any, kek, kek_len, wrapped, wrapped_len, key, room, padded, key_len);
-    struct run run;
-    *key_len = *padded = 0;
-    int32_t status = keywrap_check_room(kek, kek_len, room, wrapped_len);
-    if (status == KEYWRAP_OK) status = unwrap(kek, kek_len, &run, wrapped, key, room);
-    if (status != KEYWRAP_OK) return status;
-    return keywrap_end_unwrap_any(key, room, run.steps, run.block, padded, key_len);
-}
-
-/* The unwrap of a text in either form, in the scratch buffer. */
-int32_t keywrap_kind(const uint8_t *kek, size_t kek_len, const uint8_t *wrapped, size_t wrapped_len,
-                     uint8_t *scratch, size_t room, uint32_t *padded, size_t *key_len) {
-    OR_PROVED(kind, kek, kek_len, wrapped, wrapped_len, scratch, room, padded, key_len);
-    *key_len = *padded = 0;
-    int32_t status = keywrap_check_kind(kek, kek_len, room, wrapped_len);
-    if (status != KEYWRAP_OK) return status;
-    status = keywrap_unwrap_any(kek, kek_len, wrapped, wrapped_len, scratch, room, padded, key_len);
-    wipe(scratch, room);
-    return status;
-}
-
-int32_t keywrap_rewrap(const uint8_t *old_kek, size_t old_kek_len, const uint8_t *new_kek,
-                       size_t new_kek_len, uint8_t *buffer, size_t wrapped_len, uint32_t flags,
-                       uint32_t *already) {
-    OR_PROVED(rewrap, old_kek, old_kek_len, new_kek, new_kek_len, buffer, wrapped_len, flags,
-              already);
-    int32_t status = keywrap_check_keks(old_kek, old_kek_len, new_kek, new_kek_len);
-    if (status == KEYWRAP_OK)
-        status =
-            rewrap_slot(old_kek, old_kek_len, new_kek, new_kek_len, buffer, wrapped_len, flags);
-    return keywrap_end_rewrap((uint32_t)status, already);
-}
-
-int32_t keywrap_rewrap_in_place(const uint8_t *old_kek, size_t old_kek_len, const uint8_t *new_kek,
-                                size_t new_kek_len, uint8_t *buffer, size_t wrapped_len,
-                                uint32_t forms) {
-    OR_PROVED(rewrap_in_place, old_kek, old_kek_len, new_kek, new_kek_len, buffer, wrapped_len,
-              forms);
-    int32_t status =
-        keywrap_check_rewrap_in_place(old_kek, old_kek_len, new_kek, new_kek_len, forms);
-    if (status == KEYWRAP_OK)
-        status =
-            rewrap_slot(old_kek, old_kek_len, new_kek, new_kek_len, buffer, wrapped_len, forms);
-    return keywrap_end_rewrap_in_place((uint32_t)status, buffer, wrapped_len);
-}
-
-int32_t keywrap_self_test(void) {
-    extern __typeof__(keywrap_self_test) proved_keywrap_self_test;
-    if (keywrap_aes_available() && !keywrap_aes_known_answers()) return KEYWRAP_INTEGRITY;
-    return proved_keywrap_self_test();
-}
-
-/* lanes.c: the steps of many wrapped keys, one after another, for the calls of many.c. It encrypts or
- * decrypts their blocks side by side. */
-
-static int32_t keywrap_step_wrap_many(uint8_t *texts, size_t texts_len, size_t text_len,
-                                      uint64_t *done, uint8_t *blocks, size_t blocks_len) {
-    const uint64_t before = *done;
-    int32_t status = KEYWRAP_OK;
-    (void)texts_len;
-    for (size_t i = 0; i < blocks_len / 16 && status == KEYWRAP_OK; i++) {
-        *done = before;
-        status = keywrap_step_wrap(texts + text_len * i + 8, text_len - 8, done, blocks + 16 * i);
-    }
-    return status;
-}
-
-static int32_t keywrap_end_wrap_many(uint8_t *texts, size_t texts_len, size_t text_len,
-                                     uint64_t done, const uint8_t *blocks, size_t blocks_len) {
-    int32_t status = KEYWRAP_OK;
-    (void)texts_len;
-    for (size_t i = 0; i < blocks_len / 16 && status == KEYWRAP_OK; i++) {
-        uint8_t *text = texts + text_len * i;
-        status = keywrap_end_wrap(text, text + 8, text_len - 8, done, blocks + 16 * i);
-    }
-    return status;
-}
-
-static int32_t keywrap_begin_unwrap_many(const uint8_t *texts, size_t texts_len, size_t text_len,
-                                         uint64_t *left, uint8_t *blocks, size_t blocks_len) {
-    int32_t status = KEYWRAP_OK;
-    (void)texts_len;
-    for (size_t i = 0; i < blocks_len / 16 && status == KEYWRAP_OK; i++) {
-        const uint8_t *text = texts + text_len * i;
-        status = keywrap_begin_unwrap(text, text + 8, text_len - 8, left, blocks + 16 * i);
-    }
-    return status;
-}
-
-static int32_t keywrap_step_unwrap_many(uint8_t *texts, size_t texts_len, size_t text_len,
-                                        uint64_t *left, uint8_t *blocks, size_t blocks_len) {
-    const uint64_t before = *left;
-    int32_t status = KEYWRAP_OK;
-    (void)texts_len;
-    for (size_t i = 0; i < blocks_len / 16 && status == KEYWRAP_OK; i++) {
-        *left = before;
-        status = keywrap_step_unwrap(texts + text_len * i + 8, text_len - 8, left, blocks + 16 * i);
-    }
-    return status;
-}
-
-/* many.c: the calls of keywrap.h for many keys, with the steps of 48 of them side by side. What the
- * steps of many do not take is done key by key. */
-
-
-
-/* Six groups of 8 blocks: a step of half as many costs a key more. The longest text that a turn copies. */
-enum { LANES = 48, COPIED = 264 };
-
-/* Slots that are worked on together, at most LANES, and their blocks. */
-struct turn {
-    uint8_t *texts;
-    size_t text_len, count;
-    uint64_t steps;
-    uint8_t blocks[BLOCK * LANES];
-};
-
-static uint8_t *text_of(const struct turn *turn, size_t lane) {
-    return turn->texts + turn->text_len * lane;
-}
-
-/* Takes the next slots. The blocks are clear: each turn clears them at its end. */
-static void next_turn(struct turn *turn, uint8_t *texts, size_t count) {
-    turn->texts = texts;
-    turn->count = count < LANES ? count : LANES;
-    turn->steps = 0;
-}
-
-/* Makes all steps of wrappings that have begun, or undoes those of unwrappings. */
-static void run_turn(const struct aes *aes, int decrypts, struct turn *turn) {
-    const size_t len = turn->text_len, texts_len = len * turn->count,
-                 of_blocks = BLOCK * turn->count;
-    const uint64_t end = decrypts ? 0 : keywrap_step_count(turn->text_len - 8);
-    int32_t status = KEYWRAP_OK;
-    while (status == KEYWRAP_OK && turn->steps != end) {
-        decrypts ? keywrap_aes_decrypt_many(aes->schedule, aes->len, turn->blocks, of_blocks)
-                 : keywrap_aes_encrypt_many(aes->schedule, aes->len, turn->blocks, of_blocks);
-        status = decrypts ? keywrap_step_unwrap_many(turn->texts, texts_len, len, &turn->steps,
-                                                     turn->blocks, of_blocks)
-                          : keywrap_step_wrap_many(turn->texts, texts_len, len, &turn->steps,
-                                                   turn->blocks, of_blocks);
-    }
-}
-
-/* Begins to unwrap, and undoes all steps. The ends refuse what has not had all steps. */
-static void unwrap_turn(const struct aes *aes, struct turn *turn) {
-    const int32_t status =
-        keywrap_begin_unwrap_many(turn->texts, turn->text_len * turn->count, turn->text_len,
-                                  &turn->steps, turn->blocks, BLOCK * turn->count);
-    if (status == KEYWRAP_OK) run_turn(aes, 1, turn);
-}
-
-/* What the bits of a phase ask for; and a turn of a rewrap: AES under both KEKs, the texts as they
- * were, and for each lane its phase and its steps. */
-enum { OPERATION = KEYWRAP_DECRYPT | KEYWRAP_NEW };
-struct rewraps {
-    struct aes old_aes, new_aes;
-    uint8_t before[COPIED * LANES];
-    uint32_t phases[LANES];
-    uint64_t steps[LANES];
-};
-
-/* Copies the texts and the blocks of these lanes of a turn to those of a part of it, or back. */
-static void copy_lanes(struct turn *turn, struct turn *part, const size_t *lanes, int back) {
-    for (size_t i = 0; i < part->count; i++) {
-        uint8_t *text = text_of(turn, lanes[i]), *block = turn->blocks + BLOCK * lanes[i];
-        uint8_t *part_text = text_of(part, i), *part_block = part->blocks + BLOCK * i;
-        memcpy(back ? text : part_text, back ? part_text : text, turn->text_len);
-        memcpy(back ? block : part_block, back ? part_block : block, BLOCK);
-    }
-}
-
-/* Makes or undoes all steps of the lanes from the first one on that have its operation next, and turns
- * them to what comes next. If there are others, the steps are over copies behind each other. */
-static void run_lanes(struct rewraps *rewraps, struct turn *turn, size_t first, uint32_t flags,
-                      uint8_t *statuses) {
-    const uint32_t operation = rewraps->phases[first] & OPERATION;
-    const struct aes *aes = operation & KEYWRAP_NEW ? &rewraps->new_aes : &rewraps->old_aes;
-    uint8_t copies[COPIED * LANES];
-    size_t lanes[LANES], count = 0;
-    for (size_t i = first; i < turn->count; i++)
-        if (rewraps->phases[i] != 0 && (rewraps->phases[i] & OPERATION) == operation)
-            lanes[count++] = i;
-    turn->steps = rewraps->steps[first];
-    if (count == turn->count) {
-        run_turn(aes, operation & KEYWRAP_DECRYPT, turn);
-    } else {
-        struct turn part = {copies, turn->text_len, count, turn->steps, {0}};
-        copy_lanes(turn, &part, lanes, 0);
-        run_turn(aes, operation & KEYWRAP_DECRYPT, &part);
-        copy_lanes(turn, &part, lanes, 1);
-        turn->steps = part.steps;
-        wipe(copies, turn->text_len * count);
-        wipe(part.blocks, sizeof part.blocks);
-    }
-    for (size_t i = 0; i < count; i++) {
-        const size_t at = turn->text_len * lanes[i];
-        rewraps->steps[lanes[i]] = turn->steps;
-        statuses[lanes[i]] = (uint8_t)keywrap_next_rewrap_from(
-            flags, rewraps->before + at, turn->text_len, turn->texts + at, turn->text_len,
-            rewraps->phases + lanes[i], rewraps->steps + lanes[i], turn->blocks + BLOCK * lanes[i]);
-    }
-}
-
-/* Rewraps the slots of a turn, until no lane has a phase. */
-static void rewrap_turn(struct rewraps *rewraps, struct turn *turn, uint32_t flags,
-                        uint8_t *statuses) {
-    memcpy(rewraps->before, turn->texts, turn->text_len * turn->count);
-    for (size_t i = 0; i < turn->count; i++)
-        statuses[i] = (uint8_t)keywrap_begin_rewrap(flags, text_of(turn, i), turn->text_len,
-                                                    rewraps->phases + i, rewraps->steps + i,
-                                                    turn->blocks + BLOCK * i);
-    for (size_t first = 0; first < turn->count;)
-        if (rewraps->phases[first] == 0) first++;
-        else run_lanes(rewraps, turn, first, flags, statuses);
-    wipe(turn->blocks, sizeof turn->blocks);
-}
-
-int32_t keywrap_rewrap_many(const uint8_t *old_kek, size_t old_kek_len, const uint8_t *new_kek,
-                            size_t new_kek_len, uint8_t *texts, size_t texts_len, uint32_t flags,
-                            uint8_t *statuses, size_t count) {
-    OR_PROVED(rewrap_many, old_kek, old_kek_len, new_kek, new_kek_len, texts, texts_len, flags,
-              statuses, count);
-    int32_t status = keywrap_check_rewrap_many(old_kek, old_kek_len, new_kek, new_kek_len,
-                                               texts_len, flags, count);
-    if (status != KEYWRAP_OK) return status;
-    const size_t text_len = texts_len / count;
-    if (text_len == 16 || text_len > COPIED) {
-        for (size_t i = 0; i < count; i++)
-            statuses[i] = (uint8_t)rewrap_slot(old_kek, old_kek_len, new_kek, new_kek_len,
-                                               texts + text_len * i, text_len, flags);
-        return KEYWRAP_OK;
-    }
-    struct rewraps rewraps;
-    aes_set(&rewraps.old_aes, old_kek, old_kek_len);
-    aes_set(&rewraps.new_aes, new_kek, new_kek_len);
-    struct turn turn = {.text_len = text_len};
-    for (size_t i = 0; i < count; i += LANES) {
-        next_turn(&turn, texts + text_len * i, count - i);
-        rewrap_turn(&rewraps, &turn, flags, statuses + i);
-    }
-    wipe(&rewraps, sizeof rewraps);
-    return KEYWRAP_OK;
-}
-
-int32_t keywrap_wrap_many(const uint8_t *kek, size_t kek_len, uint8_t *texts, size_t texts_len,
-                          size_t key_len, uint32_t flags, uint8_t *statuses, size_t count) {
-    OR_PROVED(wrap_many, kek, kek_len, texts, texts_len, key_len, flags, statuses, count);
-    int32_t status = keywrap_check_wrap_many(kek, kek_len, texts_len, key_len, flags, count);
-    if (status != KEYWRAP_OK) return status;
-    const size_t text_len = texts_len / count;
-    if (text_len == 16) {
-        for (size_t i = 0; i < count; i++)
-            statuses[i] =
-                (uint8_t)wrap_slot(kek, kek_len, flags, texts + text_len * i, text_len, key_len);
-        return KEYWRAP_OK;
-    }
-    struct aes aes;
-    aes_set(&aes, kek, kek_len);
-    struct turn turn = {.text_len = text_len};
-    for (size_t i = 0; i < count; i += LANES) {
-        next_turn(&turn, texts + text_len * i, count - i);
-        for (size_t lane = 0; lane < turn.count && status == KEYWRAP_OK; lane++)
-            status = keywrap_begin_wrap_slot(flags, key_len, text_of(&turn, lane) + 8, text_len - 8,
-                                             &turn.steps, turn.blocks + BLOCK * lane);
-        run_turn(&aes, 0, &turn);
-        if (status == KEYWRAP_OK)
-            status = keywrap_end_wrap_many(turn.texts, text_len * turn.count, text_len, turn.steps,
-                                           turn.blocks, BLOCK * turn.count);
-        memset(statuses + i, (uint8_t)status, turn.count);
-        wipe(turn.blocks, sizeof turn.blocks);
-    }
-    aes_clear(&aes);
-    return KEYWRAP_OK;
-}
-
-int32_t keywrap_unwrap_many(const uint8_t *kek, size_t kek_len, uint8_t *texts, size_t texts_len,
-                            uint32_t flags, size_t *key_lens, size_t key_lens_count,
-                            uint8_t *statuses, size_t count) {
-    OR_PROVED(unwrap_many, kek, kek_len, texts, texts_len, flags, key_lens, key_lens_count,
-              statuses, count);
-    int32_t status =
-        keywrap_check_unwrap_many(kek, kek_len, texts_len, flags, key_lens_count, count);
-    if (status != KEYWRAP_OK) return status;
-    const size_t text_len = texts_len / count;
-    if (text_len == 16) {
-        for (size_t i = 0; i < count; i++)
-            statuses[i] = (uint8_t)unwrap_slot(kek, kek_len, flags, texts + text_len * i, text_len,
-                                               key_lens + i);
-        return KEYWRAP_OK;
-    }
-    struct aes aes;
-    aes_set(&aes, kek, kek_len);
-    struct turn turn = {.text_len = text_len};
-    for (size_t i = 0; i < count; i += LANES) {
-        next_turn(&turn, texts + text_len * i, count - i);
-        unwrap_turn(&aes, &turn);
-        for (size_t lane = 0; lane < turn.count; lane++) {
-            uint8_t *text = text_of(&turn, lane);
-            memset(text, 0, 8);
-            statuses[i + lane] =
-                (uint8_t)keywrap_end_unwrap_slot(flags, text + 8, text_len - 8, turn.steps,
-                                                 turn.blocks + BLOCK * lane, key_lens + i + lane);
-        }
-        wipe(turn.blocks, sizeof turn.blocks);
-    }
-    aes_clear(&aes);
-    return KEYWRAP_OK;
-}
-
-int32_t keywrap_kind_many(const uint8_t *kek, size_t kek_len, const uint8_t *texts,
-                          size_t texts_len, uint8_t *scratch, size_t room, uint8_t *forms,
-                          size_t forms_count, size_t *key_lens, size_t key_lens_count,
-                          uint8_t *statuses, size_t count) {
-    OR_PROVED(kind_many, kek, kek_len, texts, texts_len, scratch, room, forms, forms_count,
-              key_lens, key_lens_count, statuses, count);
-    const int32_t status =
-        keywrap_check_kind_many(kek, kek_len, texts_len, room, forms_count, key_lens_count, count);
-    if (status != KEYWRAP_OK) return status;
-    const size_t text_len = texts_len / count;
-    uint32_t padded;
-    if (text_len == 16 || text_len > COPIED) {
-        for (size_t i = 0; i < count; i++) {
-            statuses[i] = (uint8_t)keywrap_kind(kek, kek_len, texts + text_len * i, text_len,
-                                                scratch, room, &padded, key_lens + i);
-            forms[i] = (uint8_t)padded;
-        }
-        return KEYWRAP_OK;
-    }
-    uint8_t copy[COPIED * LANES];
-    struct aes aes;
-    aes_set(&aes, kek, kek_len);
-    struct turn turn = {.text_len = text_len};
-    for (size_t i = 0; i < count; i += LANES) {
-        next_turn(&turn, copy, count - i);
-        memcpy(copy, texts + text_len * i, text_len * turn.count);
-        unwrap_turn(&aes, &turn);
-        for (size_t lane = 0; lane < turn.count; lane++) {
-            statuses[i + lane] = (uint8_t)keywrap_end_unwrap_any(
-                text_of(&turn, lane) + 8, text_len - 8, turn.steps, turn.blocks + BLOCK * lane,
-                &padded, key_lens + i + lane);
-            forms[i + lane] = (uint8_t)padded;
-        }
-        wipe(copy, text_len * turn.count);
-        wipe(turn.blocks, sizeof turn.blocks);
-    }
-    aes_clear(&aes);
-    memset(scratch, 0, room);
-    return KEYWRAP_OK;
-}
-#endif
+STEP(begin_wrap_many, (const uint8_t *iv, size_t iv_len, const uint8_t *texts, size_t texts_len,
+     size_t text_len, uint64_t *done, uint8_t *blocks, size_t blocks_len),
+     (module, BUFFER(0), BUFFER(1), NUM(0), NUMBER, BUFFER(2)),
+     (BUFFERS, .steps = done, NUMBERS(text_len), .begins = 1), READS(iv, iv_len, 8),
+     READS_OF_MANY(texts, texts_len), WRITES_OF_MANY(blocks, blocks_len))
+
+STEP(step_wrap_many, (uint8_t *texts, size_t texts_len, size_t text_len, uint64_t *done,
+     uint8_t *blocks, size_t blocks_len), (module, BUFFER(0), NUM(0), NUMBER, BUFFER(1)),
+     (BUFFERS, .steps = done, NUMBERS(text_len)), WRITES_OF_MANY(texts, texts_len),
+     WRITES_OF_MANY(blocks, blocks_len))
+
+STEP(end_wrap_many, (uint8_t *texts, size_t texts_len, size_t text_len, uint64_t done,
+     const uint8_t *blocks, size_t blocks_len), (module, BUFFER(0), NUM(0), NUM(1), BUFFER(1)),
+     (BUFFERS, NUMBERS(text_len, done)), WRITES_OF_MANY(texts, texts_len),
+     READS_OF_MANY(blocks, blocks_len))
+
+STEP(begin_unwrap_many, (const uint8_t *texts, size_t texts_len, size_t text_len, uint64_t *left,
+     uint8_t *blocks, size_t blocks_len), (module, BUFFER(0), NUM(0), NUMBER, BUFFER(1)),
+     (BUFFERS, .steps = left, NUMBERS(text_len), .begins = 1), READS_OF_MANY(texts, texts_len),
+     WRITES_OF_MANY(blocks, blocks_len))
+
+STEP(step_unwrap_many, (uint8_t *texts, size_t texts_len, size_t text_len, uint64_t *left,
+     uint8_t *blocks, size_t blocks_len), (module, BUFFER(0), NUM(0), NUMBER, BUFFER(1)),
+     (BUFFERS, .steps = left, NUMBERS(text_len)), WRITES_OF_MANY(texts, texts_len),
+     WRITES_OF_MANY(blocks, blocks_len))
+
+STEP(end_unwrap_many, (const uint8_t *iv, size_t iv_len, uint8_t *texts, size_t texts_len,
+     size_t text_len, uint64_t left, uint8_t *blocks, size_t blocks_len, uint8_t *statuses,
+     size_t statuses_len), (module, BUFFER(0), BUFFER(1), NUM(0), NUM(1), BUFFER(2), BUFFER(3)),
+     (BUFFERS, NUMBERS(text_len, left)), READS(iv, iv_len, 8), WRITES_OF_MANY(texts, texts_len),
+     WRITES_OF_MANY(blocks, blocks_len), WRITES_OF_MANY(statuses, statuses_len))

@@ -158,15 +158,13 @@ int32_t keywrap_next_rewrap_from(uint32_t flags, const uint8_t *copy, size_t cop
                                  uint8_t *text, size_t text_len, uint32_t *phase, uint64_t *steps,
                                  uint8_t *block);
 
-#ifndef KEYWRAP_PORTABLE
 /* The calls for many keys of one length make the same step of each, for an AES that works on many
- * blocks side by side. The portable library does not have them. All have the same number of steps
- * done or left.
+ * blocks side by side. All have the same number of steps done or left.
  *   texts     wrapped keys of text_len bytes, one behind the other: 8 bytes, and the registers
  *   text_len  a multiple of 8 from 24 to KEYWRAP_MAX_TEXT
  *   blocks    16 bytes for each text
  * A refusal changes nothing. If texts_len or blocks_len is not right for as many texts, a call returns
- * KEYWRAP_BAD_LENGTH.
+ * KEYWRAP_BAD_LENGTH. So does the portable library for more than 1 GiB of them.
  *
  * keywrap_begin_wrap_many begins plain wrappings under the 8 bytes at iv. keywrap_step_wrap_many
  * makes a step, and keywrap_end_wrap_many writes the first 8 bytes of each text, in either form. To
@@ -203,7 +201,6 @@ KEYWRAP_CALL
 int32_t keywrap_end_unwrap_many(const uint8_t *iv, size_t iv_len, uint8_t *texts, size_t texts_len,
                                 size_t text_len, uint64_t left, uint8_t *blocks, size_t blocks_len,
                                 uint8_t *statuses, size_t statuses_len);
-#endif
 
 #ifdef __cplusplus
 }

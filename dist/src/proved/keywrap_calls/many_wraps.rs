@@ -51,7 +51,7 @@ pub(crate) fn wrap_slots_of(
 }
 
 // The form that the flags of a wrap request.
-pub(crate) fn new_form(flags: u32) -> Option<Form> {
+fn new_form(flags: u32) -> Option<Form> {
     match flags {
         0 => Some(Form::Plain),
         2 => Some(Form::Padded),
@@ -60,7 +60,7 @@ pub(crate) fn new_form(flags: u32) -> Option<Form> {
 }
 
 // Whether a slot of `len` bytes is as long as the wrapped key of a key of `key_len` bytes.
-pub(crate) fn is_key_slot(form: Form, key_len: usize, len: usize) -> bool {
+fn is_key_slot(form: Form, key_len: usize, len: usize) -> bool {
     match form {
         Form::Plain => key_length_ok(key_len) && len == text_len(key_len),
         Form::Padded => padded_length_ok(key_len) && len == text_len(key_len),
@@ -133,7 +133,7 @@ pub(crate) fn unwrap_slots_of(
 }
 
 // The form that the flags of an unwrap request.
-pub(crate) fn old_form(flags: u32) -> Option<Form> {
+fn old_form(flags: u32) -> Option<Form> {
     match flags {
         0 => Some(Form::Plain),
         1 => Some(Form::Padded),

@@ -5,7 +5,6 @@
 
 mod any_form;
 mod any_steps;
-mod argument_checks;
 mod arguments;
 mod keks;
 mod kinds;
@@ -22,7 +21,6 @@ mod plain_in_place;
 mod plain_with;
 mod rewrap_steps;
 mod rewrapping;
-mod slot_steps;
 mod status;
 mod texts;
 mod unwrap_steps;
@@ -31,9 +29,6 @@ mod wrap_steps;
 
 pub use any_form::unwrap_any;
 pub use any_steps::end_unwrap_any;
-pub use argument_checks::{
-    check_keks, check_kind, check_padded, check_plain, check_rewrap_in_place, check_room,
-};
 pub use arguments::{In, Out};
 pub use keks::{kek_clear, kek_init};
 pub use crate::proved::key_wrap_core::step_count;
@@ -48,14 +43,8 @@ pub use padded_in_place::{unwrap_padded_in_place, wrap_padded_in_place};
 pub use plain::{unwrap, wrap};
 pub use plain_in_place::{unwrap_in_place, wrap_in_place};
 pub use plain_with::{iv_from_bytes, unwrap_with, wrap_with};
-pub use rewrap_steps::{
-    begin_rewrap, end_rewrap, end_rewrap_in_place, next_rewrap, next_rewrap_from,
-};
+pub use rewrap_steps::{begin_rewrap, next_rewrap, next_rewrap_from};
 pub use rewrapping::{rewrap, rewrap_in_place};
-pub use slot_steps::{
-    begin_wrap_slot, check_kind_many, check_rewrap_many, check_unwrap_many, check_wrap_many,
-    end_unwrap_slot,
-};
 pub use status::{BAD_IV, BAD_KEK, BAD_LENGTH, DONE, INTEGRITY, KEY_NOT_PLAIN, NO_MEMORY};
 pub use texts::status_text;
 pub use unwrap_steps::{

@@ -2,8 +2,8 @@
 
 //! Rewrapping run by run, for an AES outside the library.
 
-use crate::proved::keywrap_calls::rewrapping::{in_place_status, report, request_of};
-use crate::proved::keywrap_calls::status::{ALREADY_NEW, BAD_KEK, BAD_LENGTH, DONE, INTEGRITY, KEY_NOT_PLAIN};
+use crate::proved::keywrap_calls::rewrapping::request_of;
+use crate::proved::keywrap_calls::status::{ALREADY_NEW, BAD_LENGTH, DONE, INTEGRITY, KEY_NOT_PLAIN};
 use crate::proved::key_wrap_core::{Refusal, Rewrapped};
 use crate::proved::key_wrap_steps::{RewrapNext, RewrapPhase};
 
@@ -80,24 +80,6 @@ pub fn next_rewrap_from(
     match crate::proved::key_wrap_steps::next_rewrap_from(&request, run, copy, text, steps, block) {
         Ok(next) => tell(next, phase),
         Err(_) => BAD_LENGTH,
-    }
-}
-
-/// Returns what `rewrap` returns for the status at the end of a rewrapping, or for the refusal of a KEK:
-/// `*already` is 1 if the wrapped key was new already, else 0.
-pub fn end_rewrap(status: u32, already: &mut u32) -> i32 {
-    *already = 0;
-    match outcome_of(status) {
-        Some(outcome) => report(outcome, already),
-        None => BAD_KEK,
-    }
-}
-
-/// Returns what `rewrap_in_place` returns for this status, and clears the buffer where it does.
-pub fn end_rewrap_in_place(status: u32, buffer: &mut [u8]) -> i32 {
-    match outcome_of(status) {
-        Some(outcome) => in_place_status(outcome, buffer),
-        None => BAD_KEK,
     }
 }
 

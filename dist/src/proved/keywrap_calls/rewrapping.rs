@@ -78,7 +78,7 @@ pub fn rewrap_in_place<A: KeyInit>(
 }
 
 // The status of version 1.0, and its buffer.
-pub(crate) fn in_place_status(outcome: Result<Rewrapped, Refusal>, buffer: &mut [u8]) -> i32 {
+fn in_place_status(outcome: Result<Rewrapped, Refusal>, buffer: &mut [u8]) -> i32 {
     match outcome {
         Ok(_) => DONE,
         Err(Refusal::BadLength) => BAD_LENGTH,
@@ -126,7 +126,7 @@ fn forms_of(flags: u32) -> Option<RewrapForms> {
 }
 
 // The status of an outcome, and 1 for a wrapped key that was new already, else 0.
-pub(crate) fn report(outcome: Result<Rewrapped, Refusal>, already: &mut u32) -> i32 {
+fn report(outcome: Result<Rewrapped, Refusal>, already: &mut u32) -> i32 {
     *already = u32::from(outcome == Ok(Rewrapped::AlreadyNew));
     match outcome {
         Ok(_) => DONE,
