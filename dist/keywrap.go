@@ -4,7 +4,8 @@
 // of any length from 1 on; both up to [MaxKey] bytes. A wrapped key is refused in the form in which it was not wrapped.
 // Every call also takes a [KEK] in the place of a KEK's bytes.
 //
-// Every error is a [Refusal], or [Refusals] of many keys, except in [NewCipher]. A result beside an error is nil or
+// Every error is a [Refusal], or [Refusals] of many keys, except in [NewCipher] and those of a [BlockCipher]. The
+// error of many keys whose lengths differ wraps [ErrBadLength]. A result beside an error is nil or
 // zero: a caller that ignores the error has no key. A wrapped key that fails its check is [ErrIntegrity].
 //
 // Any goroutine may make a call. No argument is changed or kept, and a result shares no memory with an argument. The

@@ -114,6 +114,185 @@ func TestBlockCiphers(t *testing.T) {
 	}
 }
 
+// blocksOf encrypts many blocks by Go's AES, as a token does.
+type blocksOf struct{ cipher.Block }
+
+func (b blocksOf) EncryptBlocks(dst, src []byte) error { return eachBlock(b.Encrypt, dst, src) }
+func (b blocksOf) DecryptBlocks(dst, src []byte) error { return eachBlock(b.Decrypt, dst, src) }
+
+func eachBlock(crypt func(dst, src []byte), dst, src []byte) error {
+	for at := 0; at < len(src); at += aes.BlockSize {
+		crypt(dst[at:], src[at:at+aes.BlockSize])
+	}
+	return nil
+}
+
+// counted counts its calls and their blocks, and keeps what it was given. The call with the number failAt fails, or
+// panics.
+type counted struct {
+	blocksOf
+	calls, blocks, failAt int
+	panics                bool
+	given                 [][]byte
+}
+
+var errNoToken = errors.New("no token")
+
+func (c *counted) try(crypt func(dst, src []byte) error, dst, src []byte) error {
+	c.calls, c.blocks, c.given = c.calls+1, c.blocks+len(src)/aes.BlockSize, append(c.given, dst)
+	if c.calls == c.failAt && c.panics {
+		panic(errNoToken)
+	}
+	if c.calls == c.failAt {
+		return errNoToken
+	}
+	return crypt(dst, src)
+}
+
+func (c *counted) EncryptBlocks(dst, src []byte) error {
+	return c.try(c.blocksOf.EncryptBlocks, dst, src)
+}
+func (c *counted) DecryptBlocks(dst, src []byte) error {
+	return c.try(c.blocksOf.DecryptBlocks, dst, src)
+}
+
+// thousand is a thousand wrapped keys of 32 bytes. The 500th is damaged, the 501st is under the new KEK.
+func thousand(kek, newKEK []byte) [][]byte {
+	wrapped := make([][]byte, 1000)
+	for i := range wrapped {
+		wrapped[i], _ = keywrap.Wrap(kek, bytes.Repeat([]byte{byte(i), byte(i >> 8)}, 16))
+	}
+	wrapped[500][3] ^= 1
+	wrapped[501], _ = keywrap.Wrap(newKEK, make([]byte, 32))
+	return wrapped
+}
+
+// A call of the block cipher has a block of each key. PassNew gives the new one two keys more, and no others.
+func TestManyCipherCalls(t *testing.T) {
+	kek, newKEK := make([]byte, 16), make([]byte, 32)
+	wrapped := thousand(kek, newKEK)
+	for _, row := range []struct {
+		flags                              keywrap.Flags
+		oldCalls, oldBlocks, calls, blocks int
+	}{
+		{0, 24, 24 * 1000, 24, 24 * 998},
+		{keywrap.KeepForm, 24, 24 * 1000, 24, 24 * 998},
+		{keywrap.PassNew, 24, 24 * 1000, 48, 24 * 1000},
+	} {
+		before := fmt.Sprint(wrapped)
+		old, next := &counted{blocksOf: blocksOf{aesOf(kek)}}, &counted{blocksOf: blocksOf{aesOf(newKEK)}}
+		rewrapped, already, err := keywrap.NewManyCipher(old).RewrapMany(keywrap.NewManyCipher(next), wrapped, row.flags)
+		due, dueAlready, dueErr := keywrap.RewrapMany(kek, newKEK, wrapped, row.flags)
+		if fmt.Sprint(rewrapped, already, err) != fmt.Sprint(due, dueAlready, dueErr) || fmt.Sprint(wrapped) != before {
+			t.Error(row, err, dueErr)
+		}
+		if old.calls != row.oldCalls || old.blocks != row.oldBlocks || next.calls != row.calls || next.blocks != row.blocks {
+			t.Error(row, old.calls, old.blocks, next.calls, next.blocks)
+		}
+	}
+}
+
+// Keys are wrapped and unwrapped as by the functions, in both forms.
+func TestManyCipherResults(t *testing.T) {
+	kek, newKEK := make([]byte, 16), make([]byte, 32)
+	c, wrapped := keywrap.NewManyCipher(blocksOf{aesOf(kek)}), thousand(kek, newKEK)[498:503]
+	for _, form := range []struct{ old, new keywrap.Flags }{{0, 0}, {keywrap.OldPadded, keywrap.NewPadded}} {
+		keys, err := c.UnwrapMany(wrapped, form.old)
+		due, dueErr := keywrap.UnwrapMany(kek, wrapped, form.old)
+		if fmt.Sprint(keys, err) != fmt.Sprint(due, dueErr) {
+			t.Error(form, keys, err, due, dueErr)
+		}
+		wrapped, err = c.WrapMany([][]byte{newKEK, bytes.Repeat([]byte{5}, 32)}, form.new)
+		due, dueErr = keywrap.WrapMany(kek, [][]byte{newKEK, bytes.Repeat([]byte{5}, 32)}, form.new)
+		if fmt.Sprint(wrapped, err) != fmt.Sprint(due, dueErr) || err != nil {
+			t.Error(form, wrapped, err, due, dueErr)
+		}
+	}
+	// These are padded.
+	keys, err := c.UnwrapMany(wrapped, keywrap.OldPadded)
+	if err != nil || !bytes.Equal(keys[0], newKEK) || !bytes.Equal(keys[1], bytes.Repeat([]byte{5}, 32)) {
+		t.Error(keys, err)
+	}
+}
+
+// The error of a block cipher is returned, and its panic reaches the caller. Then the blocks are cleared, and no key is
+// returned.
+func TestManyCipherFails(t *testing.T) {
+	kek, newKEK := make([]byte, 16), make([]byte, 32)
+	wrapped := thousand(kek, newKEK)[498:502]
+	for at := 1; at <= 48; at++ {
+		for _, panics := range []bool{false, true} {
+			cipher := &counted{blocksOf: blocksOf{aesOf(kek)}, failAt: at, panics: panics}
+			c := keywrap.NewManyCipher(cipher)
+			calls := []func() ([][]byte, error){
+				func() ([][]byte, error) { return c.WrapMany([][]byte{newKEK, newKEK}, 0) },
+				func() ([][]byte, error) { return c.WrapMany([][]byte{newKEK, newKEK}, keywrap.NewPadded) },
+				func() ([][]byte, error) { return c.UnwrapMany(wrapped, 0) },
+				func() ([][]byte, error) { return c.UnwrapMany(wrapped, keywrap.OldPadded) },
+				func() ([][]byte, error) { all, _, err := c.RewrapMany(c, wrapped, 0); return all, err },
+			}
+			if at > 24 {
+				calls = calls[4:]
+			}
+			for i, call := range calls {
+				cipher.calls, cipher.given = 0, nil
+				results, err, reason := tried(call)
+				if results != nil || (err == errNoToken) == panics || (reason == errNoToken) != panics {
+					t.Error(at, panics, i, results, err, reason)
+				}
+				for _, given := range cipher.given {
+					if strings.Trim(string(given), "\x00") != "" {
+						t.Error(at, panics, i, given)
+					}
+				}
+			}
+		}
+	}
+}
+
+func tried(call func() ([][]byte, error)) (results [][]byte, err error, reason any) {
+	defer func() { reason = recover() }()
+	results, err = call()
+	return
+}
+
+// Refusals are those of the functions, also of no keys and of keys of many lengths, of which the error has the index.
+func TestManyCipherLengths(t *testing.T) {
+	kek := make([]byte, 16)
+	c := keywrap.NewManyCipher(blocksOf{aesOf(kek)})
+	for first := 0; first <= 41; first++ {
+		one, other := make([]byte, first), bytes.Repeat([]byte{3}, first)
+		for _, items := range [][][]byte{{}, {one}, {one, other}, {one, make([]byte, 16)}} {
+			for flags := keywrap.Flags(0); flags < 17; flags++ {
+				wrapped, err := c.WrapMany(items, flags)
+				keys, second := c.UnwrapMany(items, flags)
+				rewrapped, already, third := c.RewrapMany(c, items, flags)
+				found := fmt.Sprint(wrapped, err, keys, second, rewrapped, already, third)
+				wrapped, err = keywrap.WrapMany(kek, items, flags)
+				keys, second = keywrap.UnwrapMany(kek, items, flags)
+				rewrapped, already, third = keywrap.RewrapMany(kek, kek, items, flags)
+				if due := fmt.Sprint(wrapped, err, keys, second, rewrapped, already, third); found != due {
+					t.Error(first, len(items), flags, found, due)
+				}
+			}
+		}
+	}
+}
+
+// Of keys of many lengths the error says which, if the KEK is not refused.
+func TestManyLengths(t *testing.T) {
+	items := [][]byte{make([]byte, 24), make([]byte, 24), make([]byte, 32)}
+	_, err := keywrap.WrapMany(make([]byte, 16), items, 0)
+	_, _, second := keywrap.KindMany(make([]byte, 16), items)
+	due := "keywrap: bad length: 32 bytes at index 2, but 24 at index 0"
+	if !errors.Is(err, keywrap.ErrBadLength) || err.Error() != due || second.Error() != due {
+		t.Error(err, second)
+	}
+	if _, err := keywrap.UnwrapMany(make([]byte, 15), items, 0); err != keywrap.ErrBadKEK {
+		t.Error(err)
+	}
+}
+
 func TestGoroutines(t *testing.T) {
 	kek := make([]byte, 32)
 	due, _ := keywrap.Wrap(kek, kek)

@@ -40,6 +40,7 @@ type slots struct {
 	itemLen, each int
 	statuses      []byte
 	lengths       []C.size_t
+	differ        error
 }
 
 // slotsOf copies each item to a place in its slot, whose length slotLen computes. If the lengths of the items differ,
@@ -47,9 +48,10 @@ type slots struct {
 func slotsOf(items [][]byte, place int, slotLen func(itemLen int) int) *slots {
 	// There is one length more, since C takes no NULL.
 	s := &slots{statuses: make([]byte, len(items)), lengths: make([]C.size_t, len(items)+1)}
-	for _, item := range items {
+	for i, item := range items {
 		s.itemLen = len(item)
 		if s.itemLen != len(items[0]) {
+			s.differ = fmt.Errorf("%w: %d bytes at index %d, but %d at index 0", ErrBadLength, s.itemLen, i, len(items[0]))
 			return s
 		}
 	}
@@ -67,6 +69,14 @@ func (s *slots) count() C.size_t { return C.size_t(len(s.statuses)) }
 
 func (s *slots) isRefused(i int) bool {
 	return s.statuses[i] != C.KEYWRAP_OK && s.statuses[i] != C.KEYWRAP_ALREADY_NEW
+}
+
+// refusal returns the error of a refused call. If the lengths differ it says where, unless the KEK is refused first.
+func (s *slots) refusal(status C.int32_t) error {
+	if s.differ != nil && status == C.KEYWRAP_BAD_LENGTH {
+		return s.differ
+	}
+	return Refusal(status)
 }
 
 // refusals returns the refusals of the keys, after a call that was not refused.
@@ -91,10 +101,8 @@ func (s *slots) refusals() error {
 func (s *slots) results(status C.int32_t, begin int, lengthOf func(i int) int) ([][]byte, error) {
 	if status != C.KEYWRAP_OK {
 		// The copies may be of keys, and nobody else can clear them.
-		for i := range s.texts {
-			s.texts[i] = 0
-		}
-		return nil, Refusal(status)
+		zero(s.texts)
+		return nil, s.refusal(status)
 	}
 	results := make([][]byte, len(s.statuses))
 	for i := range results {
@@ -108,8 +116,17 @@ func (s *slots) results(status C.int32_t, begin int, lengthOf func(i int) int) (
 
 func (s *slots) whole(int) int { return s.each }
 
+// already tells of each text whether it was new before.
+func (s *slots) already() []bool {
+	already := make([]bool, len(s.statuses))
+	for i, status := range s.statuses {
+		already[i] = status == C.KEYWRAP_ALREADY_NEW
+	}
+	return already
+}
+
 // WrapMany wraps keys of one length, each as [Wrap] does, or as [WrapPadded] with [NewPadded]. If the lengths differ,
-// or there is no key, it returns [ErrBadLength].
+// or there is no key, the error is [ErrBadLength] by [errors.Is]: of lengths that differ it says which.
 //
 // The calls for many keys are faster than one call for each. The results share an array. A refused key, of which
 // [Refusals] has the reason, has the result nil.
@@ -145,11 +162,7 @@ func RewrapMany(oldKEK, newKEK []byte, wrapped [][]byte, flags Flags) (rewrapped
 	if rewrapped == nil {
 		return nil, nil, err
 	}
-	already = make([]bool, len(rewrapped))
-	for i, status := range s.statuses {
-		already[i] = status == C.KEYWRAP_ALREADY_NEW
-	}
-	return rewrapped, already, err
+	return rewrapped, s.already(), err
 }
 
 // KindMany returns what [Kind] does of wrapped keys of one length, but [ErrBadLength] of a length that no wrapped key
@@ -160,7 +173,7 @@ func KindMany(kek []byte, wrapped [][]byte) (forms []Form, keyLens []int, err er
 	status := C.keywrap_kind_many(at(kek), size(kek), at(s.texts), size(s.texts), at(scratch), size(scratch),
 		at(padded), size(padded), &s.lengths[0], s.count(), at(s.statuses), s.count())
 	if status != C.KEYWRAP_OK {
-		return nil, nil, Refusal(status)
+		return nil, nil, s.refusal(status)
 	}
 	forms, keyLens = make([]Form, len(wrapped)), make([]int, len(wrapped))
 	for i := range forms {

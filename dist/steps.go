@@ -12,6 +12,7 @@ import (
 // A Cipher wraps and unwraps by a block cipher of the caller, which has the KEK: AES of crypto/aes, of a token or of a
 // key management service. The library computes which block is next, and makes every check. As many goroutines may use a
 // Cipher as may use its block cipher. A panic of the block cipher reaches the caller, after the key has been cleared.
+// Many keys under a KEK in a token take a [ManyCipher].
 type Cipher struct {
 	block cipher.Block
 }
@@ -44,10 +45,13 @@ func (s *steps) clear() {
 	if s.ended {
 		return
 	}
-	for _, bytes := range [][]byte{s.text, s.block} {
-		for i := range bytes {
-			bytes[i] = 0
-		}
+	zero(s.text)
+	zero(s.block)
+}
+
+func zero(bytes []byte) {
+	for i := range bytes {
+		bytes[i] = 0
 	}
 }
 

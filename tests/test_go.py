@@ -90,10 +90,8 @@ def test_module(module, env):
     said = run("go", "test", "-v", "./...", cwd=module, env=env)
     sources = "".join(path.read_text() for path in module.glob("*_test.go"))
     names = re.findall(r"^func ((?:Test|Example)\w*)\(", sources, re.M)
-    assert (
-        sorted(re.findall(r"^--- PASS: (\w+)", said, re.M)) == sorted(names)
-        and len(names) >= 10
-    )
+    assert sorted(re.findall(r"^--- PASS: (\w+)", said, re.M)) == sorted(names)
+    assert len(names) >= 10
 
 
 @pytest.mark.parametrize(
@@ -117,7 +115,8 @@ def test_without_cgo(program, env, variables):
         capture_output=True,
         text=True,
     )
-    assert ended.returncode != 0 and f"undefined: {reason}\n" in ended.stderr, ended
+    assert ended.returncode != 0, ended
+    assert f"undefined: {reason}\n" in ended.stderr, ended
 
 
 @slow
@@ -179,13 +178,12 @@ def test_other_machine(module, env, name):
 
 
 class TestReadme:
-    DIRECTORY, PACKED = (
-        re.findall("^    ((?:go|make|export) .*)", part, re.M)
-        for part in (DIST / "GO.md")
-        .read_text()
-        .partition("## Use it")[2]
-        .partition("`make go`")[::2]
-    )
+    PAGE = (DIST / "GO.md").read_text()
+    # The lines that a reader types, before and after the sentence on `make go`.
+    BEFORE, _, AFTER = PAGE.partition("## Use it")[2].partition("`make go`")
+    LINE = "^    ((?:go|make|export) .*)"
+    DIRECTORY = re.findall(LINE, BEFORE, re.M)
+    PACKED = re.findall(LINE, AFTER, re.M)
 
     @pytest.mark.needs("no network")
     @slow
@@ -223,25 +221,22 @@ class TestReadme:
         ).read_bytes()
 
 
-def test_packed_files(thing):
+def tracked_files(directory):
+    """The files of a directory that git has, or would take."""
+    flags = "--cached", "--others", "--exclude-standard"
+    return run("git", "-C", ROOT, "ls-files", *flags, directory).split()
+
+
+def test_packed_files(handed_out):
     """The files of the repository's dist/ but those of the program, under the name and the version."""
-    with zipfile.ZipFile(thing("go") / MODULE / f"@v/{VERSION}.zip") as packed:
+    with zipfile.ZipFile(handed_out("go") / MODULE / f"@v/{VERSION}.zip") as packed:
         found = {member: packed.read(member) for member in packed.namelist()}
-    tracked = run(
-        "git",
-        "-C",
-        ROOT,
-        "ls-files",
-        "--cached",
-        "--others",
-        "--exclude-standard",
-        "dist",
-    ).split()
-    assert found == {
-        name.replace("dist", f"{MODULE}@{VERSION}", 1): (ROOT / name).read_bytes()
-        for name in tracked
-        if not name.startswith("dist/command/")
-    }
+    expected = {}
+    for name in tracked_files("dist"):
+        if not name.startswith("dist/command/"):
+            member = name.replace("dist", f"{MODULE}@{VERSION}", 1)
+            expected[member] = (ROOT / name).read_bytes()
+    assert found == expected
 
 
 @pytest.mark.needs("go-jose")

@@ -22,6 +22,21 @@ func TestClear(t *testing.T) {
 	}
 }
 
+// Texts of many keys are cleared if they were not ended, their blocks always.
+func TestClearLanes(t *testing.T) {
+	for _, ended := range []bool{false, true} {
+		l, due := lanesOf(bytes.Repeat([]byte{7}, 2*40), 40, 2), byte(0)
+		copy(l.blocks, bytes.Repeat([]byte{7}, len(l.blocks)))
+		if l.ended = ended; ended {
+			due = 7
+		}
+		l.clear()
+		if !bytes.Equal(l.texts, bytes.Repeat([]byte{due}, 80)) || !bytes.Equal(l.blocks, make([]byte, 32)) {
+			t.Errorf("%v: %x, %x", ended, l.texts, l.blocks)
+		}
+	}
+}
+
 // A call for many keys that is refused leaves no copy of them.
 func TestClearMany(t *testing.T) {
 	s := slotsOf([][]byte{{1, 2}, {3, 4}}, firstLen, plainLen)

@@ -5,6 +5,7 @@ package keywrap_test
 
 import (
 	"encoding/hex"
+	"errors"
 	"fmt"
 	"os"
 	"reflect"
@@ -23,6 +24,13 @@ func bytesOf(text string) []byte {
 // The statuses of the C library. Of each refusal there is one error.
 var statuses = map[error]int{nil: 0, keywrap.ErrBadIV: 2, keywrap.ErrBadKEK: 3, keywrap.ErrBadLength: 4,
 	keywrap.ErrIntegrity: 5, keywrap.ErrKeyNotPlain: 8}
+
+// statusOf also finds the refusal that an error wraps.
+func statusOf(err error) int {
+	var refusal keywrap.Refusal
+	errors.As(err, &refusal)
+	return statuses[refusal]
+}
 
 // How results are printed.
 var formats = map[string]string{
@@ -50,7 +58,7 @@ func answer(values ...any) string {
 			}
 			words, text = words+listed(" statuses=%d", numbers), " text="+value.Error()
 		case error:
-			status, text = statuses[value], " text="+value.Error()
+			status, text = statusOf(value), " text="+value.Error()
 		default:
 			if b, isBytes := value.([]byte); isBytes && b != nil {
 				value = b[:cap(b)]
@@ -66,6 +74,8 @@ func answer(values ...any) string {
 // called has the answers to a call, by the library's AES and by Go's.
 func called(call string, kek, newKEK, iv []byte, flags keywrap.Flags, given []byte, items [][]byte) (string, string) {
 	c, newC := cipherOf(kek), cipherOf(newKEK)
+	manyC := keywrap.NewManyCipher(blocksOf{aesOf(legal(kek))})
+	newManyC := keywrap.NewManyCipher(blocksOf{aesOf(legal(newKEK))})
 	switch call {
 	case "wrap":
 		return answer(keywrap.Wrap(kek, given)), answer(c.Wrap(given))
@@ -86,27 +96,31 @@ func called(call string, kek, newKEK, iv []byte, flags keywrap.Flags, given []by
 	case "kind":
 		return answer(keywrap.Kind(kek, given)), ""
 	case "wrap_many":
-		return answer(keywrap.WrapMany(kek, items, flags)), ""
+		return answer(keywrap.WrapMany(kek, items, flags)), answer(manyC.WrapMany(items, flags))
 	case "rewrap_many":
-		return answer(keywrap.RewrapMany(kek, newKEK, items, flags)), ""
+		return answer(keywrap.RewrapMany(kek, newKEK, items, flags)), answer(manyC.RewrapMany(newManyC, items, flags))
 	case "kind_many":
 		return answer(keywrap.KindMany(kek, items)), ""
 	}
-	again := ""
-	if flags == keywrap.OldPadded {
-		again = answer(keywrap.UnwrapManyPadded(kek, items))
+	unwrapped, again := answer(keywrap.UnwrapMany(kek, items, flags)), answer(manyC.UnwrapMany(items, flags))
+	if padded := answer(keywrap.UnwrapManyPadded(kek, items)); flags == keywrap.OldPadded && padded != unwrapped {
+		again += " UnwrapManyPadded " + padded
 	}
-	return answer(keywrap.UnwrapMany(kek, items, flags)), again
+	return unwrapped, again
 }
 
 func isKEK(kek []byte) bool { return len(kek) == 16 || len(kek) == 24 || len(kek) == 32 }
 
-// cipherOf is a Cipher over a KEK, or, if no KEK has its length, over another one.
-func cipherOf(kek []byte) *keywrap.Cipher {
+// legal is a KEK, or, if no KEK has its length, another one.
+func legal(kek []byte) []byte {
 	if !isKEK(kek) {
-		kek = make([]byte, 16)
+		return make([]byte, 16)
 	}
-	c, _ := keywrap.NewCipher(aesOf(kek))
+	return kek
+}
+
+func cipherOf(kek []byte) *keywrap.Cipher {
+	c, _ := keywrap.NewCipher(aesOf(legal(kek)))
 	return c
 }
 
