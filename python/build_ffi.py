@@ -68,27 +68,31 @@ static int32_t rewrap(const uint8_t *old_kek, size_t old_kek_len, const uint8_t 
                           &already);
 }
 
-/* Makes the next step of each text. The portable library has no call for many, which takes no single
- * register either. */
-static int32_t step_each(int32_t (*step)(uint8_t *, size_t, uint64_t *, uint8_t *), uint8_t *texts,
-                         size_t text_len, size_t count, uint64_t *steps, uint8_t *blocks) {
+typedef int32_t step_one(uint8_t *, size_t, uint64_t *, uint8_t *);
+typedef int32_t step_many(uint8_t *, size_t, size_t, uint64_t *, uint8_t *, size_t);
+
+/* Makes the next step of each text. The call for many takes no text of a single register. */
+static int32_t step_each(step_one *one, step_many *many, uint8_t *texts, size_t text_len, size_t count,
+                         uint64_t *steps, uint8_t *blocks) {
     const uint64_t before = *steps;
     int32_t status = KEYWRAP_OK;
+    if (text_len >= 24)
+        return many(texts, text_len * count, text_len, steps, blocks, 16 * count);
     for (size_t i = 0; i < count && status == KEYWRAP_OK; i++) {
         *steps = before;
-        status = step(texts + text_len * i + 8, text_len - 8, steps, blocks + 16 * i);
+        status = one(texts + text_len * i + 8, text_len - 8, steps, blocks + 16 * i);
     }
     return status;
 }
 
 static int32_t step_wrap_each(uint8_t *texts, size_t text_len, size_t count, uint64_t *done,
                               uint8_t *blocks) {
-    return step_each(keywrap_step_wrap, texts, text_len, count, done, blocks);
+    return step_each(keywrap_step_wrap, keywrap_step_wrap_many, texts, text_len, count, done, blocks);
 }
 
 static int32_t step_unwrap_each(uint8_t *texts, size_t text_len, size_t count, uint64_t *left,
                                 uint8_t *blocks) {
-    return step_each(keywrap_step_unwrap, texts, text_len, count, left, blocks);
+    return step_each(keywrap_step_unwrap, keywrap_step_unwrap_many, texts, text_len, count, left, blocks);
 }
 
 /* Writes are volatile, so that no compiler leaves them out. */

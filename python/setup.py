@@ -11,31 +11,36 @@ from setuptools import (
 )  # noqa: I001 (it comes first: it has the distutils of the next line)
 from distutils.command.build_scripts import build_scripts
 
-version = next(path for path in (Path("VERSION"), Path("../VERSION")) if path.exists())
-command = next(
-    path for path in (Path("command"), Path("../dist/command")) if path.exists()
-)
+
+def beside_or_above(name, above):
+    """A file that make put here, or in a clone the one of the repository."""
+    here = Path(name)
+    return here if here.exists() else Path(above)
+
+
+version = beside_or_above("VERSION", "../VERSION")
+command = beside_or_above("command", "../dist/command")
+
+
+def words_of(variable, default):
+    """The words of a variable of the environment."""
+    return shlex.split(os.environ.get(variable, default))
 
 
 class BuildCommand(build_scripts):
     """Compiles the command. COMMAND_LDFLAGS are for it only."""
 
     def run(self):
-        Path(self.build_dir).mkdir(parents=True, exist_ok=True)
-        flags = [
-            shlex.split(os.environ.get(name, default))
-            for name, default in (
-                ("CC", "cc"),
-                ("CPPFLAGS", ""),
-                ("CFLAGS", "-O1"),
-                ("COMMAND_LDFLAGS", ""),
-            )
+        directory = Path(self.build_dir)
+        directory.mkdir(parents=True, exist_ok=True)
+        compiler = [
+            *words_of("CC", "cc"),
+            *words_of("CPPFLAGS", ""),
+            *words_of("CFLAGS", "-O1"),
+            *words_of("COMMAND_LDFLAGS", ""),
         ]
-        target = str(Path(self.build_dir, "keywrap"))
-        subprocess.run(
-            [*sum(flags, []), "-o", target, *map(str, sorted(command.glob("*.c")))],
-            check=True,
-        )
+        sources = sorted(command.glob("*.c"))
+        subprocess.run([*compiler, "-o", directory / "keywrap", *sources], check=True)
 
     def get_source_files(self):
         return []  # MANIFEST.in has them

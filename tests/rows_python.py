@@ -25,10 +25,18 @@ def fresh(content):
 
 
 def flags_of(call, text):
-    bits = [text != "-" and int(text) >> bit & 1 > 0 for bit in range(4)]
+    """The named flags of a call, from the number of the line."""
+    number = 0 if text == "-" else int(text)
     if call.startswith("rewrap"):
-        return dict(zip(("old_padded", "new_padded", "keep_form", "pass_new"), bits))
-    return {"padded": any(bits)} if call in ("wrap_many", "unwrap_many") else {}
+        return {
+            "old_padded": bool(number & 1),
+            "new_padded": bool(number & 2),
+            "keep_form": bool(number & 4),
+            "pass_new": bool(number & 8),
+        }
+    if call in ("wrap_many", "unwrap_many"):
+        return {"padded": bool(number & 15)}
+    return {}
 
 
 def ciphers(kek):
@@ -36,101 +44,127 @@ def ciphers(kek):
     from cryptography.hazmat.primitives.ciphers import Cipher, algorithms, modes
 
     ecb = Cipher(algorithms.AES(kek), modes.ECB())
-    return ecb.encryptor().update, ecb.decryptor().update
+    encryptor = ecb.encryptor()
+    decryptor = ecb.decryptor()
+    return encryptor.update, decryptor.update
 
 
-def by_steps(call, name, kek, new_kek, given, **more):
+def by_steps(name, kek, new_kek, given, more):
+    """Makes the call of keywrap.steps, with AES under these KEKs."""
     encrypt, decrypt = ciphers(kek)
-    if call == "rewrap":
+    call = getattr(keywrap.steps, name)
+    if name == "rewrap":
         new_encrypt, new_decrypt = ciphers(new_kek)
         more["pass_new"] = new_decrypt if more["pass_new"] else None
-        return keywrap.steps.rewrap(decrypt, new_encrypt, given, **more)
-    return getattr(keywrap.steps, name)(
-        encrypt if call[0] == "w" else decrypt, given, **more
-    )
+        return call(decrypt, new_encrypt, given, **more)
+    cipher = encrypt if name.startswith("wrap") else decrypt
+    return call(cipher, given, **more)
+
+
+def made_kek(kind, content):
+    """A KEK of this type. A KEK of another length cannot become a Kek."""
+    if kind is keywrap.Kek and len(content) not in (16, 24, 32):
+        return fresh(content)
+    return kind(content)
+
+
+def made_items(make, call, given):
+    """The text of a call, or its texts, and a copy that `make` makes of each."""
+    if not call.endswith("_many"):
+        content = bytes_of(given)
+        return content, make(content)
+    items = []
+    if given != "-":
+        items = [bytes_of(item) for item in given.split(",")]
+    return items, [make(item) for item in items]
 
 
 def called(kind, call, kek, new, iv, flags, given):
     """Returns what the call returns or raises. Its arguments have this type, and the call leaves them unchanged."""
-    is_many = call.endswith("_many")
-    of_key = fresh if kind is keywrap.Kek else kind
-    items = (
-        [bytes_of(item) for item in given.split(",") * (given != "-")]
-        if is_many
-        else bytes_of(given)
-    )
-    made = [of_key(item) for item in items] if is_many else of_key(items)
-    texts = [bytes_of(text) for text in (kek, new)[: 1 + call.startswith("rewrap")]]
-    keks = [
-        (kind if kind is not keywrap.Kek or len(text) in (16, 24, 32) else fresh)(text)
-        for text in texts
-    ]
+    # Only a KEK can be a Kek.
+    make = fresh if kind is keywrap.Kek else kind
+    items, made = made_items(make, call, given)
+    texts = [bytes_of(kek)]
+    if call.startswith("rewrap"):
+        texts.append(bytes_of(new))
+    keks = [made_kek(kind, text) for text in texts]
+    more = flags_of(call, flags)
+    if call.endswith("_with"):
+        more["iv"] = make(bytes_of(iv))
+    name = call.replace("kind", "check").removesuffix("_with")
     try:
-        name = call.replace("kind", "check").removesuffix("_with")
-        more = flags_of(call, flags) | (
-            {"iv": of_key(bytes_of(iv))} if call.endswith("_with") else {}
-        )
         if sys.argv[1:] == ["steps"]:
-            return by_steps(call, name, bytes_of(kek), bytes_of(new), made, **more)
-        return getattr(keywrap, "check_with_length" if name == "check" else name)(
-            *keks, made, **more
-        )
+            return by_steps(name, bytes_of(kek), bytes_of(new), made, more)
+        if name == "check":
+            name = "check_with_length"
+        return getattr(keywrap, name)(*keks, made, **more)
     except keywrap.KeywrapError as error:
         return error
     finally:
-        assert made == items and (
-            kind is keywrap.Kek or keks == texts
-        ), "an argument is changed"
+        assert made == items, "an argument is changed"
+        if kind is not keywrap.Kek:
+            assert keks == texts, "a KEK is changed"
 
 
-def status_of(found):
-    return 5 if found is None else STATUSES.get(type(found), 0)
+def status_of(result):
+    if result is None:
+        return 5
+    return STATUSES.get(type(result), 0)
 
 
-def answer(call, found):
+def answers_of_many(call, results):
+    """The answers and statuses of a call for many keys."""
+    statuses = ",".join(str(status_of(one)) for one in results)
+    if call == "check_many":
+        forms = ",".join(str(int(one is Kind.PADDED)) for one in results)
+        return [("statuses", statuses), ("forms", forms)]
+    texts = []
+    for one in results:
+        texts.append(one.hex() if isinstance(one, bytes) else "")
+    return [("out", ",".join(texts)), ("statuses", statuses)]
+
+
+def answers_of_one(result):
+    """The bytes, the form and the length that a call for one key has returned."""
+    parts = result if isinstance(result, tuple) else (result,)
+    words = []
+    for part in parts:
+        if type(part) is bytes:
+            words.append(("out", part.hex()))
+        elif type(part) is Kind:
+            words.append(("form", int(part is Kind.PADDED)))
+        elif type(part) is int:
+            words.append(("len", part))
+    return words
+
+
+def answer(call, result):
     """The returned bytes, kinds and refusals, and the message of the first refusal."""
-    words = [("status", status_of(found))]
-    refusals = [
-        one
-        for one in (found if isinstance(found, list) else [found])
-        if isinstance(one, Exception)
-    ]
-    text = [("text", str(refusals[0]))] if refusals else []
-    if isinstance(found, list):
-        statuses = ("statuses", ",".join(str(status_of(one)) for one in found))
-        if call == "check_many":
-            return [
-                *words,
-                statuses,
-                ("forms", ",".join(str(int(one is Kind.PADDED)) for one in found)),
-            ]
-        texts = [one.hex() if isinstance(one, bytes) else "" for one in found]
-        return [*words, ("out", ",".join(texts)), statuses, *text]
-    parts = found if isinstance(found, tuple) else (found,)
-    shown = {
-        bytes: lambda part: ("out", part.hex()),
-        Kind: lambda part: ("form", int(part is Kind.PADDED)),
-        int: lambda part: ("len", part),
-    }
-    return (
-        words
-        + [shown[type(part)](part) for part in parts if type(part) in shown]
-        + text
-    )
+    words = [("status", status_of(result))]
+    if isinstance(result, list):
+        words += answers_of_many(call, result)
+        results = result
+    else:
+        words += answers_of_one(result)
+        results = [result]
+    refusals = [one for one in results if isinstance(one, Exception)]
+    if refusals:
+        words.append(("text", str(refusals[0])))
+    return " ".join(f"{name}={value}" for name, value in words)
 
 
-for line in sys.stdin:
-    call, kek, new, iv, flags, given, *_ = line.rstrip("\n").split(" ")
-    answers = set()
-    # Steps of a long key take seconds.
-    for kind in (
-        (fresh,) if len(given) > 10000 else (fresh, bytearray, memoryview, keywrap.Kek)
-    ):
-        found = called(kind, call, kek, new, iv, flags, given)
-        answers.add(
-            " ".join(
-                f"{name}={value}"
-                for name, value in answer(call.replace("kind", "check"), found)
-            )
-        )
-    print(*answers)
+def main():
+    for line in sys.stdin:
+        call, kek, new, iv, flags, given, *_ = line.rstrip("\n").split(" ")
+        kinds = [fresh, bytearray, memoryview, keywrap.Kek]
+        # Steps of a long key take seconds.
+        if len(given) > 10000:
+            kinds = [fresh]
+        answers = set()
+        for kind in kinds:
+            result = called(kind, call, kek, new, iv, flags, given)
+            answers.add(answer(call.replace("kind", "check"), result))
+        print(*answers)
+
+
+main()

@@ -13,9 +13,10 @@ import pytest
 
 import faces
 import published
+import tokens
 from builds import NAMES, ROOT, alone, run
 from machines import WITH_SSE41, WITHOUT_SSE41
-from program import SLOW, all_of, evidence, slow
+from program import all_of, evidence, slow
 from vectors import WRAPPED16, WRAPPED32
 
 # The directories with own tests: of the package, and of the rotation over it.
@@ -33,24 +34,14 @@ LINES, ROTATION_LINES = (
 def test_make_wheel_without_build(python):
     """A Python that lacks what it builds by is refused, with what to install, and nothing is built."""
     run(python, "-m", "venv", "--without-pip", "bare")
-    ended = subprocess.run(
-        [
-            "make",
-            "-s",
-            "-C",
-            ROOT,
-            "wheel",
-            f"LIBRARY={os.getcwd()}/library",
-            f"PYTHON={os.getcwd()}/bare/bin/python3",
-        ],
-        capture_output=True,
-        text=True,
-    )
-    assert ended.returncode != 0 and not os.path.exists("library")
-    assert (
-        "apt-get install python3-build python3-cffi python3-setuptools python3-wheel"
-        in ended.stderr
-    )
+    here = os.getcwd()
+    variables = [f"LIBRARY={here}/library", f"PYTHON={here}/bare/bin/python3"]
+    command = ["make", "-s", "-C", ROOT, "wheel", *variables]
+    ended = subprocess.run(command, capture_output=True, text=True)
+    assert ended.returncode != 0
+    assert not os.path.exists("library")
+    packages = "python3-build python3-cffi python3-setuptools python3-wheel"
+    assert f"apt-get install {packages}" in ended.stderr
 
 
 @pytest.mark.needs("import cffi", "import setuptools")
@@ -68,43 +59,35 @@ def test_a_command_that_does_not_compile():
     ended = subprocess.run(
         words, cwd=ROOT / "python", env=env, capture_output=True, text=True
     )
-    assert ended.returncode != 0 and "CalledProcessError" in ended.stderr, ended.stderr
+    assert ended.returncode != 0, ended.stderr
+    assert "CalledProcessError" in ended.stderr, ended.stderr
 
 
 @slow
 def test_make_wheel_names_it_last(words, python, dist):
-    said = run(
-        "make",
-        "-s",
-        "-C",
-        ROOT,
-        "wheel",
-        *words,
-        f"DIST={os.getcwd()}",
-        f"PYTHON={python}",
-    )
+    variables = [*words, f"DIST={os.getcwd()}", f"PYTHON={python}"]
+    output = run("make", "-s", "-C", ROOT, "wheel", *variables)
     (wheel,) = pathlib.Path().glob("*.whl")
-    assert said.splitlines()[-1] == str(wheel.absolute())
+    assert output.splitlines()[-1] == str(wheel.absolute())
     assert wheel.read_bytes() == (dist / wheel.name).read_bytes()
 
 
-def test_metadata(thing):
+def test_metadata(handed_out):
     """Its description links to no file, and it has classifiers, but none of a licence."""
-    (text,) = (path.read_text() for path in thing("wheel").glob("*.dist-info/METADATA"))
+    (path,) = handed_out("wheel").glob("*.dist-info/METADATA")
+    text = path.read_text()
     links = re.findall(r"\]\(([^)]*)", text)
-    assert links and all(link.startswith("https://") for link in links)
-    classifiers = re.findall("^Classifier: (.*)", text, re.M)
-    assert len(classifiers) >= 5 and not re.search(
-        "^(Classifier: )?licen[cs]e", text.partition("\n\n")[0], re.M | re.I
-    )
+    assert links
+    assert all(link.startswith("https://") for link in links)
+    assert len(re.findall("^Classifier: (.*)", text, re.M)) >= 5
+    fields = text.partition("\n\n")[0]
+    assert not re.search("^(Classifier: )?licen[cs]e", fields, re.M | re.I)
 
 
-def test_stripped_extension(thing):
-    extension = thing("wheel") / "keywrap/_ffi.abi3.so"
-    assert (
-        "no symbols"
-        in subprocess.run(["nm", extension], capture_output=True, text=True).stderr
-    )
+def test_stripped_extension(handed_out):
+    extension = handed_out("wheel") / "keywrap/_ffi.abi3.so"
+    listed = subprocess.run(["nm", extension], capture_output=True, text=True)
+    assert "no symbols" in listed.stderr
     assert ".debug" not in run("readelf", "-S", extension)
 
 
@@ -120,20 +103,12 @@ def installed(once, wheel, rotate_wheel, python):
         (directory / "first/python3").symlink_to(python)
         environment, _, example, _, of_wheel = LINES
         *_, of_rotation = ROTATION_LINES
-        said = run(
-            "bash",
-            "-ec",
-            "\n".join([environment, of_wheel, of_rotation, example]),
-            cwd=directory,
-            env={
-                **os.environ,
-                "PATH": f"{directory}/first:{os.environ['PATH']}",
-                "PIP_NO_INDEX": "1",
-            },
-        )
-        assert (
-            said.splitlines()[-1] == "b595a1c0afbe7a89ce43807cb3b2ba5737ff5d71d0a35cd7"
-        )
+        script = "\n".join([environment, of_wheel, of_rotation, example])
+        path = f"{directory}/first:{os.environ['PATH']}"
+        env = {**os.environ, "PATH": path, "PIP_NO_INDEX": "1"}
+        output = run("bash", "-ec", script, cwd=directory, env=env)
+        last_line = output.splitlines()[-1]
+        assert last_line == "b595a1c0afbe7a89ce43807cb3b2ba5737ff5d71d0a35cd7"
 
     return once("python-installed", build) / "env/bin/python3"
 
@@ -170,96 +145,81 @@ def test_from_a_clone(address):
         '[ -z "$(objdump -d env/lib/python3*/site-packages/keywrap/_ffi*.so | grep aesenc)" ]',
         "git status --short",
     )
-    said = run(*alone([*lines, *more], HOME=os.getcwd()), cwd="clone")
-    assert "b595a1c0afbe7a89ce43807cb3b2ba5737ff5d71d0a35cd7\n" in said
-    assert all(
-        f"keywrap.{name}" in said for name in ("steps", "pyca", "rotate", "vectors")
-    )
+    output = run(*alone([*lines, *more], HOME=os.getcwd()), cwd="clone")
+    assert "b595a1c0afbe7a89ce43807cb3b2ba5737ff5d71d0a35cd7\n" in output
+    for name in "steps", "pyca", "rotate", "vectors":
+        assert f"keywrap.{name}" in output
     missing = "the rotation is in the package keywrap-rotate, which is not installed"
-    assert f"keywrap.rotate: {missing}\n" in said
-    assert said.count(f"keywrap-rotate {NAMES['PYTHON']}\n") == 2
-    assert said.endswith("?? env/\n") and said.count("??") == 1
+    assert f"keywrap.rotate: {missing}\n" in output
+    assert output.count(f"keywrap-rotate {NAMES['PYTHON']}\n") == 2
+    assert output.endswith("?? env/\n")
+    assert output.count("??") == 1
 
 
 def test_version(installed):
     """The package has the version of the program, and so has its METADATA; the library in it the numbers."""
-    said = run(
-        installed,
-        "-c",
-        """
+    program = """
 import importlib.metadata, keywrap
 number = keywrap._ffi.lib.keywrap_version()
 print(keywrap.__version__, importlib.metadata.version("keywrap"), end=" ")
-print(number >> 16, number >> 8 & 255, number & 255, sep=".")""",
-    )
+print(number >> 16, number >> 8 & 255, number & 255, sep=".")"""
+    printed = run(installed, "-c", program)
     version = NAMES["PYTHON"]
-    assert said == f"{version} {version} {version.removesuffix('.dev0')}\n"
+    numbers = version.removesuffix(".dev0")
+    assert printed == f"{version} {version} {numbers}\n"
 
 
 @pytest.mark.needs("qemu-x86_64")
 def test_processor_without_sse41(installed):
     """An import raises an error on an old processor. A call would end the process."""
     call = "import keywrap; print(keywrap.wrap(bytes(range(16)), bytes(range(0, 256, 17))).hex())"
-    ended = subprocess.run(
-        [*WITHOUT_SSE41, installed, "-c", call], capture_output=True, text=True
-    )
+    command = [*WITHOUT_SSE41, installed, "-c", call]
+    ended = subprocess.run(command, capture_output=True, text=True)
     assert ended.returncode != 0
-    assert (
-        ended.stderr.splitlines()[-1]
-        == "ImportError: this processor lacks SSSE3 or SSE4.1, which keywrap needs"
-    )
+    message = "this processor lacks SSSE3 or SSE4.1, which keywrap needs"
+    assert ended.stderr.splitlines()[-1] == f"ImportError: {message}"
     assert run(*WITH_SSE41, installed, "-c", call) == f"{WRAPPED16}\n"
 
 
 @pytest.fixture
 def own_tests(installed, keywrap, record_property):
     """Runs tests in the environment. What they skip is counted as skipped here."""
+    path = f"{installed.parent}:{os.environ['PATH']}"
+    variables = {**os.environ, "PATH": path, "KEYWRAP": str(keywrap.path)}
+    pytest_here = [installed, "-B", "-m", "pytest", "-q", "-rs"]
 
     def call(*args, cwd=None, **env):
-        path = f"{installed.parent}:{os.environ['PATH']}"
         ended = subprocess.run(
-            [
-                installed,
-                "-B",
-                "-m",
-                "pytest",
-                "-q",
-                "-rs",
-                "-p",
-                "no:cacheprovider",
-                *args,
-            ],
+            [*pytest_here, "-p", "no:cacheprovider", *args],
             cwd=cwd,
-            env={**os.environ, "PATH": path, "KEYWRAP": str(keywrap.path), **env},
+            env={**variables, **env},
             capture_output=True,
             text=True,
         )
-        skipped = re.findall(r"^SKIPPED \[(\d+)\] \S+ (.*)$", ended.stdout, re.M)
+        output = ended.stdout
+        skipped = re.findall(r"^SKIPPED \[(\d+)\] \S+ (.*)$", output, re.M)
         # pytest's status is 5 if all tests of a file were skipped while it was read.
-        assert ended.returncode == 0 or ended.returncode == 5 and skipped, (
-            ended.stdout + ended.stderr
-        )
+        all_skipped = ended.returncode == 5 and skipped
+        assert ended.returncode == 0 or all_skipped, output + ended.stderr
         for count, reason in skipped:
             for _ in range(int(count)):
-                record_property("skipped", SLOW if reason == SLOW else reason)
-        assert re.search(
-            r"^\d+ (passed|skipped|deselected)", ended.stdout, re.M
-        ), ended.stdout
+                record_property("skipped", reason)
+        counts = r"^\d+ (passed|skipped|deselected)"
+        assert re.search(counts, output, re.M), output
 
     return call
 
 
-FILES = sorted(
-    str(path.relative_to(ROOT))
-    for directory in TESTS
-    for path in directory.glob("test_*.py")
-)
+FILES = []
+for directory in TESTS:
+    FILES += [str(path.relative_to(ROOT)) for path in directory.glob("test_*.py")]
+FILES.sort()
 # These start servers, make a run for each row, or kill runs.
 LONG = {
     f"rotation/tests/test_rotation_{name}.py"
     for name in (
         "command dask faults files keks kills objects operators passes"
-        " postgresql recipes renames sqlite stores"
+        " mariadb postgresql recipes renames sqlite stores"
     ).split()
 }
 
@@ -291,14 +251,15 @@ def test_foreign_vectors(installed):
         names += [f"ACVP-AES-{form}", f"ACVP-AES-{form}.expected"]
     for name in names:
         pathlib.Path(name).write_text(published.foreign_text(name))
-    said = run(installed, "-m", "keywrap.vectors", *names)
-    refused = [line for line in said.splitlines() if "refuses it" in line]
-    assert refused == [
-        f"kwp_test: tcId {tcid} SmallKey: {call} refuses it; acceptable"
-        for tcid in (11, 86, 171)
-        for call in ("unwrap_padded", "wrap_padded")
-    ]
-    counts = re.findall(r"^(\S+): \d+ cases: .*, (\d+) wrong$", said, re.M)
+    output = run(installed, "-m", "keywrap.vectors", *names)
+    refused = [line for line in output.splitlines() if "refuses it" in line]
+    due = []
+    for number in 11, 86, 171:
+        for call in "unwrap_padded", "wrap_padded":
+            case = f"kwp_test: tcId {number} SmallKey"
+            due.append(f"{case}: {call} refuses it; acceptable")
+    assert refused == due
+    counts = re.findall(r"^(\S+): \d+ cases: .*, (\d+) wrong$", output, re.M)
     assert counts == [(name, "0") for name in names if not name.endswith(".expected")]
 
 
@@ -386,6 +347,15 @@ print(keywrap.steps.unwrap_padded(decrypt, keywrap.steps.wrap_padded(encrypt, b"
         )
         said = run(installed, "-c", before + textwrap.dedent(lines) + after, env=env)
         assert said == f"{WRAPPED32}\nb'of any length'\n"
+
+    @pytest.mark.needs("softhsm2-util", "pkcs11.h of p11-kit", "pkg-config")
+    def test_many_keys_in_a_token(self, installed):
+        """5,000 keys in 48 calls of the token, as test_tokens.py has it of C, Go and Rust."""
+        env = tokens.environment()
+        library = f"{tokens.library_over_token()}/libecb.so"
+        program = tokens.SOURCES / "main.py"
+        rate = tokens.check(installed, program, library, env=env)
+        assert rate > tokens.LEAST
 
 
 @pytest.mark.needs("import mypy")

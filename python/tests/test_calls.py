@@ -1,5 +1,5 @@
-"""What the package has around its calls: named flags, names, and around those for many keys the objects that they
-take, and wiping. tests/rows.txt has the calls, and tests/faces.py their messages."""
+"""The package without its results: named flags, names, the objects that calls for many keys take, and wiping.
+tests/rows.txt has the results, and tests/faces.py the messages."""
 
 import contextlib
 import copy
@@ -15,70 +15,107 @@ from keywrap import Kind, _many
 from test_objects import Liar
 
 KEK = bytes(range(16))
-WRAPPED, PADDED_OF_7 = keywrap.wrap(KEK, KEK), keywrap.wrap_padded(KEK, KEK[:7])
-MANY = {
+WRAPPED = keywrap.wrap(KEK, KEK)
+PADDED_OF_7 = keywrap.wrap_padded(KEK, KEK[:7])
+# Each call for many keys: the KEKs that come first, and one item that it takes.
+GIVEN_BY_CALL = {
     "wrap_many": ([KEK], KEK),
     "unwrap_many": ([KEK], WRAPPED),
     "rewrap_many": ([KEK, KEK], WRAPPED),
     "check_many": ([KEK], WRAPPED),
 }
-each_call = pytest.mark.parametrize("name", MANY)
+each_call = pytest.mark.parametrize("name", GIVEN_BY_CALL)
 
 
 def test_self_test(monkeypatch):
     assert keywrap.self_test() is None
-    monkeypatch.setattr(
-        keywrap,
-        "_lib",
-        types.SimpleNamespace(keywrap_self_test=lambda: 5, KEYWRAP_OK=0),
-    )
+    failing = types.SimpleNamespace(keywrap_self_test=lambda: 5, KEYWRAP_OK=0)
+    monkeypatch.setattr(keywrap, "_lib", failing)
     with pytest.raises(RuntimeError, match="self test failed"):
         keywrap.self_test()
 
 
-def test_flags():
-    """`keep_form` goes with no form. A check returns the form."""
-    for flag in ({"old_padded": True}, {"new_padded": True}):
-        for call, given in ((keywrap.rewrap, WRAPPED), (keywrap.rewrap_many, [])):
-            with pytest.raises(ValueError, match="keep_form goes with neither"):
-                call(KEK, KEK, given, keep_form=True, **flag)
+@pytest.mark.parametrize("flag", ["old_padded", "new_padded"])
+@pytest.mark.parametrize(
+    "call, given", [(keywrap.rewrap, WRAPPED), (keywrap.rewrap_many, [])]
+)
+def test_keep_form_goes_with_no_form(flag, call, given):
+    flags = {"keep_form": True, flag: True}
+    with pytest.raises(ValueError, match="keep_form goes with neither"):
+        call(KEK, KEK, given, **flags)
+
+
+def test_forms_by_position():
     assert keywrap.rewrap(KEK, KEK, PADDED_OF_7, True, True) == PADDED_OF_7
-    assert [
-        keywrap.check(KEK, text) for text in (WRAPPED, PADDED_OF_7, bytes(24), b"")
-    ] == [*Kind, None, None]
-    assert (
-        keywrap.check_many(KEK, [b"", b""])
-        == keywrap.check_many(KEK, bytes(34), 17)
-        == [None, None]
-    )
 
 
-def test_kek():
-    """A `Kek` shows no bytes, and cannot be pickled. A copy of its bytes is a KEK. It is refused once it is closed."""
+@pytest.mark.parametrize(
+    "text, kind",
+    [
+        (WRAPPED, Kind.PLAIN),
+        (PADDED_OF_7, Kind.PADDED),
+        (bytes(24), None),
+        (b"", None),
+    ],
+)
+def test_check_returns_the_form(text, kind):
+    assert keywrap.check(KEK, text) == kind
+
+
+def test_check_many_of_illegal_lengths():
+    assert keywrap.check_many(KEK, [b"", b""]) == [None, None]
+    assert keywrap.check_many(KEK, bytes(34), 17) == [None, None]
+
+
+def test_kek_shows_no_bytes():
     with keywrap.Kek(bytearray(KEK)) as kek:
-        assert (
-            keywrap.pyca.aes_key_unwrap(kek, WRAPPED)
-            == keywrap.unwrap(bytes(kek), WRAPPED)
-            == KEK
-        )
         assert f"{kek} {kek!r} {[kek]}" == "<keywrap.Kek> <keywrap.Kek> [<keywrap.Kek>]"
-        for made_of in (copy.copy, copy.deepcopy, pickle.dumps):
-            with pytest.raises(TypeError, match="a Kek cannot be pickled or copied"):
-                made_of(kek)
+
+
+def test_kek_and_its_bytes():
+    """A copy of its bytes is a KEK."""
+    with keywrap.Kek(bytearray(KEK)) as kek:
+        assert keywrap.pyca.aes_key_unwrap(kek, WRAPPED) == KEK
+        assert keywrap.unwrap(bytes(kek), WRAPPED) == KEK
+
+
+@pytest.mark.parametrize("copied", [copy.copy, copy.deepcopy, pickle.dumps])
+def test_kek_cannot_be_pickled_or_copied(copied):
+    with keywrap.Kek(KEK) as kek:
+        with pytest.raises(TypeError, match="a Kek cannot be pickled or copied"):
+            copied(kek)
+
+
+def test_kek_is_cleared():
+    """By `close`, and at the end of `with`, also after an exception."""
+    kek = keywrap.Kek(KEK)
+    assert any(kek)
     kek.close()
+    assert not any(kek)
     with pytest.raises(ZeroDivisionError), keywrap.Kek(KEK) as left:
         1 / 0
-    assert not any(kek) and not any(left)
-    calls = (
-        (keywrap.wrap, kek, KEK),
-        (keywrap.check, kek, bytearray()),
-        (keywrap.rewrap, KEK, kek, WRAPPED),
-    )
-    for call, *given in (*calls, (keywrap.wrap_many, kek, [KEK])):
-        with pytest.raises(
-            keywrap.BadKekLength, match="the KEK is closed, or 184 bytes long"
-        ):
-            call(*given)
+    assert not any(left)
+
+
+@pytest.mark.parametrize(
+    "call",
+    [
+        lambda kek: keywrap.wrap(kek, KEK),
+        lambda kek: keywrap.check(kek, bytearray()),
+        lambda kek: keywrap.rewrap(KEK, kek, WRAPPED),
+        lambda kek: keywrap.wrap_many(kek, [KEK]),
+    ],
+    ids=["wrap", "check", "rewrap", "wrap_many"],
+)
+def test_closed_kek_is_refused(call):
+    kek = keywrap.Kek(KEK)
+    kek.close()
+    message = "the KEK is closed, or 184 bytes long"
+    with pytest.raises(keywrap.BadKekLength, match=message):
+        call(kek)
+
+
+def test_length_of_a_kek():
     with pytest.raises(keywrap.BadKekLength, match="the KEK is 15 bytes long"):
         keywrap.Kek(bytes(15))
 
@@ -86,60 +123,95 @@ def test_kek():
 def test_names():
     """`import *` gives all names without an underscore, except the modules that the package uses."""
     assert sorted(keywrap.__all__) == keywrap.__all__
-    own = [
-        name
-        for name, item in vars(keywrap).items()
-        if getattr(item, "__module__", "") == "keywrap"
-    ]
-    assert [name for name in sorted(own) if name[0] != "_"] == keywrap.__all__
-    assert (pathlib.Path(keywrap.__file__).parent / "py.typed").exists()
+    public = []
+    for name, item in sorted(vars(keywrap).items()):
+        is_own = getattr(item, "__module__", "") == "keywrap"
+        if is_own and not name.startswith("_"):
+            public.append(name)
+    assert public == keywrap.__all__
 
 
-def test_the_readme_says_what_is_so():
-    """Runs its prompts as they are."""
-    failed, tried = pytest.importorskip("doctest").testfile("../README.md")
-    assert tried > 3 and failed == 0
+def test_package_has_types():
+    package = pathlib.Path(keywrap.__file__).parent
+    assert (package / "py.typed").exists()
 
 
-def test_the_statuses_of_slots():
-    """`keywrap.rotate` goes by them."""
-    texts = [keywrap.wrap(kek, KEK) for kek in (KEK, KEK[::-1], bytes(16))]
-    slots, flags = bytearray(b"".join(texts)), keywrap._lib.KEYWRAP_PASS_NEW
-    assert (
-        list(_many.rewrap_slots(KEK, KEK[::-1], slots, 24, flags))
-        == [0, _many.ALREADY, 5]
-        and _many.ALREADY == 1
-    )
+def test_prompts_of_the_readme():
+    """They run as they are."""
+    doctest = pytest.importorskip("doctest")
+    failed, tried = doctest.testfile("../README.md")
+    assert failed == 0
+    assert tried > 3
+
+
+def test_statuses_of_slots():
+    """`keywrap.rotate` goes by them: rewrapped, under the new KEK already, and refused."""
+    old_kek = KEK
+    new_kek = KEK[::-1]
+    another_kek = bytes(16)
+    slots = bytearray()
+    for kek in old_kek, new_kek, another_kek:
+        slots += keywrap.wrap(kek, KEK)
+    pass_new = keywrap._lib.KEYWRAP_PASS_NEW
+    statuses = _many.rewrap_slots(old_kek, new_kek, slots, 24, pass_new)
+    assert list(statuses) == [0, _many.ALREADY, 5]
+    assert _many.ALREADY == 1
 
 
 @each_call
-def test_items(name):
-    """They are what test_objects.py has for one key, from any iterable, or one object and a length that fits."""
-    call, (keks, item) = getattr(keywrap, name), MANY[name]
-    for items in (
-        map(bytearray, [item, item]),
-        [Liar(item), memoryview(item).cast("Q")],
-        iter((item, item)),
-    ):
-        assert call(*keks, items) == call(*keks, item + item, len(item))
-    for wrong in (
-        None,
-        7,
-        "text",
-        item,
-        [7],
-        [None, item],
-        memoryview(item + item).cast("B", [2, len(item)]),
-    ):
-        with pytest.raises(TypeError):
-            call(*keks, wrong)
-    for length in (-1, 0, 5, len(item) + 1):
-        with pytest.raises(
-            keywrap.BadLength,
-            match=f"bad length: {3 * len(item)} bytes are not items of {length} bytes",
-        ):
-            call(*keks, item * 3, length)
-    assert call(*keks, []) == call(*keks, b"", 16) == []
+@pytest.mark.parametrize(
+    "items_of",
+    [
+        lambda item: map(bytearray, [item, item]),
+        lambda item: [Liar(item), memoryview(item).cast("Q")],
+        lambda item: iter((item, item)),
+    ],
+    ids=["map", "list", "iterator"],
+)
+def test_any_iterable(name, items_of):
+    """The items are what test_objects.py has for one key, from any iterable, or one object and a length."""
+    call = getattr(keywrap, name)
+    keks, item = GIVEN_BY_CALL[name]
+    expected = call(*keks, item + item, len(item))
+    assert call(*keks, items_of(item)) == expected
+
+
+@each_call
+@pytest.mark.parametrize(
+    "items_of",
+    [
+        lambda item: None,
+        lambda item: 7,
+        lambda item: "text",
+        lambda item: item,
+        lambda item: [7],
+        lambda item: [None, item],
+        lambda item: memoryview(item + item).cast("B", [2, len(item)]),
+    ],
+    ids=["None", "7", "text", "item", "numbers", "a None", "two dimensions"],
+)
+def test_wrong_items(name, items_of):
+    keks, item = GIVEN_BY_CALL[name]
+    with pytest.raises(TypeError):
+        getattr(keywrap, name)(*keks, items_of(item))
+
+
+@each_call
+def test_length_that_does_not_fit(name):
+    keks, item = GIVEN_BY_CALL[name]
+    all_items = item * 3
+    for length in -1, 0, 5, len(item) + 1:
+        message = f"bad length: {len(all_items)} bytes are not items of {length} bytes"
+        with pytest.raises(keywrap.BadLength, match=message):
+            getattr(keywrap, name)(*keks, all_items, length)
+
+
+@each_call
+def test_no_items(name):
+    call = getattr(keywrap, name)
+    keks, _ = GIVEN_BY_CALL[name]
+    assert call(*keks, []) == []
+    assert call(*keks, b"", 16) == []
 
 
 @pytest.mark.parametrize(
@@ -150,27 +222,37 @@ def test_items(name):
         ("unwrap_many", keywrap.wrap(KEK, bytes(range(32)))),
     ],
 )
-def test_keys_in_buffers_are_wiped(monkeypatch, name, item):
+@pytest.mark.parametrize(
+    "kek, items_of",
+    [
+        (KEK, lambda item: [item] * 3),
+        (KEK[1:], lambda item: [item] * 3),
+        (KEK, lambda item: [item, item[1:]]),
+    ],
+    ids=["done", "refused", "lengths differ"],
+)
+def test_keys_in_buffers_are_wiped(monkeypatch, name, item, kek, items_of):
     """Also if the call is refused, or the lengths differ."""
-    made, wipe = [], _many._Slots.wipe
-    monkeypatch.setattr(
-        _many._Slots, "wipe", lambda slots: made.append(slots.buffer) or wipe(slots)
-    )
-    for kek, items in (
-        (KEK, [item] * 3),
-        (KEK[1:], [item] * 3),
-        (KEK, [item, item[1:]]),
-    ):
-        with contextlib.suppress(keywrap.KeywrapError):
-            getattr(keywrap, name)(kek, items, padded=len(item) == 9)
-    assert [len(buffer) >= 2 * len(item) - 1 for buffer in made] == [True] * 3
-    assert all(buffer == bytes(len(buffer)) for buffer in made)
+    buffers = []
+    wipe = _many._Slots.wipe
+
+    def noted(slots):
+        buffers.append(slots.buffer)
+        wipe(slots)
+
+    monkeypatch.setattr(_many._Slots, "wipe", noted)
+    is_padded = len(item) == 9
+    with contextlib.suppress(keywrap.KeywrapError):
+        getattr(keywrap, name)(kek, items_of(item), padded=is_padded)
+    (buffer,) = buffers
+    assert len(buffer) >= 2 * len(item) - 1
+    assert buffer == bytes(len(buffer))
 
 
 @each_call
 def test_a_refusal_in_a_cycle_can_be_collected(name):
     """Some versions of Python crash if they collect a view whose buffer C uses."""
-    keks, item = MANY[name]
+    keks, item = GIVEN_BY_CALL[name]
     for wrong in ([bytes(9)] * 2, [memoryview(item), memoryview(item)[:8]]):
         try:
             getattr(keywrap, name)(*keks, wrong)

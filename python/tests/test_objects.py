@@ -131,10 +131,10 @@ def with_each(given, made):
 
 
 TAKEN = {
-    "a subclass that says more": Liar,
-    "a subclass that says less": Shrunk,
+    "a subclass with a greater length": Liar,
+    "a subclass with a smaller length": Shrunk,
     "a bytearray": bytearray,
-    "a bytearray that says more": LyingArray,
+    "a bytearray with a greater length": LyingArray,
     "a view": memoryview,
     "a view of a liar": lambda item: memoryview(Liar(item)),
     "a read-only view": lambda item: memoryview(bytearray(item)).toreadonly(),
@@ -202,16 +202,17 @@ def test_none_is_a_type_error_but_as_an_initial_value(call, given, answer):
             call(*given[:at], None, *given[at + 1 :])
 
 
-def test_a_liar_of_0_to_2_bytes():
-    for length in range(3):
-        for call in (keywrap.wrap, keywrap.unwrap, keywrap.unwrap_padded):
-            with pytest.raises(keywrap.BadLength, match=f"is {length} bytes long"):
-                call(KEK, Liar(bytes(length)))
+@pytest.mark.parametrize("length", range(3))
+@pytest.mark.parametrize("call", [keywrap.wrap, keywrap.unwrap, keywrap.unwrap_padded])
+def test_a_liar_of_0_to_2_bytes(call, length):
+    with pytest.raises(keywrap.BadLength, match=f"is {length} bytes long"):
+        call(KEK, Liar(bytes(length)))
 
 
 def test_objects_can_change_and_go_after_a_refusal():
     """No buffer is held longer than the call, not even by the exception."""
-    key, room = bytearray(15), mmap.mmap(-1, 15)
+    key = bytearray(15)
+    room = mmap.mmap(-1, 15)
     for given in (key, room):
         try:
             keywrap.wrap(KEK, given)
@@ -221,45 +222,58 @@ def test_objects_can_change_and_go_after_a_refusal():
             break
 
 
-def test_pythons_own_bytes_stay():
+@pytest.mark.parametrize("number", range(256))
+def test_pythons_own_bytes_stay(number):
     """Python shares its bytes objects of length 0 and 1."""
-    for byte in range(256):
-        one = bytearray([byte])
-        assert keywrap.unwrap_padded(KEK, keywrap.wrap_padded(KEK, one)) == bytes(
-            [byte]
-        )
-        with pytest.raises(keywrap.BadLength):
-            keywrap.rewrap(KEK, KEK, one)
-        assert bytes([byte])[0] == byte
-    assert bytes(bytearray()) == b"" and len(b"") == 0
+    shared = bytes([number])
+    given = bytearray(shared)
+    wrapped = keywrap.wrap_padded(KEK, given)
+    assert keywrap.unwrap_padded(KEK, wrapped) == shared
+    with pytest.raises(keywrap.BadLength):
+        keywrap.rewrap(KEK, KEK, given)
+    assert shared[0] == number
+    assert bytes(bytearray()) == b""
 
 
-def test_what_a_call_copies_is_wiped(monkeypatch):
-    """Copies of objects that are not bytes, and a padded key with its padding, are wiped."""
-    copied, wiped, copy, wipe = [], [], keywrap._copied, keywrap._wipe
-    monkeypatch.setattr(
-        keywrap, "_copied", lambda given: copied.append(copy(given)) or copied[-1]
-    )
-    monkeypatch.setattr(
-        keywrap, "_wipe", lambda made, length: wiped.append(made) or wipe(made, length)
-    )
-    for call, given, answer in CALLS:
-        copied.clear()
-        assert call(*map(bytearray, given)) == answer
-        with pytest.raises(keywrap.BadKekLength):
-            call(bytearray(15), *map(bytearray, given[1:]))
-        assert len(copied) == 2 * len(given) and all(
-            item == bytes(len(item)) for item in copied
-        )
-    wiped.clear()
-    assert (
-        keywrap.unwrap_padded(KEK, keywrap.wrap_padded(KEK, b"seven..")) == b"seven.."
-    )
-    assert (
-        keywrap.unwrap_any(KEK, keywrap.wrap_padded(KEK, b"nine byte"))[0]
-        == b"nine byte"
-    )
-    assert wiped == [bytes(8), bytes(16)]
+@pytest.mark.parametrize("call, given, answer", CALLS)
+def test_copies_are_wiped(monkeypatch, call, given, answer):
+    """Copies of objects that are not bytes, also if the call is refused."""
+    copies = []
+    copied = keywrap._copied
+
+    def noted(item):
+        copies.append(copied(item))
+        return copies[-1]
+
+    monkeypatch.setattr(keywrap, "_copied", noted)
+    objects = [bytearray(item) for item in given]
+    assert call(*objects) == answer
+    with pytest.raises(keywrap.BadKekLength):
+        call(bytearray(15), *objects[1:])
+    assert len(copies) == 2 * len(given)
+    for copy in copies:
+        assert copy == bytes(len(copy))
+
+
+@pytest.mark.parametrize("key", [b"seven..", b"nine byte"])
+@pytest.mark.parametrize(
+    "call",
+    [keywrap.unwrap_padded, lambda kek, text: keywrap.unwrap_any(kek, text)[0]],
+    ids=["unwrap_padded", "unwrap_any"],
+)
+def test_padded_keys_are_wiped(monkeypatch, key, call):
+    """A padded key with its padding is wiped once it is copied without it."""
+    wiped = []
+    wipe = keywrap._wipe
+
+    def noted(buffer, length):
+        wiped.append(buffer)
+        wipe(buffer, length)
+
+    monkeypatch.setattr(keywrap, "_wipe", noted)
+    assert call(KEK, keywrap.wrap_padded(KEK, key)) == key
+    padded_length = len(key) + -len(key) % 8
+    assert wiped == [bytes(padded_length)]
 
 
 def test_eight_threads():
@@ -268,13 +282,11 @@ def test_eight_threads():
 
     def work(number):
         kek = bytes([number]) * 32
-        for turn in range(300):
-            key = bytes([number, turn % 256]) * (8 + turn % 50 * 4)
+        for count in range(300):
+            key = bytes([number, count % 256]) * (8 + count % 50 * 4)
             wrapped = keywrap.wrap(kek, bytearray(key))
-            if (
-                keywrap.unwrap(bytearray(kek), wrapped) != key
-                or keywrap.check(kek, wrapped) is None
-            ):
+            back = keywrap.unwrap(bytearray(kek), wrapped)
+            if back != key or keywrap.check(kek, wrapped) is None:
                 wrong.append(number)
 
     threads = [threading.Thread(target=work, args=[number]) for number in range(8)]
@@ -287,7 +299,8 @@ def test_eight_threads():
 
 def test_other_threads_run_while_one_computes():
     """Python itself would not switch threads. On a busy machine the other thread may sleep through a call."""
-    ticks, done = [0], threading.Event()
+    ticks = [0]
+    done = threading.Event()
 
     def count():
         while not done.is_set():
@@ -323,11 +336,9 @@ def resident():
 
 def test_many_calls_take_no_memory():
     """A million calls, or KEYWRAP_CALLS."""
-    padded, damaged, view = (
-        keywrap.wrap_padded(KEK, b"seven.."),
-        bytes(24),
-        memoryview(WRAPPED),
-    )
+    padded = keywrap.wrap_padded(KEK, b"seven..")
+    damaged = bytes(24)
+    view = memoryview(WRAPPED)
 
     def calls(count):
         for _ in range(count):

@@ -90,24 +90,30 @@ def test_what_ours_alone_refuses():
     )
 
 
+def damaged(wrapped):
+    """The wrapped key with a random bit changed, without its first register, and with one register more."""
+    changed = bytearray(wrapped)
+    changed[rng.randrange(len(wrapped))] ^= 1 << rng.randrange(8)
+    return bytes(changed), wrapped[8:], wrapped + bytes(8)
+
+
 @pytest.mark.parametrize("padded", ["", "_with_padding"])
 def test_random_keys_and_damaged_ones(padded):
-    wrap, unwrap = "aes_key_wrap" + padded, "aes_key_unwrap" + padded
+    wrap = "aes_key_wrap" + padded
+    unwrap = "aes_key_unwrap" + padded
     for _ in range(300):
         kek = rng.randbytes(rng.choice([16, 24, 32]))
         length = rng.randint(1, 200)
-        key = rng.randbytes(length if padded else 8 + (length + 7) // 8 * 8)
+        if not padded:
+            length = 8 + (length + 7) // 8 * 8
+        key = rng.randbytes(length)
         wrapped = ended(ours, wrap, kek, key)
         assert wrapped == ended(theirs, wrap, kek, key)
-        assert (
-            ended(ours, unwrap, kek, wrapped)
-            == key
-            == ended(theirs, unwrap, kek, wrapped)
-        )
-        damaged = bytearray(wrapped)
-        damaged[rng.randrange(len(wrapped))] ^= 1 << rng.randrange(8)
-        for other in (bytes(damaged), wrapped[8:], wrapped + bytes(8)):
-            assert ended(ours, unwrap, kek, other) == ended(theirs, unwrap, kek, other)
+        assert ended(ours, unwrap, kek, wrapped) == key
+        assert ended(theirs, unwrap, kek, wrapped) == key
+        for text in damaged(wrapped):
+            expected = ended(theirs, unwrap, kek, text)
+            assert ended(ours, unwrap, kek, text) == expected
 
 
 def test_one_exception():
@@ -121,20 +127,19 @@ def test_one_exception():
             pyca.aes_key_unwrap(bytes(16), bytes(24))
         except pyca.InvalidUnwrap as error:
             print(type(error).__module__)"""
-    assert (
-        subprocess.check_output([sys.executable, "-c", code], text=True)
-        == "keywrap.pyca\n"
-    )
+    written = subprocess.check_output([sys.executable, "-c", code], text=True)
+    assert written == "keywrap.pyca\n"
 
 
 @pytest.mark.parametrize("name", CALLS)
 def test_takes_the_backend_and_names(name):
-    what = "wrapped_key" if "unwrap" in name else "key_to_wrap"
-    wrap = name.replace("unwrap", "wrap")
-    given = getattr(ours, wrap)(bytes(16), bytes(16)) if "unwrap" in name else bytes(16)
+    parameter = "key_to_wrap"
+    given = bytes(16)
+    if "unwrap" in name:
+        wrap = getattr(ours, name.replace("unwrap", "wrap"))
+        parameter = "wrapped_key"
+        given = wrap(bytes(16), given)
     answer = getattr(theirs, name)(bytes(16), given)
-    assert (
-        getattr(ours, name)(wrapping_key=bytes(16), **{what: given}, backend=None)
-        == answer
-    )
+    named = {"wrapping_key": bytes(16), parameter: given, "backend": None}
+    assert getattr(ours, name)(**named) == answer
     assert getattr(ours, name)(bytes(16), given, object()) == answer

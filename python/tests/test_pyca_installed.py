@@ -130,7 +130,8 @@ class Module(types.ModuleType):
 def importer(request):
     """A module that imported pyca's function under another name, and one that imported ours."""
     module = request.param("importer")
-    module.of_pyca, module.of_ours = PYCAS["aes_key_wrap"], ours.aes_key_wrap
+    module.of_pyca = PYCAS["aes_key_wrap"]
+    module.of_ours = ours.aes_key_wrap
     sys.modules["importer"] = module
     yield module
     del sys.modules["importer"]
@@ -150,10 +151,8 @@ def test_names(importer, calls):
     sys.modules["later"] = later
     for _ in range(2):
         ours.uninstall()
-        assert (
-            importer.of_pyca is PYCAS["aes_key_wrap"]
-            and importer.of_ours is OURS["aes_key_wrap"]
-        )
+        assert importer.of_pyca is PYCAS["aes_key_wrap"]
+        assert importer.of_ours is OURS["aes_key_wrap"]
         assert {name: getattr(theirs, name) for name in CALLS} == PYCAS
         assert {name: getattr(ours, name) for name in CALLS} == OURS
         assert later.call is PYCAS["aes_key_unwrap"]

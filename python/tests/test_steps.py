@@ -1,6 +1,5 @@
 """keywrap.steps: wraps and unwraps by a callable for AES, here of pyca or of a token. tests/rows.txt has the calls."""
 
-import functools
 
 import pytest
 
@@ -37,38 +36,52 @@ class Token:
 
     def counted(self):
         """The calls since the last time."""
-        calls, self.calls = self.calls, []
+        calls = self.calls
+        self.calls = []
         return calls
 
 
 def call_of(padded, direction):
     """The call for one key, with the callable of the token for it."""
-    name = direction + ("_padded" if padded else "")
-    return lambda token, text: getattr(steps, name)(
-        getattr(token, CIPHERS[direction]), text
-    )
+    call = getattr(steps, f"{direction}_padded" if padded else direction)
+
+    def call_with(token, text):
+        cipher = getattr(token, CIPHERS[direction])
+        return call(cipher, text)
+
+    return call_with
 
 
 CIPHERS = {"wrap": "encrypt", "unwrap": "decrypt"}
 
 
+LENGTHS_OF_PADDED = [*range(1, 50), 256, 4096]
+LENGTHS_OF_PLAIN = [*range(16, 88, 8), 256, 4096]
+
+
+def block_calls(length):
+    """The calls of a wrap or an unwrap of a key of this length: 6 for each 8 bytes, or 1 for up to 8."""
+    words = -(-length // 8)
+    return 6 * words if words > 1 else 1
+
+
+@pytest.mark.parametrize("kind", [bytes, bytearray, memoryview])
 @pytest.mark.parametrize("kek_len", [16, 24, 32])
 @each_form
-def test_each_length(padded, kek_len):
-    """The result of OpenSSL, and exactly 6 calls for each 8 bytes, or 1 for up to 8."""
-    token = Token(bytes(range(kek_len)))
-    for length in (
-        [*range(1, 50), 256, 4096] if padded else [*range(16, 88, 8), 256, 4096]
-    ):
+def test_each_length(padded, kek_len, kind):
+    """The result of OpenSSL, and exactly as many calls as the standard has."""
+    kek = bytes(range(kek_len))
+    token = Token(kek)
+    wrap = call_of(padded, "wrap")
+    unwrap = call_of(padded, "unwrap")
+    for length in LENGTHS_OF_PADDED if padded else LENGTHS_OF_PLAIN:
         key = bytes(at % 251 for at in range(length))
-        wrapped = WRAPS[padded](bytes(range(kek_len)), key)
-        words = -(-length // 8)
-        due = [1] * (6 * words if words > 1 else 1)
-        for kind in bytes, bytearray, memoryview:
-            assert call_of(padded, "wrap")(token, kind(key)) == wrapped
-            assert token.counted() == due
-            assert call_of(padded, "unwrap")(token, kind(wrapped)) == key
-            assert token.counted() == due
+        wrapped = WRAPS[padded](kek, key)
+        calls = [1] * block_calls(length)
+        assert wrap(token, kind(key)) == wrapped
+        assert token.counted() == calls
+        assert unwrap(token, kind(wrapped)) == key
+        assert token.counted() == calls
 
 
 @pytest.mark.parametrize(
@@ -99,20 +112,18 @@ def test_refused_without_a_call(call, text, more, refusal):
 def wiped(monkeypatch):
     """The buffers that are wiped, each as it was before and as it is afterwards."""
     found = []
+    ffi = keywrap._ffi.ffi
 
     class Lib:
         def __getattr__(self, name):
             return getattr(keywrap._lib, name)
 
         def wipe(self, buffer, length):
-            view = (
-                keywrap._ffi.ffi.from_buffer(buffer)
-                if type(buffer) is bytes
-                else buffer
-            )
-            before = bytes(keywrap._ffi.ffi.buffer(view, length))
+            view = ffi.from_buffer(buffer) if type(buffer) is bytes else buffer
+            before = bytes(ffi.buffer(view, length))
             keywrap._lib.wipe(buffer, length)
-            found.append((before, bytes(keywrap._ffi.ffi.buffer(view, length))))
+            after = bytes(ffi.buffer(view, length))
+            found.append((before, after))
 
     monkeypatch.setattr(steps, "_lib", Lib())
     monkeypatch.setattr(_many, "_lib", Lib())
@@ -120,10 +131,18 @@ def wiped(monkeypatch):
     return found
 
 
-def are_cleared(wiped, *secrets):
-    """Whether these were in buffers that were wiped."""
-    assert all(not any(after) for _, after in wiped) and secrets
-    return all(any(secret in before for before, _ in wiped) for secret in secrets)
+def all_are_zeros(wiped):
+    """Whether buffers were wiped, and each has only zeros afterwards."""
+    return wiped != [] and not any(any(after) for _, after in wiped)
+
+
+def had(wiped, secret):
+    """Whether a buffer that was wiped had this before."""
+    return any(secret in before for before, _ in wiped)
+
+
+def lengths_of(wiped):
+    return sorted(len(before) for before, _ in wiped)
 
 
 @each_form
@@ -133,32 +152,36 @@ def test_no_key_after_a_failed_check(padded, wiped):
     wrapped = bytearray(WRAPS[padded](KEK, key))
     wrapped[-1] ^= 1
     token = Token()
-    with pytest.raises(
-        keywrap.IntegrityFailed,
-        match="integrity check failed: no wrapped key under this KEK",
-    ):
+    message = "integrity check failed: no wrapped key under this KEK"
+    with pytest.raises(keywrap.IntegrityFailed, match=message):
         call_of(padded, "unwrap")(token, bytes(wrapped))
     assert len(token.counted()) == 30
-    buffers = [before for before, _ in wiped]
-    assert sorted(map(len, buffers)) == [16, len(wrapped) + 8]
-    assert (
-        not any(any(before[8:48]) for before in buffers if len(before) > 16)
-        and bytes(16) in buffers
-    )
-    # The fixture would see a key: after a good unwrap it is there.
-    wiped.clear()
-    assert call_of(padded, "unwrap")(token, WRAPS[padded](KEK, key)) == key
-    assert are_cleared(wiped, key)
+    assert lengths_of(wiped) == [16, len(wrapped) + 8]
+    for before, _ in wiped:
+        registers = before[8:48] if len(before) > 16 else before
+        assert not any(registers)
 
 
 @each_form
-def test_copies_are_wiped(padded, wiped):
-    """The copy of a key that is not `bytes`, as of any other argument."""
+def test_key_after_a_good_check(padded, wiped):
+    """The fixture of the test before would see a key."""
     key = bytes(range(1, 41))
-    for given, direction in (key, "wrap"), (WRAPS[padded](KEK, key), "unwrap"):
-        call_of(padded, direction)(Token(), bytearray(given))
-        assert are_cleared(wiped, key) and given in [before for before, _ in wiped]
-        wiped.clear()
+    wrapped = WRAPS[padded](KEK, key)
+    assert call_of(padded, "unwrap")(Token(), wrapped) == key
+    assert had(wiped, key)
+    assert all_are_zeros(wiped)
+
+
+@each_form
+@pytest.mark.parametrize("direction", ["wrap", "unwrap"])
+def test_copies_are_wiped(padded, direction, wiped):
+    """An argument that is not `bytes` is copied. A buffer that equals it is wiped: the copy. So is one with the key."""
+    key = bytes(range(1, 41))
+    given = key if direction == "wrap" else WRAPS[padded](KEK, key)
+    call_of(padded, direction)(Token(), bytearray(given))
+    assert had(wiped, key)
+    assert given in [before for before, _ in wiped]
+    assert all_are_zeros(wiped)
 
 
 class Broken(Exception):
@@ -190,35 +213,35 @@ NOT_BLOCKS = [
 
 
 @pytest.mark.parametrize("callable, error", NOT_BLOCKS)
-@pytest.mark.parametrize("many", [False, True], ids=["one", "many"])
+@pytest.mark.parametrize("count", [1, 2], ids=["one", "many"])
 @pytest.mark.parametrize("direction", ["wrap", "unwrap"])
-def test_a_callable_that_fails(callable, error, direction, many, wiped):
+@pytest.mark.parametrize("at", range(12))
+def test_a_callable_that_fails(callable, error, direction, count, at, wiped):
     """In each of its calls: the error is raised, there is no result, and the buffers with the key are wiped."""
     token = Token()
-    key = bytes(range(1, 17))
-    text = {"wrap": key, "unwrap": pyca.aes_key_wrap(KEK, key)}[direction]
     cipher = getattr(token, CIPHERS[direction])
-    call = getattr(steps, f"{direction}_many" if many else direction)
-    for at in range(12):
+    key = bytes(range(1, 17))
+    given = key if direction == "wrap" else pyca.aes_key_wrap(KEK, key)
+    call = getattr(steps, direction)
+    if count > 1:
+        call = getattr(steps, f"{direction}_many")
+        given = [given] * count
 
-        def failing(blocks, at=at):
-            return callable(blocks) if len(token.calls) == at else cipher(blocks)
+    def failing(blocks):
+        if len(token.calls) == at:
+            return callable(blocks)
+        return cipher(blocks)
 
-        with pytest.raises(error) as raised:
-            call(failing, [text, text] if many else text)
-        if error is ValueError:
-            assert str(16 * (1 + many)) in str(raised.value)
-        assert len(token.counted()) == at
-        assert (
-            sorted(len(before) for before, _ in wiped)[:1] == [16 * (1 + many)]
-            and len(wiped) == 2
-        )
-        assert (
-            are_cleared(wiped, key)
-            if direction == "wrap" and at == 0
-            else are_cleared(wiped, b"")
-        )
-        wiped.clear()
+    with pytest.raises(error) as raised:
+        call(failing, given)
+    if error is ValueError:
+        assert str(16 * count) in str(raised.value)
+    assert len(token.counted()) == at
+    assert len(wiped) == 2
+    assert lengths_of(wiped)[0] == 16 * count
+    assert all_are_zeros(wiped)
+    if direction == "wrap" and at == 0:
+        assert had(wiped, key)
 
 
 class Liar(bytes):
@@ -232,9 +255,16 @@ class Liar(bytes):
 )
 def test_a_result_of_another_type(kind):
     token = Token()
-    assert steps.wrap(
-        lambda blocks: kind(token.encrypt(blocks)), bytes(16)
-    ) == pyca.aes_key_wrap(KEK, bytes(16))
+    wrapped = steps.wrap(lambda blocks: kind(token.encrypt(blocks)), bytes(16))
+    assert wrapped == pyca.aes_key_wrap(KEK, bytes(16))
+
+
+def numbered_keys(count, length):
+    """Keys that differ in each byte."""
+    return [
+        bytes((number + 7 * byte) % 256 for byte in range(length))
+        for number in range(count)
+    ]
 
 
 @each_form
@@ -243,24 +273,29 @@ def test_many(padded, count):
     """Each of the keys as OpenSSL wraps it, and as many calls as for one key, each with a block of each key."""
     token = Token()
     for length in [1, 8, 9, 16, 31, 40] if padded else [16, 24, 40]:
-        keys = [
-            bytes((at + 7 * byte) % 256 for byte in range(length))
-            for at in range(count)
-        ]
-        wrapped = [WRAPS[padded](KEK, key) for key in keys]
-        due = [count] * (6 * -(-length // 8) if length > 8 else 1)
-        for given, each in (
-            (keys, None),
-            (b"".join(keys), length),
-            (map(bytearray, keys), None),
-        ):
-            assert steps.wrap_many(token.encrypt, given, each, padded=padded) == wrapped
-            assert token.counted() == due
-        for given, each in (wrapped, None), (b"".join(wrapped), len(wrapped[0])):
-            assert steps.unwrap_many(token.decrypt, given, each, padded=padded) == keys
-            assert token.counted() == due
-    for call in steps.wrap_many, steps.unwrap_many:
-        assert call(pytest.fail, []) == call(pytest.fail, b"", 24) == []
+        keys = numbered_keys(count, length)
+        texts = [WRAPS[padded](KEK, key) for key in keys]
+        calls = [count] * block_calls(length)
+
+        def wraps(given, size=None):
+            wrapped = steps.wrap_many(token.encrypt, given, size, padded=padded)
+            return wrapped == texts and token.counted() == calls
+
+        def unwraps(given, size=None):
+            unwrapped = steps.unwrap_many(token.decrypt, given, size, padded=padded)
+            return unwrapped == keys and token.counted() == calls
+
+        assert wraps(keys)
+        assert wraps(map(bytearray, keys))
+        assert wraps(b"".join(keys), length)
+        assert unwraps(texts)
+        assert unwraps(b"".join(texts), len(texts[0]))
+
+
+@pytest.mark.parametrize("call", [steps.wrap_many, steps.unwrap_many])
+def test_no_keys(call):
+    assert call(pytest.fail, []) == []
+    assert call(pytest.fail, b"", 24) == []
 
 
 @pytest.mark.parametrize(
@@ -272,50 +307,211 @@ def test_no_bytes(call, text):
         call(pytest.fail, text)
 
 
-def test_no_initial_value():
-    for call, text in (steps.wrap, bytes(16)), (steps.unwrap, bytes(24)):
-        with pytest.raises(
-            TypeError, match="a contiguous bytes-like object is required, not 'str'"
-        ):
-            call(pytest.fail, text, "01234567")
+@pytest.mark.parametrize(
+    "call, text", [(steps.wrap, bytes(16)), (steps.unwrap, bytes(24))]
+)
+def test_no_initial_value(call, text):
+    message = "a contiguous bytes-like object is required, not 'str'"
+    with pytest.raises(TypeError, match=message):
+        call(pytest.fail, text, "01234567")
 
 
-def test_a_step_that_is_refused(monkeypatch):
+@pytest.mark.parametrize("direction, length", [("wrap", 16), ("unwrap", 24)])
+def test_a_step_that_is_refused(monkeypatch, direction, length):
     """It ends the call: the library would never be ready."""
-    token = Token()
 
     class Lib:
-        step_wrap_each = step_unwrap_each = staticmethod(
-            lambda *given: keywrap._lib.KEYWRAP_BAD_LENGTH
-        )
-
         def __getattr__(self, name):
             return getattr(keywrap._lib, name)
 
+        @staticmethod
+        def step_wrap_each(*given):
+            return keywrap._lib.KEYWRAP_BAD_LENGTH
+
+        step_unwrap_each = step_wrap_each
+
     monkeypatch.setattr(steps, "_lib", Lib())
-    for call, text in (functools.partial(steps.wrap, token.encrypt), bytes(16)), (
-        functools.partial(steps.unwrap, token.decrypt),
-        bytes(24),
-    ):
-        with pytest.raises(RuntimeError, match="a step was refused"):
-            call(text)
-        assert token.counted() == [1]
+    token = Token()
+    cipher = getattr(token, CIPHERS[direction])
+    with pytest.raises(RuntimeError, match="a step was refused"):
+        getattr(steps, direction)(cipher, bytes(length))
+    assert token.counted() == [1]
 
 
-def test_rewrap_with_a_callable_that_fails(wiped):
+def fails(blocks):
+    raise OSError("no token")
+
+
+@pytest.mark.parametrize(
+    "decrypt, encrypt",
+    [(fails, Token(bytes(24)).encrypt), (Token().decrypt, fails)],
+    ids=["old KEK", "new KEK"],
+)
+def test_rewrap_with_a_callable_that_fails(decrypt, encrypt, wiped):
     """It passes through, after the buffers are wiped, and the caller's text is as it was."""
+    wrapped = pyca.aes_key_wrap(KEK, bytes(16))
+    given = bytearray(wrapped)
+    with pytest.raises(OSError, match="no token"):
+        steps.rewrap(decrypt, encrypt, given)
+    assert lengths_of(wiped) == [16, 24, 24]
+    assert all_are_zeros(wiped)
+    assert given == wrapped
 
-    def fails(blocks):
-        raise OSError("no token")
 
-    text = bytearray(pyca.aes_key_wrap(KEK, bytes(16)))
-    for ciphers_of in (fails, Token(bytes(24)).encrypt), (Token().decrypt, fails):
-        with pytest.raises(OSError, match="no token"):
-            steps.rewrap(*ciphers_of, text)
-        assert sorted(len(before) for before, _ in wiped) == [
-            16,
-            24,
-            24,
-        ] and are_cleared(wiped, b"")
-        wiped.clear()
-    assert text == pyca.aes_key_wrap(KEK, bytes(16))
+NEW_KEK = bytes(range(100, 124))
+
+
+class TestRewrapMany:
+    """OpenSSL's key wrap, by pyca, gives the expected values."""
+
+    @staticmethod
+    def rewrapped(old, new, wrapped, *given, **more):
+        return steps.rewrap_many(old.decrypt, new.encrypt, wrapped, *given, **more)
+
+    @pytest.mark.parametrize("length", [16, 24, 32, 256])
+    @pytest.mark.parametrize("count", [1, 2, 25])
+    def test_plain_keys(self, length, count):
+        """6 calls for each 8 bytes of a key under either KEK, each with a block of every key."""
+        old = Token()
+        new = Token(NEW_KEK)
+        keys = [
+            bytes((at + byte) % 256 for byte in range(length)) for at in range(count)
+        ]
+        wrapped = [pyca.aes_key_wrap(KEK, key) for key in keys]
+        for given in (wrapped,), (b"".join(wrapped), length + 8):
+            results = self.rewrapped(old, new, *given)
+            assert results == [pyca.aes_key_wrap(NEW_KEK, key) for key in keys]
+            assert old.counted() == new.counted() == [count] * (6 * length // 8)
+
+    def test_calls_for_five_thousand_keys(self):
+        """48 calls rewrap 5,000 keys of 32 bytes, and 24 more ask which of the refused ones are new."""
+        old = Token()
+        new = Token(NEW_KEK)
+        keys = [at.to_bytes(32, "big") for at in range(5000)]
+        wrapped = [pyca.aes_key_wrap(KEK, key) for key in keys]
+        due = [pyca.aes_key_wrap(NEW_KEK, key) for key in keys]
+        assert self.rewrapped(old, new, wrapped) == due
+        assert len(old.counted()) + len(new.counted()) == 48
+        mixed = [wrapped[0], *due[1:]]
+        given = {"keep_form": True, "pass_new": new.decrypt}
+        assert self.rewrapped(old, new, mixed, **given) == due
+        assert old.counted() == [5000] * 24
+        assert sorted(new.counted()) == [1] * 24 + [4999] * 24
+
+    @pytest.mark.parametrize("length", [1, 8, 9, 16, 31])
+    @pytest.mark.parametrize("keep_form", [False, True])
+    def test_padded_keys(self, length, keep_form):
+        old = Token()
+        new = Token(NEW_KEK)
+        keys = [bytes([at]) * length for at in range(5)]
+        wrapped = [pyca.aes_key_wrap_with_padding(KEK, key) for key in keys]
+        flags = {"old_padded": True, "new_padded": True}
+        if keep_form:
+            flags = {"keep_form": True}
+        due = [pyca.aes_key_wrap_with_padding(NEW_KEK, key) for key in keys]
+        assert self.rewrapped(old, new, wrapped, **flags) == due
+
+    def test_both_forms_in_one_call(self):
+        """With keep_form each key keeps its form, whatever the forms of the others are."""
+        keys = [bytes(range(32)), bytes(range(25)), bytes(32), bytes(range(31))]
+        wraps = [WRAPS[len(key) % 8 != 0] for key in keys]
+        wrapped = [wrap(KEK, key) for wrap, key in zip(wraps, keys)]
+        due = [wrap(NEW_KEK, key) for wrap, key in zip(wraps, keys)]
+        results = self.rewrapped(Token(), Token(NEW_KEK), wrapped, keep_form=True)
+        assert results == due
+
+    def test_one_refused_key_does_not_stop_the_others(self):
+        """Each refusal is in its place: under a third KEK, damaged, and a key that is not plain."""
+        keys = [bytes([at]) * 32 for at in range(6)]
+        wrapped = [pyca.aes_key_wrap_with_padding(KEK, key) for key in keys]
+        wrapped[1] = pyca.aes_key_wrap_with_padding(bytes(16), keys[1])
+        wrapped[2] = wrapped[2][:-1] + bytes([wrapped[2][-1] ^ 1])
+        wrapped[4] = pyca.aes_key_wrap_with_padding(KEK, bytes(27))
+        results = self.rewrapped(Token(), Token(NEW_KEK), wrapped, old_padded=True)
+        types = [type(result) for result in results]
+        failed = keywrap.IntegrityFailed
+        assert types == [bytes, failed, failed, bytes, keywrap.KeyNotPlain, bytes]
+        for at in 0, 3, 5:
+            assert results[at] == pyca.aes_key_wrap(NEW_KEK, keys[at])
+
+    def test_what_is_new_stays_only_if_it_may(self):
+        new = Token(NEW_KEK)
+        wrapped = [pyca.aes_key_wrap(NEW_KEK, bytes(24))] * 2
+        results = self.rewrapped(Token(), new, wrapped)
+        assert [type(result) for result in results] == [keywrap.IntegrityFailed] * 2
+        assert self.rewrapped(Token(), new, wrapped, pass_new=new.decrypt) == wrapped
+
+    @pytest.mark.parametrize("failing", ["decrypt", "encrypt", "pass_new"])
+    @pytest.mark.parametrize("callable, error", NOT_BLOCKS)
+    def test_a_callable_that_fails(self, failing, callable, error, wiped):
+        """The error is raised, and every buffer that had key material is wiped."""
+        key = bytes(range(1, 33))
+        new = Token(NEW_KEK)
+        wrapped = [pyca.aes_key_wrap(KEK, key), pyca.aes_key_wrap(NEW_KEK, key)]
+        ciphers_of = {
+            "decrypt": Token().decrypt,
+            "encrypt": new.encrypt,
+            "pass_new": new.decrypt,
+            failing: callable,
+        }
+        with pytest.raises(error):
+            steps.rewrap_many(
+                ciphers_of["decrypt"],
+                ciphers_of["encrypt"],
+                wrapped,
+                pass_new=ciphers_of["pass_new"],
+            )
+        assert all_are_zeros(wiped)
+        # The keys that are under the old KEK are wrapped before the others are tried.
+        if failing == "encrypt":
+            assert had(wiped, key)
+
+    @pytest.mark.parametrize(
+        "wrapped, more, error",
+        [
+            ([bytes(16)], {}, keywrap.BadLength),
+            ([bytes(25)], {"keep_form": True}, keywrap.BadLength),
+            (
+                [bytes(16)],
+                {"new_padded": True, "pass_new": pytest.fail},
+                keywrap.BadLength,
+            ),
+            ([b""], {}, keywrap.BadLength),
+            ([bytes(24), bytes(32)], {}, keywrap.BadLength),
+            ([bytes(24)], {"keep_form": True, "old_padded": True}, ValueError),
+            (["0123456789abcdef"], {}, TypeError),
+        ],
+    )
+    def test_refused_without_a_call(self, wrapped, more, error):
+        with pytest.raises(error):
+            steps.rewrap_many(pytest.fail, pytest.fail, wrapped, **more)
+
+    def test_no_keys(self):
+        assert steps.rewrap_many(pytest.fail, pytest.fail, []) == []
+
+
+def test_check_slots():
+    """The slots of the rotation: each is found to be a wrapped key of its form, or none."""
+    plain = pyca.aes_key_wrap(KEK, bytes(16))
+    padded = WRAPS[True](KEK, bytes(13))
+    texts = bytearray(plain + padded + bytes(24))
+    kept = bytes(texts)
+    statuses, forms = steps.check_slots(Token().decrypt, texts, 24)
+    assert [*map(bool, statuses)] == [False, False, True]
+    assert texts == kept
+    assert [*forms] == [0, 1, 0]
+    statuses, _ = steps.check_slots(pytest.fail, bytes(50), 25)
+    assert all(statuses)
+    assert len(statuses) == 2
+
+
+def test_unwrap_any_slots():
+    """The key and the form of each, or the refusal."""
+    plain = pyca.aes_key_wrap(KEK, bytes(16))
+    padded = WRAPS[True](KEK, bytes(13))
+    texts = bytearray(plain + padded + bytes(24))
+    results = steps.unwrap_any_slots(Token().decrypt, texts, 24)
+    of_plain, of_padded, of_none = results
+    assert of_plain == (bytes(16), keywrap.Kind.PLAIN)
+    assert of_padded == (bytes(13), keywrap.Kind.PADDED)
+    assert type(of_none) is keywrap.IntegrityFailed

@@ -51,7 +51,8 @@ class TestCavp(Files):
         text = text_of(f"kwtestvectors/{name}.txt")
         answer = r"^(P = \w+|FAIL)\r?\n" if "AD" in name else r"^C = \w+\r?\n"
         request = re.sub(answer, "", text, flags=re.M)
-        assert request.count("COUNT") == 500 and len(request) < len(text)
+        assert request.count("COUNT") == 500
+        assert len(request) < len(text)
         assert self.command(request=request) == (0, text, "")
         # The last line of a file may have no end.
         status, out, err = self.command(request=request.rstrip())
@@ -114,7 +115,8 @@ class TestCavp(Files):
         ended = subprocess.run(
             [sys.executable, "-m", "keywrap.vectors", "--help"], capture_output=True
         )
-        assert ended.returncode == 0 and b"Exit status" in ended.stdout
+        assert ended.returncode == 0
+        assert b"Exit status" in ended.stdout
 
 
 class TestAcvp(Files):
@@ -204,14 +206,16 @@ class TestAcvp(Files):
     def test_response_to_another_request(self, text, other):
         response = json.dumps(self.RESPONSE).replace(text, other, 1)
         status, _, err = self.command(request=self.REQUEST, response=response)
-        assert status == 2 and err.startswith("keywrap.vectors: response: ")
+        assert status == 2
+        assert err.startswith("keywrap.vectors: response: ")
 
     def test_two_requests(self):
         status, out, _ = self.command(request=self.REQUEST, other=self.REQUEST)
         assert (status, out) == (2, "")
 
     def test_inverse_cipher(self):
-        cipher, inverse = '"kwCipher": "cipher"', '"kwCipher": "inverse"'
+        cipher = '"kwCipher": "cipher"'
+        inverse = '"kwCipher": "inverse"'
         request = self.REQUEST.replace(cipher, inverse, 1)
         refusal = "KWP with kwCipher inverse is not offered"
         said = f"keywrap.vectors: request: {refusal}\n"

@@ -38,6 +38,7 @@ class _Slots(NamedTuple):
         _lib.wipe(_from(self.buffer), len(self.buffer))
 
     def each(self, size: int) -> List[bytes]:
+        """Returns the content of each slot. A slot has this size."""
         content = bytes(self.buffer)
         begins = (self.offset + size * at for at in range(self.number))
         return [content[begin : begin + size] for begin in begins]
@@ -47,19 +48,20 @@ def _listed(items: Items, length: Optional[int]) -> List[ReadableBuffer]:
     if length is None:
         return list(items)  # type: ignore[arg-type]
     view = memoryview(items).cast("B")  # type: ignore[arg-type]
-    if length < 1 or len(view) % length:
-        raise BadLength(
-            f"bad length: {len(view)} bytes are not items of {length} bytes"
-        )
-    return [view[at : at + length] for at in range(0, len(view), length)]
+    total = len(view)
+    if length < 1 or total % length:
+        raise BadLength(f"bad length: {total} bytes are not items of {length} bytes")
+    return [view[at : at + length] for at in range(0, total, length)]
 
 
 def _size(item: ReadableBuffer) -> int:
-    return len(item) if type(item) is bytes else memoryview(item).nbytes
+    if type(item) is bytes:
+        return len(item)
+    return memoryview(item).nbytes
 
 
 def _joined(items: List[ReadableBuffer], zeros: int) -> bytearray:
-    """Copies the items side by side, with zeros before, between and after them. There is no other copy to wipe."""
+    """Copies the items into one buffer, with zeros before, between and after them. There is no other copy to wipe."""
     if zeros == 0:
         return bytearray().join(items)
     return bytearray(zeros).join([b"", *items, b""])
@@ -69,25 +71,29 @@ def _slots(
     items: Items, length: Optional[int], what: str, gap: int = 0, padded: bool = False
 ) -> _Slots:
     """Copies the items into slots, each after a gap of zeros, and if it is padded before zeros up to 8 bytes."""
+    padding = 0
     try:
         parts = _listed(items, length)
         lengths = {_size(part) for part in parts} or {0}
         longest = max(lengths)
-        padding = -longest % 8 if padded else 0
+        if padded:
+            padding = -longest % 8
         buffer = _joined(parts, padding + gap)
     except BadLength:
         raise
-    # NotImplementedError is that of a view of two dimensions.
+    # A view of two dimensions raises NotImplementedError.
     except (TypeError, ValueError, BufferError, NotImplementedError):
         raise TypeError(
             "a list of contiguous bytes-like objects is required, or one and a length"
         ) from None
-    slots = _Slots(buffer, padding, len(parts), longest)
+    number = len(parts)
+    slots = _Slots(buffer, padding, number, longest)
     slot = gap + longest + padding
-    if len(buffer) != len(parts) * slot + gap + padding:
+    if len(buffer) != number * slot + gap + padding:
         slots.wipe()
+        shortest = min(lengths)
         raise BadLength(
-            f"bad length: {what} is {longest} bytes long, another one {min(lengths)}"
+            f"bad length: {what} is {longest} bytes long, another one {shortest}"
         )
     return slots
 
@@ -102,7 +108,8 @@ def _results(
     results: List[bytes], statuses: bytearray, legal: str
 ) -> List[Union[bytes, KeywrapError]]:
     """Returns the result or the refusal of each slot."""
-    if statuses.count(0) + statuses.count(ALREADY) == len(statuses):
+    answered = statuses.count(0) + statuses.count(ALREADY)
+    if answered == len(statuses):
         return list(results)
     return [_result(result, status, legal) for result, status in zip(results, statuses)]
 
@@ -139,18 +146,23 @@ def wrap_many(
 
 def _wrap_slots(kek: bytes, slots: _Slots, size: int, padded: bool) -> None:
     """Wraps the keys in the slots, each of `size` bytes."""
+    flags = 0
+    legal = _refusals.PLAIN_KEYS
+    if padded:
+        flags = _lib.KEYWRAP_NEW_PADDED
+        legal = _refusals.PADDED_KEYS
+    first = _from("uint8_t[]", slots.buffer) + slots.offset
     statuses = _new("uint8_t[]", slots.number)
     status = _lib.keywrap_wrap_many(
         kek,
         len(kek),
-        _from("uint8_t[]", slots.buffer) + slots.offset,
+        first,
         slots.number * size,
         slots.length,
-        _lib.KEYWRAP_NEW_PADDED if padded else 0,
+        flags,
         statuses,
         slots.number,
     )
-    legal = _refusals.PADDED_KEYS if padded else _refusals.PLAIN_KEYS
     _ended(status, "the key", slots.length, legal, kek)
 
 
@@ -172,7 +184,9 @@ def unwrap_many(
         )
     slots = _slots(wrapped, length, "the wrapped key")
     try:
-        return _unwrapped(kek, slots, padded) if slots.number else []
+        if not slots.number:
+            return []
+        return _unwrapped(kek, slots, padded)
     finally:
         slots.wipe()
 
@@ -181,24 +195,29 @@ def _unwrapped(
     kek: bytes, slots: _Slots, padded: bool
 ) -> List[Union[bytes, KeywrapError]]:
     """Unwraps the wrapped keys in the slots, and returns a copy of each key."""
+    flags = 0
+    legal = _refusals.WRAPPED_PLAIN
+    if padded:
+        flags = _lib.KEYWRAP_OLD_PADDED
+        legal = _refusals.WRAPPED_PADDED
     statuses = bytearray(slots.number)
     lengths = _new("size_t[]", slots.number)
+    total = len(slots.buffer)
     status = _lib.keywrap_unwrap_many(
         kek,
         len(kek),
         _from(slots.buffer),
-        len(slots.buffer),
-        _lib.KEYWRAP_OLD_PADDED if padded else 0,
+        total,
+        flags,
         lengths,
         slots.number,
         _from(statuses),
         slots.number,
     )
-    legal = _refusals.WRAPPED_PADDED if padded else _refusals.WRAPPED_PLAIN
     _ended(status, "the wrapped key", slots.length, legal, kek)
     # A key begins after the first 8 bytes of its slot.
     view = memoryview(slots.buffer)
-    begins = range(8, len(slots.buffer) + 8, slots.length)
+    begins = range(8, total + 8, slots.length)
     keys = [bytes(view[at : at + size]) for at, size in zip(begins, lengths)]
     return _results(keys, statuses, legal)
 
@@ -242,8 +261,11 @@ def rewrap_slots(
 ) -> bytearray:
     """Rewraps the wrapped keys in the slots of `texts`, and returns their statuses. A refused one stays as it is."""
     # Keys of no bytes are refused as one is.
-    statuses = bytearray(len(texts) // length if length else 1)
-    if not statuses:
+    number = 1
+    if length:
+        number = len(texts) // length
+    statuses = bytearray(number)
+    if not number:
         return statuses
     status = _lib.keywrap_rewrap_many(
         old_kek,
@@ -254,10 +276,11 @@ def rewrap_slots(
         len(texts),
         flags,
         _from(statuses),
-        len(statuses),
+        number,
     )
-    is_padded = flags & _EITHER_LENGTH
-    legal = _refusals.WRAPPED_PADDED if is_padded else _refusals.WRAPPED_PLAIN
+    legal = _refusals.WRAPPED_PLAIN
+    if flags & _EITHER_LENGTH:
+        legal = _refusals.WRAPPED_PADDED
     _ended(status, "the wrapped key", length, legal, old_kek, new_kek)
     return statuses
 
@@ -273,33 +296,45 @@ def check_many(
         # Keys of no bytes are refused as one is.
         return [check(kek, b"") for _ in range(slots.number)]
     statuses, forms = check_slots(kek, slots.buffer, slots.length)
-    return [None if status else _KINDS[form] for status, form in zip(statuses, forms)]
+    kinds: List[Optional[Kind]] = []
+    for status, form in zip(statuses, forms):
+        if status:
+            kinds.append(None)
+        else:
+            kinds.append(_KINDS[form])
+    return kinds
 
 
 def check_slots(
     kek: bytes, texts: Union[bytes, bytearray], length: int
 ) -> Tuple[bytearray, bytearray]:
     """Returns for each slot a status, 0 if it is a wrapped key, and 1 if it is a padded one, else 0."""
-    number = len(texts) // length if length else 0
-    statuses, forms = bytearray(number), bytearray(number)
+    number = 0
+    if length:
+        number = len(texts) // length
+    statuses = bytearray(number)
+    forms = bytearray(number)
     if not number:
         return statuses, forms
     scratch_size = max(length - 8, 0)
+    scratch = _new("uint8_t[]", scratch_size)
+    lengths = _new("size_t[]", number)
     status = _lib.keywrap_kind_many(
         kek,
         len(kek),
         _from(texts),
         len(texts),
-        _new("uint8_t[]", scratch_size),
+        scratch,
         scratch_size,
         _from(forms),
         number,
-        _new("size_t[]", number),
+        lengths,
         number,
         _from(statuses),
         number,
     )
     if status == _lib.KEYWRAP_BAD_LENGTH:
-        return bytearray([_lib.KEYWRAP_INTEGRITY]) * number, forms
+        refused = bytearray([_lib.KEYWRAP_INTEGRITY])
+        return refused * number, forms
     _ended(status, "the wrapped key", length, _refusals.WRAPPED_PADDED, kek)
     return statuses, forms

@@ -7,7 +7,7 @@ from ._ffi import ffi, lib
 _MAX_KEY: int = lib.KEYWRAP_MAX_KEY
 _MAX_WRAPPED: int = lib.KEYWRAP_MAX_TEXT
 
-#: What the lengths must be, in bytes.
+#: The legal lengths, in bytes.
 KEKS = "16, 24 or 32"
 PLAIN_KEYS = f"a multiple of 8 from 16 to {_MAX_KEY}"
 PADDED_KEYS = f"from 1 to {_MAX_KEY}"

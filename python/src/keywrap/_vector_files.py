@@ -22,7 +22,9 @@ class Call(enum.Enum):
     @property
     def inverse(self) -> Call:
         """Returns the call that undoes it."""
-        return Call(self.value[2:] if self.unwraps else "un" + self.value)
+        if self.unwraps:
+            return Call(self.value.removeprefix("un"))
+        return Call(f"un{self.value}")
 
     @property
     def unwraps(self) -> bool:
@@ -53,9 +55,8 @@ class Case(NamedTuple):
         """Yields this case, and its inverse if there is an answer."""
         yield self
         if self.answer is not None:
-            yield self._replace(
-                call=self.call.inverse, given=self.answer, answer=self.given
-            )
+            call = self.call.inverse
+            yield self._replace(call=call, given=self.answer, answer=self.given)
 
 
 class NotOffered(ValueError):
@@ -81,42 +82,49 @@ class Cavp:
         if header is None:
             raise NotOffered("not a file of vectors for AES Key Wrap")
         form, direction, cipher, variant = header.groups()
-        is_aes = cipher[:3] == "AES" and variant.strip() == "cipher"
+        is_aes = cipher.startswith("AES") and variant.strip() == "cipher"
         if form not in ("KW", "KWP") or not is_aes:
             raise NotOffered(
                 f"{form} with the {cipher} {variant}function is not offered"
             )
         self._call = _CALLS[form, direction == "E"]
-        self._given, self._answer = ("C", "P") if self._call.unwraps else ("P", "C")
+        # The names of the lines with the input and the answer.
+        self._given = "P"
+        self._answer = "C"
+        if self._call.unwraps:
+            self._given = "C"
+            self._answer = "P"
         self._parts = re.split(r"^(?=COUNT = |\[)", text, flags=re.M)
         self.cases = list(self._read())
 
     def _numbers(self) -> List[int]:
         """Returns the numbers of the parts that are cases."""
-        return [
-            number
-            for number, part in enumerate(self._parts)
-            if part.startswith("COUNT")
-        ]
+        numbers = []
+        for number, part in enumerate(self._parts):
+            if part.startswith("COUNT"):
+                numbers.append(number)
+        return numbers
 
     def _read(self) -> Iterator[Case]:
         """Yields the cases. The name of one has the section before it."""
         section = "]"
         for part in self._parts:
             if part.startswith("["):
-                section = part.split("]")[0] + "]"
+                name, _, _ = part.partition("]")
+                section = f"{name}]"
             elif part.startswith("COUNT"):
                 yield self._case(section, part)
 
     def _case(self, section: str, part: str) -> Case:
-        values = dict(re.findall(r"^(\w+)(?: = (\w+))?\r?$", part, re.M))
-        case = Case(
-            f"{section} COUNT = {values['COUNT']}",
-            self._call,
-            bytes.fromhex(values["K"]),
-            bytes.fromhex(values[self._given]),
-            Verdict.INVALID if "FAIL" in values else Verdict.ASKED,
-        )
+        lines = re.findall(r"^(\w+)(?: = (\w+))?\r?$", part, re.M)
+        values = dict(lines)
+        name = f"{section} COUNT = {values['COUNT']}"
+        kek = bytes.fromhex(values["K"])
+        given = bytes.fromhex(values[self._given])
+        verdict = Verdict.ASKED
+        if "FAIL" in values:
+            verdict = Verdict.INVALID
+        case = Case(name, self._call, kek, given, verdict)
         if self._answer not in values:
             return case
         answer = bytes.fromhex(values[self._answer])
@@ -126,10 +134,14 @@ class Cavp:
         """Returns the response to a request: its text, with a line for each answer."""
         parts = self._parts[:]
         for number, answer in zip(self._numbers(), answers):
-            text = parts[number].rstrip()
-            end = "\r\n" if "\r\n" in parts[number] else "\n"
-            line = "FAIL" if answer is None else f"{self._answer} = {answer.hex()}"
-            parts[number] = f"{text}{end}{line}{parts[number][len(text):] or end}"
+            part = parts[number]
+            text = part.rstrip()
+            end = "\r\n" if "\r\n" in part else "\n"
+            rest = part[len(text) :] or end
+            line = "FAIL"
+            if answer is not None:
+                line = f"{self._answer} = {answer.hex()}"
+            parts[number] = f"{text}{end}{line}{rest}"
         return "".join(parts)
 
 
@@ -145,22 +157,23 @@ class Acvp:
             cipher = group["kwCipher"]
             if form not in ("KW", "KWP") or cipher != "cipher":
                 raise NotOffered(f"{form} with kwCipher {cipher} is not offered")
-            call = _CALLS[form, group["direction"] == "encrypt"]
+            wraps = group["direction"] == "encrypt"
+            call = _CALLS[form, wraps]
             self.cases += [self._case(call, test) for test in group["tests"]]
 
     @staticmethod
     def _case(call: Call, test: Dict[str, Any]) -> Case:
         kek = bytes.fromhex(test["key"])
-        given = bytes.fromhex(test["ct" if call.unwraps else "pt"])
-        return Case(f"tcId {test['tcId']}", call, kek, given, Verdict.ASKED)
+        given = test["ct"] if call.unwraps else test["pt"]
+        name = f"tcId {test['tcId']}"
+        return Case(name, call, kek, bytes.fromhex(given), Verdict.ASKED)
 
     def expect(self, response: List[Any]) -> None:
         """Takes the expected answers from a response."""
-        tests = {
-            f"tcId {test['tcId']}": test
-            for group in response[-1]["testGroups"]
-            for test in group["tests"]
-        }
+        tests = {}
+        for group in response[-1]["testGroups"]:
+            for test in group["tests"]:
+                tests[f"tcId {test['tcId']}"] = test
         if tests.keys() != {case.name for case in self.cases}:
             raise NotOffered("a response to other cases than the request's")
         self.cases = [self._expected(case, tests[case.name]) for case in self.cases]
@@ -170,7 +183,8 @@ class Acvp:
         digits = test.get("pt" if case.call.unwraps else "ct")
         if digits is None:
             return case._replace(verdict=Verdict.INVALID, answer=None)
-        return case._replace(verdict=Verdict.VALID, answer=bytes.fromhex(digits))
+        answer = bytes.fromhex(digits)
+        return case._replace(verdict=Verdict.VALID, answer=answer)
 
     def response(self, answers: Answers) -> str:
         """Returns the response to the request."""
@@ -178,13 +192,14 @@ class Acvp:
         given = iter(answers)
         groups = []
         for group in content["testGroups"]:
-            tests = [
-                self._answered(test, group["direction"], next(given))
-                for test in group["tests"]
-            ]
+            direction = group["direction"]
+            tests = []
+            for test in group["tests"]:
+                tests.append(self._answered(test, direction, next(given)))
             groups.append({"tgId": group["tgId"], "tests": tests})
         head = {"vsId": content["vsId"], "testGroups": groups}
-        return json.dumps([*self._request[:-1], head], indent=2) + "\n"
+        text = json.dumps([*self._request[:-1], head], indent=2)
+        return f"{text}\n"
 
     @staticmethod
     def _answered(
@@ -214,8 +229,11 @@ class Wycheproof:
     def _cases(form: str, test: Dict[str, Any]) -> Iterator[Case]:
         """Yields the unwrapping, and the wrapping if it is valid, or invalid because of the key's length."""
         verdict = Verdict(test["result"])
-        kek, key, wrapped = (bytes.fromhex(test[name]) for name in ("key", "msg", "ct"))
-        name = " ".join([f"tcId {test['tcId']}", *test["flags"]])
+        kek = bytes.fromhex(test["key"])
+        key = bytes.fromhex(test["msg"])
+        wrapped = bytes.fromhex(test["ct"])
+        number = f"tcId {test['tcId']}"
+        name = " ".join([number, *test["flags"]])
         case = Case(name, _CALLS[form, False], kek, wrapped, verdict)
         if verdict is not Verdict.INVALID:
             yield from case._replace(answer=key).both_ways()
@@ -231,4 +249,6 @@ def read(text: str) -> Union[Cavp, Acvp, Wycheproof]:
     if not text.lstrip().startswith(("{", "[{", "[\n")):
         return Cavp(text)
     content = json.loads(text)
-    return Acvp(content) if isinstance(content, list) else Wycheproof(content)
+    if isinstance(content, list):
+        return Acvp(content)
+    return Wycheproof(content)

@@ -109,7 +109,7 @@ def aes_key_unwrap_with_padding(
 
 
 def _unwrap_refused(error: KeywrapError, length: int, least: int) -> Exception:
-    """What is raised for a wrapped key of this length. pyca checks the wrapping key only if it has the least one."""
+    """Returns the exception for a wrapped key of this length. pyca checks the wrapping key only if this is legal."""
     if length < least:
         return InvalidUnwrap(
             f"Must be at least {least} bytes: it is {length} bytes long"

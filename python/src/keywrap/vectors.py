@@ -15,20 +15,27 @@ from __future__ import annotations
 
 import json
 import sys
-from typing import Any, Iterator, List, Optional, Tuple, Union
+from typing import Any, List, Optional, Tuple, Union
 
 import keywrap
 
 from ._vector_files import Acvp, Case, Cavp, NotOffered, Verdict, Wycheproof, read
 
+_File = Union[Cavp, Acvp, Wycheproof]
+
+
+def _complain(why: str) -> None:
+    print(f"keywrap.vectors: {why}", file=sys.stderr)
+
 
 def _answer(case: Case) -> Optional[bytes]:
     """Makes the call of a case. Returns None if it is refused."""
+    call = getattr(keywrap, case.call.value)
     try:
-        found: bytes = getattr(keywrap, case.call.value)(case.kek, case.given)
+        answer: bytes = call(case.kek, case.given)
     except keywrap.KeywrapError:
         return None
-    return found
+    return answer
 
 
 def _is_right(case: Case, answer: Optional[bytes]) -> bool:
@@ -37,30 +44,44 @@ def _is_right(case: Case, answer: Optional[bytes]) -> bool:
     return case.verdict is Verdict.ASKED or answer == case.answer
 
 
-def _files(names: List[str]) -> Iterator[Tuple[str, Union[Cavp, Acvp, Wycheproof]]]:
-    """Reads the files. A response of ACVP belongs to the request before it."""
-    found: List[Tuple[str, Any]] = []
+def _response(text: str) -> Optional[List[Any]]:
+    """Returns the content of a response of ACVP, or None if the text is another file."""
+    if not text.lstrip().startswith("["):
+        return None
+    content: List[Any] = json.loads(text)
+    if "algorithm" in content[-1]:
+        return None
+    return content
+
+
+def _take(files: List[Tuple[str, _File]], name: str, text: str) -> None:
+    """Adds the file to those before it. A response of ACVP belongs to the request before it."""
+    response = _response(text)
+    if response is None:
+        files.append((name, read(text)))
+        return
+    request = files[-1][1] if files else None
+    if not isinstance(request, Acvp):
+        raise NotOffered("a response without its request before it")
+    request.expect(response)
+
+
+def _files(names: List[str]) -> List[Tuple[str, _File]]:
+    """Reads the files."""
+    files: List[Tuple[str, _File]] = []
     for name in names:
         with open(name, newline="") as file:
             text = file.read()
         try:
-            if (
-                text.lstrip()[:1] == "["
-                and "algorithm" not in (content := json.loads(text))[-1]
-            ):
-                if not found or not isinstance(found[-1][1], Acvp):
-                    raise NotOffered("a response without its request before it")
-                found[-1][1].expect(content)
-            else:
-                found.append((name, read(text)))
+            _take(files, name, text)
         except NotOffered as refusal:
             raise NotOffered(f"{name}: {refusal}") from None
         except (ValueError, KeyError, IndexError, TypeError):
             raise NotOffered(f"{name}: not a file of vectors") from None
-    for name, vectors in found:
+    for name, vectors in files:
         if not vectors.cases:
             raise NotOffered(f"{name}: no cases")
-    yield from found
+    return files
 
 
 def _compared(name: str, cases: List[Case], answers: List[Optional[bytes]]) -> int:
@@ -69,39 +90,39 @@ def _compared(name: str, cases: List[Case], answers: List[Optional[bytes]]) -> i
     for case, answer in zip(cases, answers):
         if not _is_right(case, answer):
             wrong += 1
-            print(
-                f"keywrap.vectors: {name}: {case.name}: wrong answer of {case.call.value}",
-                file=sys.stderr,
-            )
+            _complain(f"{name}: {case.name}: wrong answer of {case.call.value}")
         elif case.verdict is Verdict.ACCEPTABLE and answer is None:
             deviations += 1
             print(f"{name}: {case.name}: {case.call.value} refuses it; acceptable")
+    number = len(cases)
     refused = answers.count(None)
-    counts = f"{len(cases)} cases: {len(cases) - refused} answered, {refused} refused"
+    counts = f"{number} cases: {number - refused} answered, {refused} refused"
     print(f"{name}: {counts}, {deviations} of them acceptable, {wrong} wrong")
     return wrong
 
 
 def main(names: List[str]) -> int:
     """Runs the command. Returns its exit status."""
-    if not names or names[0] in ("-h", "--help"):
-        print(__doc__, end="", file=sys.stdout if names else sys.stderr)
-        return 0 if names else 2
+    if not names:
+        print(__doc__, end="", file=sys.stderr)
+        return 2
+    if names[0] in ("-h", "--help"):
+        print(__doc__, end="")
+        return 0
     try:
-        files = list(_files(names))
+        files = _files(names)
     except (OSError, UnicodeDecodeError) as fault:
-        print(f"keywrap.vectors: cannot be read: {fault}", file=sys.stderr)
+        _complain(f"cannot be read: {fault}")
         return 6
     except NotOffered as refusal:
-        print(f"keywrap.vectors: {refusal}", file=sys.stderr)
+        _complain(str(refusal))
         return 2
-    asked = [
-        name
-        for name, file in files
-        if any(case.verdict is Verdict.ASKED for case in file.cases)
-    ]
+    asked = []
+    for name, file in files:
+        if any(case.verdict is Verdict.ASKED for case in file.cases):
+            asked.append(name)
     if asked and len(files) > 1:
-        print(f"keywrap.vectors: {asked[0]}: a request goes alone", file=sys.stderr)
+        _complain(f"{asked[0]}: a request goes alone")
         return 2
     wrong = 0
     for name, file in files:
