@@ -46,16 +46,12 @@ def java(classes, library):
     """java("Checks", "names") runs a class over the library."""
 
     def call(name, *args, **options):
-        return run(
-            "java",
+        settings = [
             f"-Djna.library.path={library}",
             f"-Djava.io.tmpdir={os.getcwd()}",
-            "-cp",
-            f"{classes}:{JNA}",
-            name,
-            *args,
-            **options,
-        )
+        ]
+        class_path = f"{classes}:{JNA}"
+        return run("java", *settings, "-cp", class_path, name, *args, **options)
 
     return call
 
@@ -125,7 +121,7 @@ def test_self_test(java, tmp_path):
         )
 
 
-def test_other_library(java, thing):
+def test_other_library(java, handed_out):
     """Loads the library by its path, in the property keywrap.library."""
 
     def called(path):
@@ -134,7 +130,7 @@ def test_other_library(java, thing):
             "java", lambda text: java("Checks", "rows", input=text, env=env), "rows"
         )
 
-    called(thing("hardware") / "lib/libkeywrap_hw.so.1")
+    called(handed_out("hardware") / "lib/libkeywrap_hw.so.1")
     with pytest.raises(AssertionError, match="cannot load /none.so"):
         called("/none.so")
 
@@ -145,7 +141,7 @@ def test_native_memory_is_cleared(java):
 
 
 def test_heap_is_cleared(java):
-    """Also arrays that the cipher has replaced, and those of results that it has copied."""
+    """Also arrays that the cipher has replaced, and arrays of results that it has copied."""
     env = {**os.environ, "JAVA_TOOL_OPTIONS": "-Xmn256m -XX:+UseSerialGC"}
     assert java("Heap", os.path.abspath("heap.hprof"), env=env) == "0\n"
 
@@ -154,7 +150,9 @@ class TestReadme:
     """The lines of the page, over a copy of the directories that they name, without the kit and without a network."""
 
     LINES = re.findall(r"^    (.*)", (ROOT / "java/README.md").read_text(), re.M)
-    BUILD, EXAMPLE, UNCHANGED = LINES[:3], LINES[3:4], LINES[4:]
+    BUILD = LINES[:3]
+    EXAMPLE = LINES[3:4]
+    UNCHANGED = LINES[4:]
     # It knows nothing of the provider.
     PROGRAM = """
 public class Program {

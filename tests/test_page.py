@@ -1,5 +1,5 @@
-"""Sentences of the manual page beside runs: the temporary file's name and mode, exit statuses, lines on standard error,
-numbers, the order of errors."""
+"""Sentences of the manual page, compared with runs: the temporary file's name and mode, exit statuses, lines on
+standard error, numbers, the order of errors."""
 
 import base64
 import os
@@ -144,10 +144,8 @@ def test_numbers(keywrap):
     pathlib.Path("kek.raw").write_bytes(base64.b64decode(KEK16[:digits]))
     assert os.path.getsize("kek.raw") == count
     as_base64 = keywrap("wrap --base64-kek --kek kek", stdin=KEY16)
-    assert (
-        as_base64 == keywrap("wrap --raw-kek --kek kek.raw", stdin=KEY16)
-        and as_base64.status == 0
-    )
+    assert as_base64 == keywrap("wrap --raw-kek --kek kek.raw", stdin=KEY16)
+    assert as_base64.status == 0
 
 
 def test_order_of_errors(terminal):

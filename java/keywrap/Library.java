@@ -28,9 +28,15 @@ final class Library {
             String path = System.getProperty("jna.library.path");
             String places = path == null ? "the system's directories; -Djna.library.path names others"
                 : "-Djna.library.path=" + path + ", nor from the system's directories";
-            String text = "cannot load " + (name.contains("/") ? name : "lib" + name + ".so.1 from " + places);
+            String text = "cannot load " + (name.contains("/") ? name : file(name) + " from " + places);
             throw (Error) new UnsatisfiedLinkError(text).initCause(error);
         }
+    }
+
+    /** The file of the library of this name: libkeywrap.so.1, keywrap.dll or libkeywrap.dylib. */
+    private static String file(String name) {
+        String file = System.mapLibraryName(name);
+        return file.endsWith(".so") ? file + ".1" : file;
     }
 
     /** A number of type size_t. */
@@ -48,9 +54,9 @@ final class Library {
 
     private static native int keywrap_version();
 
-    private static native int keywrap_self_test();
-
     private static native Size keywrap_status_text(int status, byte[] text, Size capacity);
+
+    private static native int keywrap_self_test();
 
     private static native int keywrap_wrap_with(Pointer kek, Size kekLength, Pointer iv,
         Size ivLength, Pointer key, Size keyLength, Pointer wrapped, Size wrappedLength);

@@ -1,4 +1,4 @@
-// What the provider has around its calls, beside the JDK's own ciphers, and the calls of rows.txt. The argument is the
+// Tests of the provider for Java, compared with the JDK's own ciphers, and the calls of rows.txt. The argument is the
 // name of a check; it fails with an exception.
 
 import java.nio.ByteBuffer;
@@ -191,7 +191,7 @@ final class Checks {
         throwsOne(InvalidKeyException.class, () -> begun(name, OURS, Cipher.WRAP_MODE, kek).wrap(hidden));
     }
 
-    /** What getEncoded returned for a key and for a KEK is cleared after its use. */
+    /** The bytes that getEncoded returned for a key and for a KEK are cleared after their use. */
     static void cleared() throws Exception {
         for (String name : FORMS) {
             byte[] kek = random(16), key = random(32);
@@ -211,7 +211,7 @@ final class Checks {
         return HexFormat.of().parseHex(text.replace("-", ""));
     }
 
-    /** What the call of a line returns, by doFinal, or by wrap and unwrap. */
+    /** Returns the answer to the call of a line, by doFinal, or by wrap and unwrap. */
     private static String answer(boolean ofKeys, String... line) throws Exception {
         boolean wraps = line[0].startsWith("wrap");
         String name = FORMS[line[0].endsWith("padded") ? 1 : 0];
@@ -232,7 +232,7 @@ final class Checks {
         } catch (InvalidKeyException | IllegalBlockSizeException e) {
             answer = "status=" + STATUSES.getOrDefault(e.getMessage(), 3);
         }
-        // Beside a refusal nothing is written, and nothing of what was given is kept.
+        // With a refusal nothing is written, and no argument is kept.
         boolean isClean = answer.startsWith("status=0")
             || Arrays.equals(out, new byte[out.length]) && (cipher == null || cipher.getOutputSize(0) <= 8);
         return answer + (isClean && Arrays.equals(given, bytes(line[5])) ? "" : " changed");

@@ -1,4 +1,4 @@
-// What the package has around its calls, in Node and in a page: the module's memory, how a module is loaded, options.
+// Tests of the package in Node and in a page, without its calls: the module's memory, how a module is loaded, options.
 // tests/rows.txt has the calls, and faces.py their messages.
 
 import assert from 'node:assert/strict';

@@ -1,4 +1,4 @@
-// What the tests use of node:test and node:assert/strict, for a page: tests/js/engines.mjs maps
+// The parts of node:test and node:assert/strict that the tests use, for a page: tests/js/engines.mjs maps
 // both names to this file.
 
 const tests = [];
