@@ -1,5 +1,5 @@
-"""The program in C on Windows, by mingw and wine: what a user does, random command lines beside the build for Linux,
-kills at each step of replacing a file, the rows of the program, and planted bugs of host_windows.c."""
+"""The program in C on Windows, by mingw and wine: commands of a user, random command lines compared with the build for
+Linux, kills at each step of replacing a file, the rows of the program, and planted bugs of host_windows.c."""
 
 import os
 import pathlib
@@ -11,31 +11,21 @@ from typing import Callable, NamedTuple
 
 import pytest
 
+import test_rust
 from builds import ROOT, run
 from commands import INTO_FILES
 from machines import EXPORTS, shown
 from program import Ended, Program, evidence, finish, refused, slow, wait_for
-from test_command import DRILL, DRILLED, works
+from test_command import DRILL, DRILLED, FILES, rows, works
 from test_random_arguments import Lines, make_files, state
 from tools import need
 from vectors import KEK16, KEY16, WRAPPED16
-from windows import COMPILER, STRICT, linked
+from windows import COMPILER, SETTINGS, STRICT, OnWine, linked
 
 HERE = ROOT / "tests/command"
 TOOLS = "x86_64-w64-mingw32-"
 # Not in the gate: of some hundreds of starts wine loses one, or what it prints, and more where several begin at once.
 pytestmark = evidence
-
-
-class OnWine(Program):
-    """A program that wine starts. Of some hundreds of starts one ends with 1 before the program runs, and says nothing.
-    keywrap has no such status, so it is started again."""
-
-    def __call__(self, *words, **options):
-        ended = super().__call__(*words, **options)
-        if ended.status == 1 and not ended.stdout and not ended.stderr:
-            return super().__call__(*words, **options)
-        return ended
 
 
 @pytest.fixture(scope="session")
@@ -64,15 +54,17 @@ def link_driver(directory, host_windows):
 
 @slow
 def test_make(windows):
-    """`make` builds the program, without a warning."""
+    """`make` builds the program, without a warning, also beside the one for Linux."""
     need(COMPILER)
     run("cp", "-R", ROOT / "dist/command", ROOT / "dist/Makefile", ".")
+    run("make", "keywrap.built_from")
+    pathlib.Path("keywrap").touch()
     run("make", "keywrap", f"CC={COMPILER}", f"CFLAGS={' '.join(STRICT)}")
     assert windows.run("./keywrap.exe", *DRILL.split()) == f"{DRILLED}\n"
 
 
 class TestUse:
-    """What a user does."""
+    """The commands of a user."""
 
     def test_works(self, program, keywrap):
         works(program, keywrap)
@@ -222,7 +214,7 @@ class TestAccess:
 
 
 class TestHost:
-    """What host_windows.c answers to the module."""
+    """The results of host_windows.c for the module."""
 
     def test_size_has_64_bits(self, host):
         with open("large", "wb") as file:
@@ -284,7 +276,8 @@ def check_kills(program):
         if ended.status == 0:
             break
         assert ended.status == 9
-    assert step > len(STEPS) and seen == {"old", "new"}
+    assert step > len(STEPS)
+    assert seen == {"old", "new"}
 
 
 def test_killed(windows, windows_objects):
@@ -351,6 +344,65 @@ def test_random_command_lines(program, in_c):
             compared += 1
 
 
+# The files of the program's rows that are left out over keywrap.exe, and why.
+FILES_LEFT_OUT = {
+    "allocations": "a library that Linux loads before the program makes allocations fail",
+    "filesystem": "mounts, limits, signals and calls of Linux; test_killed has the kills",
+    "lines_files": "limits of memory, and streams of Linux that fail",
+    "output": "closed streams, and pipes without a reader",
+    "output_file": "owners, modes and links of Linux; TestUse and TestAccess have those of Windows",
+    "page": "modes of files, and limits of Linux",
+    "published": "thousands of starts",
+    "random_arguments": "modes of files; test_random_command_lines has such command lines",
+    "reading": "named pipes, sockets and /dev/fd, at which wine hangs",
+    "terminal": "terminals of Linux",
+}
+TABLE = "reasons.py::TestReasons::test_refusals_of_the_table[rewrap --kek kek16.hex --new-kek kek32.hex -i wrapped.hex"
+# The rows of the other files that are left out, by how their names begin, and why.
+LEFT_OUT = [
+    (
+        "arguments.py::TestRefusals::test_refused[args38",
+        "Wine converts an argument that is not UTF-8",
+    ),
+    ("arguments.py::TestHelp::test_examples_of_the_page", "modes of files"),
+    (
+        "lines.py::TestLines::test_no_line",
+        "a closed standard input, of which Windows says an error",
+    ),
+    (
+        f"{TABLE} -o-6-output: cannot be opened-link",
+        "Wine shows a symbolic link as what it leads to",
+    ),
+    (
+        f"{TABLE} -o-6-output: cannot be opened-old/file",
+        "Windows has one error for a missing file and a file in the place of a directory",
+    ),
+    ("reasons.py::TestReasons::test_files[key.hex/x", "the same"),
+    (
+        "reasons.py::TestReasons::test_output_without_room",
+        "a limit of Linux for the size of files",
+    ),
+]
+
+
+def options_for_windows():
+    """Options of pytest that leave out these rows."""
+    return [f"--deselect=test_{row}" for row, _ in LEFT_OUT]
+
+
+@pytest.mark.parametrize("file", [name for name in FILES if name not in FILES_LEFT_OUT])
+def test_rows(program, file):
+    """The rows of the program, without the modes of files: TestAccess has these."""
+    status, output = rows(
+        program.path,
+        [file],
+        *options_for_windows(),
+        with_slow=False,
+        variables={"KEYWRAP_ON_WINE": "1"},
+    )
+    assert status == 0, output
+
+
 class TestLibrary:
     """keywrap.c for Windows, as `make` builds it."""
 
@@ -385,6 +437,22 @@ class TestLibrary:
         command = ["go", "test", "-exec", "wine", "-v", "./..."]
         said = run(*command, cwd="module", env=env)
         assert len(re.findall(r"^--- PASS: ", said, re.M)) >= 10
+
+    @evidence
+    def test_rust(self, windows, tmp_path):
+        """The tests of the crate, by Debian's cargo."""
+        need("cargo of Debian", "crates of Debian", "std of Rust for Windows")
+        skipped = shutil.ignore_patterns("target", "Cargo.lock")
+        shutil.copytree(ROOT / "dist", "crate", ignore=skipped)
+        target = "x86_64-pc-windows-gnu"
+        of_target = f"CARGO_TARGET_{target.upper().replace('-', '_')}"
+        tools = {f"{of_target}_LINKER": COMPILER, f"{of_target}_RUNNER": "wine"}
+        env = {**SETTINGS, **tools, "WINEPREFIX": windows.env["WINEPREFIX"]}
+        words = ["test", "--offline", "--features", "zeroize", "--target", target]
+        cargo = test_rust.Cargo("debian", tmp_path)
+        said = cargo(*words, "--lib", "--tests", cwd="crate", env=env)
+        expected = test_rust.tests_of(test_rust.DEFAULT | {"zeroize"})
+        assert test_rust.passed(said) == expected
 
 
 class Planted(NamedTuple):
