@@ -46,9 +46,10 @@ BUILT = ("keywrap", "keywrap_c", "keywrap_wasm")
 def with_links(text, names=()):
     """A document for the directory share/doc/keywrap. Links to the documents beside it, headers, examples and the
     provider for Java lead there. Other links become plain text, and pictures go."""
+    any_name = "|".join(names)
     places = [
         (r"((?:https?:|#).*)", r"\1"),
-        (rf"(?:\.\./|docs/)?((?:{'|'.join(names)})\.md.*)", r"\1"),
+        (rf"(?:\.\./|docs/)?((?:{any_name})\.md.*)", r"\1"),
         (r"\.\./dist/(keywrap\w*\.h.*)", r"../../../include/\1"),
         (r"\.\./(?:c/)?((?:examples|java)/.*)", r"\1"),
     ]
@@ -56,35 +57,53 @@ def with_links(text, names=()):
     def link(found):
         words, target = found.groups()
         for pattern, place in places:
-            if there := re.fullmatch(pattern, target, re.S):
-                return f"[{words}]({there.expand(place)})"
+            there = re.fullmatch(pattern, target, re.S)
+            if there:
+                new_target = there.expand(place)
+                return f"[{words}]({new_target})"
         return words
 
-    text = re.sub(r"!\[[^]]*\]\([^)]*\)\n*|<img [^>]*>\n*", "", text)
-    return re.sub(r"\[([^]]*)\]\(([^)]*)\)", link, text)
+    pictures = r"!\[[^]]*\]\([^)]*\)\n*|<img [^>]*>\n*"
+    without_pictures = re.sub(pictures, "", text)
+    return re.sub(r"\[([^]]*)\]\(([^)]*)\)", link, without_pictures)
+
+
+def write_with_links(source, page, names=()):
+    """Copies a document with the links that lead somewhere there."""
+    text = pathlib.Path(source).read_text()
+    page.write_text(with_links(text, names))
+
+
+def made_directory(path):
+    """The path of a directory that is there afterwards."""
+    directory = pathlib.Path(path)
+    directory.mkdir(parents=True, exist_ok=True)
+    return directory
 
 
 def documents(directory, machine, readme, *paths):
-    directory = pathlib.Path(directory)
-    directory.mkdir(parents=True, exist_ok=True)
+    directory = made_directory(directory)
     templates = pathlib.Path("packaging/templates")
-    lines = (
-        "    bin/keywrap"
-        + (templates / "README.in").read_text().partition("    bin/keywrap")[2]
-    )
-    text = (templates / f"{readme}.in").read_text().replace("@LINES@\n", lines)
-    shared = f"libkeywrap.so.{VERSION.replace('-', '~')}"
-    for name, value in (
-        ("VERSION", VERSION),
-        ("SHARED", shared),
-        ("PROCESSORS", PROCESSORS[machine]),
-        ("MACHINE", machine.replace("_", "-")),
-    ):
+    whole = (templates / "README.in").read_text()
+    # Other READMEs have its lines on the files, from this one on.
+    first = "    bin/keywrap"
+    lines = first + whole.partition(first)[2]
+    version_of_library = VERSION.replace("-", "~")
+    values = {
+        "VERSION": VERSION,
+        "SHARED": f"libkeywrap.so.{version_of_library}",
+        "PROCESSORS": PROCESSORS[machine],
+        "MACHINE": machine.replace("_", "-"),
+    }
+    text = (templates / f"{readme}.in").read_text()
+    text = text.replace("@LINES@\n", lines)
+    for name, value in values.items():
         text = text.replace(f"@{name}@", value)
     (directory / readme).write_text(text)
-    names = [pathlib.Path(path).stem for path in paths]
-    for path in map(pathlib.Path, paths):
-        (directory / path.name).write_text(with_links(path.read_text(), names))
+    pages = [pathlib.Path(path) for path in paths]
+    names = [page.stem for page in pages]
+    for page in pages:
+        write_with_links(page, directory / page.name, names)
 
 
 def pack(directory, file):
@@ -92,6 +111,7 @@ def pack(directory, file):
     file = pathlib.Path(file).absolute()
     file.parent.mkdir(parents=True, exist_ok=True)
     new = file.with_name(f"{file.name}.new")
+    epoch = os.environ["SOURCE_DATE_EPOCH"]
     fixed = [
         "--sort=name",
         "--format=ustar",
@@ -99,34 +119,22 @@ def pack(directory, file):
         "--group=0",
         "--numeric-owner",
         "--mode=u=rwX,go=rX",
-        f"--mtime=@{os.environ['SOURCE_DATE_EPOCH']}",
+        f"--mtime=@{epoch}",
     ]
-    subprocess.run(
-        [
-            "tar",
-            "-C",
-            directory.parent,
-            *fixed,
-            "-I",
-            "gzip -9n",
-            "-cf",
-            new,
-            directory.name,
-        ],
-        check=True,
-    )
+    command = ["tar", "-C", directory.parent, *fixed, "-I", "gzip -9n"]
+    subprocess.run([*command, "-cf", new, directory.name], check=True)
     new.rename(file)
     print(file)
 
 
 def headers(directory):
     """Without the lines by which keywrap.h says that it is of portable C."""
-    directory = pathlib.Path(directory)
-    directory.mkdir(parents=True, exist_ok=True)
+    directory = made_directory(directory)
+    lines = r"^#if !defined\(KEYWRAP_PORTABLE\) &&.*\n.*\n#endif\n"
     for name in HEADERS:
         text = pathlib.Path("dist", name).read_text()
-        lines = r"^#if !defined\(KEYWRAP_PORTABLE\) &&.*\n.*\n#endif\n"
-        (directory / name).write_text(re.sub(lines, "", text, flags=re.M))
+        without_lines = re.sub(lines, "", text, flags=re.M)
+        (directory / name).write_text(without_lines)
 
 
 def archive(directory, file):
@@ -134,12 +142,10 @@ def archive(directory, file):
     directory = pathlib.Path(directory)
     (readme,) = directory.glob("share/doc/keywrap/README*")
     shutil.copy(readme, directory / "README")
+    prefix = "prefix=${pcfiledir}/../.."
     for pc in directory.glob("lib/pkgconfig/keywrap.pc"):
-        pc.write_text(
-            re.sub(
-                "^prefix=.*", "prefix=${pcfiledir}/../..", pc.read_text(), flags=re.M
-            )
-        )
+        text = re.sub("^prefix=.*", prefix, pc.read_text(), flags=re.M)
+        pc.write_text(text)
     pack(directory, file)
 
 
@@ -149,105 +155,105 @@ def files(name, file, *sources):
         workdir.mkdir()
         for source in map(pathlib.Path, sources):
             if source.is_dir():
-                # What `make -C theory` has built stays here.
+                # Files that `make -C theory` has built are not packed.
                 ignored = shutil.ignore_patterns("out")
                 shutil.copytree(source, workdir / source.name, ignore=ignored)
             else:
                 shutil.copy(source, workdir)
         for page in workdir.rglob("*.md"):
-            page.write_text(with_links(page.read_text()))
+            write_with_links(page, page)
         pack(workdir, file)
 
 
 def debian(name, directory):
     """The C, the manual page, the completions and debian/. dpkg-buildpackage builds it on any machine."""
-    directory = pathlib.Path(directory).absolute()
-    directory.mkdir(parents=True, exist_ok=True)
+    directory = made_directory(directory).absolute()
     with tempfile.TemporaryDirectory() as workdir:
         tree = pathlib.Path(workdir, name)
-        shutil.copytree("packaging/debian-portable", tree / "debian")
-        changes = pathlib.Path("packaging/debian/changelog").read_text()
-        (tree / "debian/changelog").write_text(
-            re.sub(r"^keywrap \(", "keywrap-portable (", changes, flags=re.M)
-        )
-        shutil.copytree("dist/command", tree / "command")
-        names = ("keywrap.bash", "_keywrap", "keywrap.fish")
-        subprocess.run(
-            [
-                "generate/completions.py",
-                *(tree / "completions" / name for name in names),
-            ],
-            check=True,
-        )
-        shutil.copy("dist/Makefile", tree)
-        shutil.copy("command/man/keywrap.1", tree)
-        for page in "SECURITY.md", "CHANGELOG.md":
-            (tree / page).write_text(with_links(pathlib.Path(page).read_text()))
-        for path in [tree, *tree.rglob("*")]:
-            path.chmod(0o755 if path.is_dir() or path.name == "rules" else 0o644)
-        subprocess.run(
-            ["dpkg-source", "-b", tree],
-            cwd=directory,
-            check=True,
-            stdout=subprocess.DEVNULL,
-        )
+        debian_tree(tree)
+        command = ["dpkg-source", "-b", tree]
+        subprocess.run(command, cwd=directory, check=True, stdout=subprocess.DEVNULL)
     print(*directory.glob(f"{name}.dsc"))
 
 
+def debian_tree(tree):
+    """Writes what the source package for Debian has."""
+    shutil.copytree("packaging/debian-portable", tree / "debian")
+    changes = pathlib.Path("packaging/debian/changelog").read_text()
+    changes = re.sub(r"^keywrap \(", "keywrap-portable (", changes, flags=re.M)
+    (tree / "debian/changelog").write_text(changes)
+    shutil.copytree("dist/command", tree / "command")
+    shutil.copy("dist/Makefile", tree)
+    shutil.copy("command/man/keywrap.1", tree)
+    names = "keywrap.bash", "_keywrap", "keywrap.fish"
+    completions = [tree / "completions" / name for name in names]
+    subprocess.run(["generate/completions.py", *completions], check=True)
+    for page in "SECURITY.md", "CHANGELOG.md":
+        write_with_links(page, tree / page)
+    for path in [tree, *tree.rglob("*")]:
+        is_executable = path.is_dir() or path.name == "rules"
+        path.chmod(0o755 if is_executable else 0o644)
+
+
 def npm(directory):
-    directory = pathlib.Path(directory).absolute()
-    directory.mkdir(parents=True, exist_ok=True)
-    for path in [pathlib.Path("dist/keywrap.wasm"), *pathlib.Path("js").iterdir()]:
+    directory = made_directory(directory).absolute()
+    wasm = pathlib.Path("dist/keywrap.wasm")
+    js = pathlib.Path("js")
+    for path in [wasm, *js.iterdir()]:
         if path.suffix in (".wasm", ".js", ".mjs", ".cjs", ".ts", ".html"):
             shutil.copyfile(path, directory / path.name)
-    module = base64.b64encode(pathlib.Path("dist/keywrap.wasm").read_bytes()).decode()
-    (directory / "module.js").write_text(
-        f"// The bytes of keywrap.wasm in base64.\nexport default '{module}';\n"
-    )
-    (directory / "README.md").write_text(
-        with_links(pathlib.Path("js/README.md").read_text())
-    )
-    package = (
-        pathlib.Path("js/package.json.in").read_text().replace("@VERSION@", VERSION)
-    )
+    content = wasm.read_bytes()
+    module = base64.b64encode(content).decode()
+    comment = "// The bytes of keywrap.wasm in base64.\n"
+    (directory / "module.js").write_text(f"{comment}export default '{module}';\n")
+    write_with_links(js / "README.md", directory / "README.md")
+    template = (js / "package.json.in").read_text()
+    package = template.replace("@VERSION@", VERSION)
     (directory / "package.json").write_text(package)
     print(directory)
 
 
+def files_in(paths):
+    """The files, and all files in the directories, in order."""
+    found = []
+    for path in map(pathlib.Path, paths):
+        if path.is_dir():
+            found += path.rglob("*")
+        else:
+            found.append(path)
+    return sorted(path for path in found if path.is_file())
+
+
 def go(directory, *paths):
     root = pathlib.Path("dist")
-    module, version = (
-        re.match("module (.*)\n", (root / "go.mod").read_text())[1],
-        f"v{VERSION}",
-    )
-    place = pathlib.Path(directory, module, "@v")
-    place.mkdir(parents=True, exist_ok=True)
-    found = [
-        file
-        for path in map(pathlib.Path, paths)
-        for file in ([path] if path.is_file() else path.rglob("*"))
-    ]
-    with zipfile.ZipFile(place / f"{version}.zip", "w", zipfile.ZIP_DEFLATED) as packed:
-        for file in sorted(filter(pathlib.Path.is_file, found)):
-            member = zipfile.ZipInfo(f"{module}@{version}/{file.relative_to(root)}")
-            member.compress_type, member.external_attr = (
-                zipfile.ZIP_DEFLATED,
-                0o100644 << 16,
-            )
+    go_mod = (root / "go.mod").read_text()
+    module = re.match("module (.*)\n", go_mod)[1]
+    version = f"v{VERSION}"
+    place = made_directory(pathlib.Path(directory, module, "@v"))
+    archive = place / f"{version}.zip"
+    with zipfile.ZipFile(archive, "w", zipfile.ZIP_DEFLATED) as packed:
+        for file in files_in(paths):
+            name = file.relative_to(root)
+            member = zipfile.ZipInfo(f"{module}@{version}/{name}")
+            member.compress_type = zipfile.ZIP_DEFLATED
+            # A regular file that its owner can write, and all can read.
+            member.external_attr = 0o100644 << 16
             packed.writestr(member, file.read_bytes())
     shutil.copyfile(root / "go.mod", place / f"{version}.mod")
-    (place / f"{version}.info").write_text(
-        json.dumps({"Version": version, "Time": "2026-01-01T00:00:00Z"}) + "\n"
-    )
+    info = json.dumps({"Version": version, "Time": "2026-01-01T00:00:00Z"})
+    (place / f"{version}.info").write_text(f"{info}\n")
     (place / "list").write_text(f"{version}\n")
     print(directory)
 
 
 def needs(python, *headers):
-    found = shutil.which(python) and subprocess.run(
-        [python, "-c", LACKING, *headers], capture_output=True, text=True
-    )
-    if lacks := found.stdout.strip() if found and found.returncode == 0 else "python3":
+    lacks = "python3"
+    if shutil.which(python):
+        command = [python, "-c", LACKING, *headers]
+        run = subprocess.run(command, capture_output=True, text=True)
+        if run.returncode == 0:
+            lacks = run.stdout.strip()
+    if lacks:
         sys.exit(
             f"PYTHON='{python}' lacks what builds the wheel: apt-get install {lacks}, or name another Python, as "
             "PYTHON=/usr/bin/python3"
@@ -260,8 +266,7 @@ def copied_package(source, package):
     left = shutil.ignore_patterns("__pycache__", "build", "*.egg-info", "*.so")
     shutil.copytree(source, package, ignore=left, copy_function=shutil.copyfile)
     shutil.copyfile("VERSION", package / "VERSION")
-    page = pathlib.Path(source, "README.md").read_text()
-    (package / "README.md").write_text(with_links(page))
+    write_with_links(pathlib.Path(source, "README.md"), package / "README.md")
 
 
 def built_package(python, kind, package, directory, env=None):
@@ -294,10 +299,23 @@ def rotate(python, file):
     with tempfile.TemporaryDirectory() as workdir:
         package = pathlib.Path(workdir, "rotation")
         copied_package("rotation", package)
-        page = pathlib.Path("docs/ROTATION.md").read_text()
-        (package / "ROTATION.md").write_text(with_links(page))
+        write_with_links("docs/ROTATION.md", package / "ROTATION.md")
         built_package(python, "wheel", package, file.parent)
     print(file)
+
+
+def variables_for_another_machine(sysroot, platform):
+    """The environment in which setuptools builds with CC for the machine of this sysroot."""
+    include = pathlib.Path(sysroot, "usr/include")
+    python_headers = next(include.glob("python3.*"))
+    own_flags = os.environ.get("CFLAGS", "")
+    compiler = os.environ["CC"]
+    machine = platform.removeprefix("manylinux_2_17_")
+    return {
+        "CFLAGS": f"-I{python_headers} -idirafter {include} {own_flags}",
+        "LDSHARED": f"{compiler} -shared",
+        "_PYTHON_HOST_PLATFORM": f"linux-{machine}",
+    }
 
 
 def wheel(python, library, file, sysroot=None):
@@ -308,126 +326,107 @@ def wheel(python, library, file, sysroot=None):
     # The command in C needs no library of the system.
     env = {**os.environ, "COMMAND_LDFLAGS": "-static"}
     if sysroot:
-        include = pathlib.Path(sysroot, "usr/include")
-        env[
-            "CFLAGS"
-        ] = f"-I{next(include.glob('python3.*'))} -idirafter {include} {env.get('CFLAGS', '')}"
-        env["LDSHARED"] = f"{env['CC']} -shared"
-        env[
-            "_PYTHON_HOST_PLATFORM"
-        ] = f"linux-{platform.removeprefix('manylinux_2_17_')}"
+        env.update(variables_for_another_machine(sysroot, platform))
     with tempfile.TemporaryDirectory() as workdir:
         headers(workdir)
         options = pathlib.Path(workdir, "options")
         options.write_text(f"[bdist_wheel]\nplat_name = {platform}\n")
-        python_package(
-            python,
-            "wheel",
-            pathlib.Path(library, "python"),
-            file.parent,
-            {
-                **{name: f"{workdir}/{name}" for name in HEADERS},
-                "setup.cfg": options,
-                "libkeywrap_hw.a": f"{library}/libkeywrap_hw.a",
-            },
-            env,
-        )
+        sources = {name: f"{workdir}/{name}" for name in HEADERS}
+        sources["setup.cfg"] = options
+        sources["libkeywrap_hw.a"] = f"{library}/libkeywrap_hw.a"
+        package = pathlib.Path(library, "python")
+        python_package(python, "wheel", package, file.parent, sources, env)
     print(file)
 
 
 def sdist(python, file):
-    """The package beside the C of dist/, which pip builds on any machine."""
+    """The package with the C of dist/, which pip builds on any machine."""
+    sources = {name: f"dist/{name}" for name in ("keywrap.c", *HEADERS)}
+    name = pathlib.Path(file).name
     with tempfile.TemporaryDirectory() as workdir:
-        workdir, name = pathlib.Path(workdir), pathlib.Path(file).name
-        python_package(
-            python,
-            "sdist",
-            workdir / "package",
-            workdir,
-            {name: f"dist/{name}" for name in ("keywrap.c", *HEADERS)},
-        )
+        workdir = pathlib.Path(workdir)
+        python_package(python, "sdist", workdir / "package", workdir, sources)
         shutil.unpack_archive(workdir / name, workdir)
+        # Packed again, so that the same sources always give the same bytes.
         pack(workdir / name.removesuffix(".tar.gz"), file)
 
 
 def linked_crates():
     """The crates that the program and the libraries need, directly or not, and that are not in this repository."""
-    needs = dict(
-        re.findall(
-            r"^(\w+)(?: staticlib)?: *(.*)$",
-            pathlib.Path("crates.txt").read_text(),
-            re.M,
-        )
-    )
-    found, left = set(), list(BUILT)
+    text = pathlib.Path("crates.txt").read_text()
+    lines = re.findall(r"^(\w+)(?: staticlib)?: *(.*)$", text, re.M)
+    needs = dict(lines)
+    found = set()
+    left = list(BUILT)
     while left:
         name = left.pop()
         if name not in found:
             found.add(name)
             left += needs.get(name, "").split()
-    return ["std", *sorted(found - needs.keys())]
+    others = found - needs.keys()
+    return ["std", *sorted(others)]
 
 
 def hash_of(path):
     return hashlib.sha256(path.read_bytes()).hexdigest()
 
 
+def kit_that_builds():
+    """The version, the logic and the hash of the archive of the kit on the PATH."""
+    rt = shutil.which("rt")
+    if rt is None:
+        sys.exit("package.py: no rt on the PATH")
+    kit = pathlib.Path(rt).resolve().parent.parent
+    kit_id = (kit / "KIT-ID").read_text().strip()
+    name, _, logic = kit_id.partition(" ")
+    content = (kit / "WHAT").read_text()
+    archive = re.search(r"^archive (\w+)$", content, re.M)[1]
+    return name.removeprefix("rattle-kit-"), logic, archive
+
+
+def component(kind, name, **fields):
+    """A component of a bill of materials, which dependencies name by its name."""
+    return {"type": kind, "bom-ref": name, "name": name, **fields}
+
+
+def hashes(content):
+    return [{"alg": "SHA-256", "content": content}]
+
+
 def bill(paths):
     """A bill of materials (SBOM) as CycloneDX 1.4: this version, the kit that built it, the kit's crates that are
     linked in, and the hash of each file."""
-    kit = (
-        pathlib.Path(shutil.which("rt") or sys.exit("package.py: no rt on the PATH"))
-        .resolve()
-        .parent.parent
-    )
-    name, _, logic = (kit / "KIT-ID").read_text().strip().partition(" ")
-    archive = re.search(r"^archive (\w+)$", (kit / "WHAT").read_text(), re.M).group(1)
-    version, crates = name.removeprefix("rattle-kit-"), linked_crates()
-
-    def hashes(content):
-        return {"hashes": [{"alg": "SHA-256", "content": content}]}
-
+    version, logic, archive = kit_that_builds()
+    crates = linked_crates()
+    kit = {
+        "type": "framework",
+        "bom-ref": "kit",
+        "name": "rattle-kit",
+        "version": version,
+        "description": f"prover, compilers and library of Rattle, {logic}",
+        "hashes": hashes(archive),
+    }
+    components = [kit]
+    for crate in crates:
+        library = {
+            "type": "library",
+            "bom-ref": crate,
+            "group": "rattle-kit",
+            "name": crate,
+            "version": version,
+        }
+        components.append(library)
+    for path in paths:
+        digest = hash_of(path)
+        file = component("file", path.name, hashes=hashes(digest))
+        components.append(file)
+    keywrap = component("application", "keywrap", version=VERSION)
     return {
         "bomFormat": "CycloneDX",
         "specVersion": "1.4",
         "version": 1,
-        "metadata": {
-            "component": {
-                "type": "application",
-                "bom-ref": "keywrap",
-                "name": "keywrap",
-                "version": VERSION,
-            }
-        },
-        "components": [
-            {
-                "type": "framework",
-                "bom-ref": "kit",
-                "name": "rattle-kit",
-                "version": version,
-                "description": f"prover, compilers and library of Rattle, {logic}",
-                **hashes(archive),
-            },
-            *(
-                {
-                    "type": "library",
-                    "bom-ref": crate,
-                    "group": "rattle-kit",
-                    "name": crate,
-                    "version": version,
-                }
-                for crate in crates
-            ),
-            *(
-                {
-                    "type": "file",
-                    "bom-ref": path.name,
-                    "name": path.name,
-                    **hashes(hash_of(path)),
-                }
-                for path in paths
-            ),
-        ],
+        "metadata": {"component": keywrap},
+        "components": components,
         "dependencies": [
             {"ref": "keywrap", "dependsOn": crates},
             {"ref": "kit", "dependsOn": crates},
@@ -441,34 +440,39 @@ def lists(*paths):
     directory = paths[0].parent
     new = directory / "list.new"
     materials = directory / f"keywrap-{VERSION}.cdx.json"
-    new.write_text(json.dumps(bill(paths), indent=2) + "\n")
+    text = json.dumps(bill(paths), indent=2)
+    new.write_text(f"{text}\n")
     new.rename(materials)
-    new.write_text(
-        "".join(f"{hash_of(path)}  {path.name}\n" for path in [*paths, materials])
-    )
+    with open(new, "w") as sums:
+        for path in [*paths, materials]:
+            sums.write(f"{hash_of(path)}  {path.name}\n")
     new.rename(directory / "SHA256SUMS")
     print(directory / "SHA256SUMS")
 
 
+GOALS = (
+    documents,
+    headers,
+    archive,
+    files,
+    debian,
+    npm,
+    go,
+    needs,
+    wheel,
+    rotate,
+    sdist,
+    lists,
+)
+
+
+def main(name=None, *arguments):
+    for goal in GOALS:
+        if goal.__name__ == name:
+            return goal(*arguments)
+    sys.exit(__doc__)
+
+
 if __name__ == "__main__":
     os.umask(0o022)
-    goals = {
-        goal.__name__: goal
-        for goal in (
-            documents,
-            headers,
-            archive,
-            files,
-            debian,
-            npm,
-            go,
-            needs,
-            wheel,
-            rotate,
-            sdist,
-            lists,
-        )
-    }
-    if sys.argv[1:2] == [] or sys.argv[1] not in goals:
-        sys.exit(__doc__)
-    goals[sys.argv[1]](*sys.argv[2:])
+    main(*sys.argv[1:])

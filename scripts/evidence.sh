@@ -40,7 +40,7 @@ while IFS='|' read -r name paths command <&3; do
         continue
     fi
     echo "$name: $command"
-    said=$(bash -c "$command" 2>&1) || { echo "$said" && echo "evidence: $name failed" && failed=yes && continue; }
-    printf '%s\n\n%s\n\n%s\n' "$sums" "$command" "$(sed '/^\[/d' <<<"$said" | tail -n 240)" >"$evidence/$name"
+    output=$(bash -c "$command" 2>&1) || { echo "$output" && echo "evidence: $name failed" && failed=yes && continue; }
+    printf '%s\n\n%s\n\n%s\n' "$sums" "$command" "$(sed '/^\[/d' <<<"$output" | tail -n 240)" >"$evidence/$name"
 done 3< <(sed -n 's/ *| */|/g; /^[^#]/p' tests/evidence.txt)
 [ -z "$failed" ]

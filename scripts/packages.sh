@@ -1,7 +1,7 @@
 #!/usr/bin/env bash
-# Installs what the tests use and this machine lacks: the Debian packages of tests/packages.txt, and for aarch64 what
-# packaging/sysroot.sh unpacks. If a package cannot be installed, the others still are. The last lines name what is
-# still missing. Then the exit status is 1.
+# Installs what the tests use and this machine lacks: the Debian packages of tests/packages.txt, and for aarch64,
+# i686 and s390x what packaging/sysroot.sh unpacks. If a package cannot be installed, the others still are. The last
+# lines name what is still missing. Then the exit status is 1.
 #
 # usage: scripts/packages.sh [TOOL..]        only the packages of these tools, if one is named
 
@@ -23,7 +23,10 @@ if [ ${#packages[@]} -gt 0 ]; then
     timeout 300 apt-get update
     install "${packages[@]}" || for package in "${packages[@]}"; do install "$package"; done
 fi
-[ $# -gt 0 ] || timeout 600 packaging/sysroot.sh || echo 'packages.sh: packaging/sysroot.sh failed' >&2
+[ $# -gt 0 ] || for architecture in arm64 i386 s390x; do
+    ARCHITECTURE=$architecture timeout 600 packaging/sysroot.sh ||
+        echo "packages.sh: packaging/sysroot.sh failed for $architecture" >&2
+done
 missing=$(bash tests/lib/tools.sh "$@")
 echo "${missing:-no tool is missing}"
 [ -z "$missing" ]

@@ -37,8 +37,8 @@ compile() {
     echo 'keywrap: building the translation in C (dist/command), 20 seconds the first time' >&2
     jobs=$(nproc 2>/dev/null) || jobs=2
     # The options of a calling make are not for this make.
-    said=$(unset MAKEFLAGS GNUMAKEFLAGS MAKEFILES && exec make -B -j "$jobs" -C dist keywrap 2>&1 </dev/null) || {
-        printf '%s\n' "$said" >&2
+    output=$(unset MAKEFLAGS GNUMAKEFLAGS MAKEFILES && exec make -B -j "$jobs" -C dist keywrap 2>&1 </dev/null) || {
+        printf '%s\n' "$output" >&2
         stop 'the build failed: dist/'
     }
 }

@@ -4,7 +4,8 @@
 # It calls the kit's compiler, rattle, as `rt ci` does. So a crate loads what the crates below it state, and not their
 # proofs: loading these takes long, and `rt lib` has no option to leave them out.
 #
-# A kit that refuses the options of `rattle` here proves and builds by `rt lib`: that takes longer.
+# A kit that refuses the options of `rattle` here proves and builds by `rt lib`: that takes longer. `rt lib` has no
+# option for other tools, so an archive in which C is in the place of the leaves is not built then.
 #
 # CRATES are the crates below the goals that have a directory here, ARCHIVES the goals that are archives, and JOBS is
 # the greatest number of jobs of rattle. The directory LOGS, of the environment, gets the output for crates/NAME:
@@ -21,8 +22,10 @@ of.rattle.a = keywrap_c x86_64-unknown-linux-gnu rattle
 of.arm64.a = keywrap_c aarch64-unknown-linux-gnu llvm
 of.wasm64.a = keywrap_wasm wasm64-unknown-unknown llvm
 of.hw.a = keywrap_hw x86_64-unknown-linux-gnu llvm
+of.portable.a = keywrap_portable wasm64-unknown-unknown llvm
+of.hw-arm64.a = keywrap_hw aarch64-unknown-linux-gnu llvm
 crate_of = $(firstword $(of.$(1)) $(1))
-# What each compiler takes: the check of this crate for this machine.
+# Each compiler takes the check of this crate for this machine.
 check_of = $(word 1,$(of.$(1)))-for-$(word 2,$(of.$(1)))
 $(foreach made,$(ARCHIVES),$(eval of.$(call check_of,$(made)) = $(of.$(made))))
 CHECKS := $(sort $(foreach made,$(ARCHIVES),$(call check_of,$(made))))
@@ -30,12 +33,13 @@ CHECKS := $(sort $(foreach made,$(ARCHIVES),$(call check_of,$(made))))
 
 kit := $(shell dirname -- "$$(dirname -- "$$(readlink -f -- "$$(command -v rt)")")")
 # A build leaves two files of each crate for the next one: NAME.rlib for the crates above, and NAME.sums, the checksums
-# of the sources of NAME and of the crates below it, and of the kit. Of an archive it leaves NAME.a and NAME.a.sums.
+# of the sources of NAME and of the crates below it, and of the kit. Of an archive it leaves NAME.a and NAME.a.sums,
+# and the sums of an archive over the leaves also have the scripts that put C in their place.
 kept = crates/keywrap/out/kept
 refused := $(shell help=$$('$(kit)/bin/rattle' build --help 2>/dev/null); \
     for option in $(options); do case $$help in (*"$$option"*) ;; (*) echo $$option ;; esac; done)
-# The crates that a crate names in crates.txt, also for its tests; those of them in CRATES; and all crates below it. The
-# kit has the others that have no directory here.
+# The crates that a crate names in crates.txt, also for its tests; the ones in CRATES; and all crates below it. A crate
+# without a directory here is in the kit.
 named = $(shell sed -n 's/^$(crate_of)\( staticlib\)*: *//p' crates.txt)
 below = $(filter $(CRATES),$(call named,$(1)))
 all_below = $(sort $(foreach crate,$(call below,$(1)),$(crate) $(call all_below,$(crate))))
@@ -44,7 +48,9 @@ is_kept = $(shell [ -e $(kept)/$(1)$(if $(of.$(1)),,.rlib) ] && \
 changed := $(foreach made,$(CRATES) $(ARCHIVES),$(if $(call is_kept,$(made)),,$(made)))
 # The checksums are of the sources as they are at the start: a source that changes meanwhile differs from them.
 sources = $(patsubst %,crates/%,$(crate_of) $(call all_below,$(1)))
-sums = { scripts/sources.sh $(call sources,$(1)); b2sum '$(kit)/WHAT'; } >"$$LOGS/$(1).sums"
+over_leaves = $(filter keywrap_hw keywrap_portable,$(call crate_of,$(1)))
+scripts = $(if $(call over_leaves,$(1)),generate/substitute.py generate/toolchain.sh)
+sums = { scripts/sources.sh $(call sources,$(1)); b2sum '$(kit)/WHAT' $(scripts); } >"$$LOGS/$(1).sums"
 $(foreach made,$(changed),$(shell $(call sums,$(made))))
 
 $(CRATES): jobs = $(if $(filter 1,$(JOBS)),1,2)
@@ -72,18 +78,19 @@ rattle = cd 'crates/$(own)' && exec $(gently) '$(kit)/bin/rattle' $(1) --crate-n
     --links $(own)= $(if $(of.$@),--crate-type staticlib --target $(word 2,$(of.$@)))
 proof = --logic-built '$(kit)/logic_built' --jobs $(jobs)
 # Over the leaves the compiler calls C.
-over_leaves = $(filter keywrap_hw,$(own))
-tools = $(if $(over_leaves),"$$LOGS/$@.toolchain",'$(kit)/toolchain')
+tools = $(if $(call over_leaves,$@),"$$LOGS/$@.toolchain",'$(kit)/toolchain')
 compiled = --backend $(word 3,$(of.$@)) --toolchain $(tools)
 is_proved = @mv "$$LOGS/$@.log" "$$LOGS/$@.proved"
 rlib = $(call rattle,build) $(proof) --statements -o ../../$(kept)/$@.rlib src/lib.rt
-archive = $(if $(over_leaves),generate/toolchain.sh $(tools) && )$(call rattle,build) \
+archive = $(if $(call over_leaves,$@),generate/toolchain.sh $(tools) && )$(call rattle,build) \
     --crate-checked "$$LOGS/$(call check_of,$@)" $(compiled) -o ../../$(kept)/$@ src/lib.rt
 ifneq ($(refused),)
 # It writes each archive to one path.
 .NOTPARALLEL:
-archive = cd crates/$(own) && rt lib --target $(word 2,$(of.$@)) --backend $(word 3,$(of.$@)) && \
+by_rt = cd crates/$(own) && rt lib --target $(word 2,$(of.$@)) --backend $(word 3,$(of.$@)) && \
     cp out/lib$(own).a ../../$(kept)/$@
+no_leaves = echo "$@: this kit refuses $(refused), without which no C takes the place of the leaves"; false
+archive = $(if $(call over_leaves,$@),$(no_leaves),$(by_rt))
 keywrap:
 	@cd crates/keywrap && rt lib --backend rattle >"$$LOGS/$@.log" 2>&1
 	$(is_proved)

@@ -3,7 +3,7 @@
 # library. What has not changed since the last time is not proved again: crates/keywrap/out/kept has the results.
 #
 # usage: scripts/prove.sh keywrap                  crates/keywrap/out/keywrap, and the record of its sources beside it
-#        scripts/prove.sh DIRECTORY ARCHIVE..      llvm.a, rattle.a, arm64.a or wasm64.a there: tests/library/build.sh
+#        scripts/prove.sh DIRECTORY ARCHIVE..      archives of scripts/prove.mk there: tests/library/build.sh
 
 set -eu
 cd "$(dirname "${BASH_SOURCE[0]}")/.."

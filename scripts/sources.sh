@@ -49,7 +49,7 @@ below() {
 # them: by the parts of the path, so / comes before every other character.
 of_translation() {
     {
-        find generate -name 'command*' -type f
+        find generate -name __pycache__ -prune -o -name 'command*' -type f -print
         for crate in $(below keywrap); do
             find "crates/$crate/src" -name tests -prune -o -name '*.rt' ! -name '*tests*' -print
         done

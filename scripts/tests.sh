@@ -1,7 +1,7 @@
 #!/usr/bin/env bash
 # Runs the tests of tests/ by pytest, in parallel if pytest-xdist is installed; test_shell.py there runs those of *.sh.
 # The last line counts what passed, failed and was skipped; out/skipped has what was skipped, and why. `make gate` sets
-# KEYWRAP_ALL=1, which adds slow rows, and `make evidence` KEYWRAP_EVIDENCE=1 beside it, which adds all of them.
+# KEYWRAP_ALL=1, which adds slow rows, and `make evidence` KEYWRAP_EVIDENCE=1, too, which adds all of them.
 #
 # usage: scripts/tests.sh [NAME..]        tests/test_NAME.py or tests/NAME.sh; all of them, if none is named
 #        (KEYWRAP=PATH tries another program; KEYWRAP_BUILT=DIRECTORY takes the archives there, and builds missing ones)
@@ -30,3 +30,4 @@ for python in "${PYTHON:-python3}" /usr/bin/python3; do
 done
 bash tests/lib/tools.sh 'import pytest' 'import xdist' >out/skipped
 printf '%s\n' "the tests need pytest: $(<out/skipped)" '0 passed, 0 failed, 1 skipped'
+exit 1

@@ -73,7 +73,8 @@ def test_hardened_build(debs):
 def test_python_of_debian(debs):
     """Debian's Python builds the extension, although another one is first on the PATH."""
     calls = (debs / "calls").read_text()
-    assert calls and "-m build" not in calls
+    assert calls
+    assert "-m build" not in calls
 
 
 @pytest.mark.needs("lintian")
@@ -173,9 +174,11 @@ zsh -fc 'autoload -U compinit && compinit -D -u && print -r -- $_comps[keywrap]'
     "softhsm2-util",
     "pkcs11.h of p11-kit",
 )
-def test_recipe_of_a_package(debs, thing, package, name):
+def test_recipe_of_a_package(debs, handed_out, package, name):
     """The lines of an installed RECIPES.md run with what is installed."""
-    (page,) = (thing(f"deb {package}") / "usr/share/doc" / package).glob("RECIPES.md*")
+    (page,) = (handed_out(f"deb {package}") / "usr/share/doc" / package).glob(
+        "RECIPES.md*"
+    )
     text = (
         gzip.decompress(page.read_bytes()).decode()
         if page.suffix == ".gz"
@@ -184,7 +187,8 @@ def test_recipe_of_a_package(debs, thing, package, name):
     typed, shown = typed_and_shown(
         re.search(rf"^## {name}$(.*?)^## ", text, re.M | re.S)[1]
     )
-    assert typed and shown
+    assert typed
+    assert shown
     examples = "/usr/share/doc/libkeywrap-dev/examples"
     script = (
         f"mkdir here && cd here && EXAMPLES={examples} bash -u ../recipe >../found 2>&1"
@@ -207,9 +211,8 @@ def test_symbols(debs):
     ).splitlines()
     since = dict(re.findall(r"^ (keywrap_\w+)@\w+\S* (.*)$", "\n".join(symbols), re.M))
     assert symbols[0].startswith("libkeywrap.so.1 libkeywrap1 ")
-    assert since["keywrap_wrap"] == "1.0.0" and since["keywrap_rewrap_many"].startswith(
-        "1.1.0~"
-    )
+    assert since["keywrap_wrap"] == "1.0.0"
+    assert since["keywrap_rewrap_many"].startswith("1.1.0~")
     assert since["keywrap_kek_init"].startswith("1.2.0~")
     assert since.keys() == {
         *re.findall(r"(keywrap_\w+);", (ROOT / "c/include/keywrap.map").read_text())

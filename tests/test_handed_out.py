@@ -1,5 +1,5 @@
-"""What is handed out has the files, modes and links of handed_out.txt, and no others: what make installs, the archives,
-the packages for Python and npm. These and Debian's packages have the fields there."""
+"""Installations, archives and the packages for Python and npm have the files, modes and links of handed_out.txt, and no
+others. The packages, also Debian's, have the fields there."""
 
 import email
 import fnmatch
@@ -48,7 +48,8 @@ def listed(root):
     """The files below the directory, each with its mode or the target of its link. All directories have mode 755."""
     found = {}
     for path in root.rglob("*"):
-        name, mode = str(path.relative_to(root)), stat.S_IMODE(path.lstat().st_mode)
+        name = str(path.relative_to(root))
+        mode = stat.S_IMODE(path.lstat().st_mode)
         if path.is_symlink():
             found[name] = f"-> {path.readlink()}"
         elif path.is_dir():
@@ -84,16 +85,17 @@ def expected(section):
 
 
 @pytest.mark.parametrize("name", THINGS)
-def test_files(thing, name):
-    assert listed(thing(name)) == expected(f"files of {name}")
+def test_files(handed_out, name):
+    assert listed(handed_out(name)) == expected(f"files of {name}")
 
 
 @pytest.mark.parametrize(
     "name, readme", [("command", "README"), ("library", "README.library")]
 )
-def test_files_of_archive(thing, name, readme):
+def test_files_of_archive(handed_out, name, readme):
     """The archive has the files that make installs, with README at the top, and keywrap.pc that finds them there."""
-    archive, installed = thing(f"archive of {name}"), thing(name)
+    archive = handed_out(f"archive of {name}")
+    installed = handed_out(name)
     assert listed(archive) == {**expected(f"files of {name}"), "README": "644"}
     for path in listed(installed):
         if path != "lib/pkgconfig/keywrap.pc":
@@ -106,36 +108,36 @@ def test_files_of_archive(thing, name, readme):
 
 
 def fields(request, name):
-    """The fields that are written in a thing, as names and values."""
+    """The fields of a package, as names and values."""
     if name.startswith("deb "):
         return dict(
             email.message_from_string(
                 run("dpkg-deb", "-f", package_of(request.getfixturevalue("debs"), name))
             ).items()
         )
-    thing = request.getfixturevalue("thing")
+    handed_out = request.getfixturevalue("handed_out")
     if name == "npm":
         return {
             key: str(value)
             for key, value in json.loads(
-                (thing(name) / "package.json").read_text()
+                (handed_out(name) / "package.json").read_text()
             ).items()
         }
     if name == "library":
         return dict(
             re.findall(
                 "^(.*): (.*)$",
-                (thing(name) / "lib/pkgconfig/keywrap.pc").read_text(),
+                (handed_out(name) / "lib/pkgconfig/keywrap.pc").read_text(),
                 re.M,
             )
         )
     if name == "java":
-        manifest = thing("library") / "share/doc/keywrap/java/META-INF/MANIFEST.MF"
+        manifest = handed_out("library") / "share/doc/keywrap/java/META-INF/MANIFEST.MF"
         return dict(re.findall("^(.*): (.*)$", manifest.read_text(), re.M))
     files = (
-        [thing(name) / "PKG-INFO"]
+        [handed_out(name) / "PKG-INFO"]
         if name == "sdist"
-        else thing(name).glob("*.dist-info/[MW]*")
+        else handed_out(name).glob("*.dist-info/[MW]*")
     )
     messages = [email.message_from_string(file.read_text()) for file in files]
     return {
@@ -150,9 +152,9 @@ def test_field(request, name, field, value):
 
 
 @pytest.mark.parametrize("name, path, soname, needed, shown", rows("objects"))
-def test_object(thing, name, path, soname, needed, shown):
+def test_object(handed_out, name, path, soname, needed, shown):
     """The soname, what is needed, which names are shown, and that tables are read-only once it is loaded."""
-    file = thing(name) / path
+    file = handed_out(name) / path
     if name == "deb libkeywrap1":
         file = file.parent / file.readlink()
     elf = run("readelf", "-dlW", file)

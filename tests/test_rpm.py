@@ -23,27 +23,7 @@ from test_handed_out import expected
     "<openssl/evp.h>",
 )
 def test_packages(built, program_path, tmp_path):
-    tree = copied_tree(tmp_path, program_path, built("llvm.a"))
-    options = [
-        "--define",
-        f"of_rpm {NAMES['DEBIAN']}",
-        "--define",
-        f"_topdir {tmp_path}/rpm",
-    ]
-    path = f"{tmp_path}/bin:/usr/sbin:/usr/bin:/sbin:/bin"
-    run(
-        "rpmbuild",
-        "-bb",
-        "--build-in-place",
-        *options,
-        "packaging/keywrap.spec",
-        cwd=tree,
-        env={**os.environ, "PATH": path},
-    )
-    packages = {
-        re.match(r"(.*?)-\d", file.name)[1]: file
-        for file in tmp_path.glob("rpm/RPMS/*/*.rpm")
-    }
+    packages = built_packages(built, program_path, tmp_path)
     assert packages.keys() == {
         "keywrap",
         "libkeywrap",
@@ -52,52 +32,101 @@ def test_packages(built, program_path, tmp_path):
         "keywrap-rotate",
         "keywrap-openssl-provider",
     }
-    assert {
-        run("rpm", "-qp", "--qf", "%{VERSION}", file) for file in packages.values()
-    } == {NAMES["DEBIAN"]}
-    listed = {
-        name: run("rpm", "-qlp", file).splitlines() for name, file in packages.items()
+    for file in packages.values():
+        assert queried(file, "--qf", "%{VERSION}") == NAMES["DEBIAN"]
+    listed = {name: queried(file, "-l") for name, file in packages.items()}
+    listed = {name: text.splitlines() for name, text in listed.items()}
+    each_file_is_in_one_package(listed)
+    has_command_and_library(listed)
+    has_python_packages(listed)
+    has_provider(listed)
+    depends_on_others(packages)
+    run("rpm2archive", packages["keywrap"])
+    run("tar", "-C", tmp_path, "-xzf", f"{packages['keywrap']}.tgz")
+    printed = run(tmp_path / "usr/bin/keywrap", "--version")
+    assert printed == f"keywrap {NAMES['VERSION']}\n"
+
+
+def built_packages(built, program_path, tmp_path):
+    """Builds the packages in a copy of the tree. Returns their files by their names."""
+    tree = copied_tree(tmp_path, program_path, built("llvm.a"))
+    options = [
+        *("--define", f"of_rpm {NAMES['DEBIAN']}"),
+        *("--define", f"_topdir {tmp_path}/rpm"),
+    ]
+    env = {
+        **os.environ,
+        "PATH": f"{tmp_path}/bin:/usr/sbin:/usr/bin:/sbin:/bin",
+        "HW_ARCHIVE": str(built("hw.a")),
     }
-    assert sum(map(len, listed.values())) == len({*sum(listed.values(), [])})
-    files = sum(
-        (listed[name] for name in ("keywrap", "libkeywrap", "libkeywrap-devel")), []
-    )
-    assert {"/usr/share/doc/keywrap", "/usr/lib64/cmake/keywrap"} < {*files}
-    installed = {
-        name.removeprefix("/usr/").replace("lib64/", "lib/", 1) for name in files
-    }
-    wanted = {**expected("files of command"), **expected("files of library")}
-    assert wanted.keys() <= installed
-    # Beside them only the directories of documents.
-    assert all(
-        any(name.startswith(f"{extra}/") for name in wanted)
-        for extra in installed - wanted.keys()
-    )
-    assert "/usr/bin/keywrap-rotate" in listed["keywrap-rotate"]
-    conflicts = run("rpm", "-qp", "--conflicts", packages["keywrap-rotate"])
-    assert conflicts == "python3-keywrap < 1.3.0~\n"
-    modules = {name.partition("-packages/")[2] for name in listed["python3-keywrap"]}
+    command = ["rpmbuild", "-bb", "--build-in-place", *options]
+    run(*command, "packaging/keywrap.spec", cwd=tree, env=env)
+    packages = {}
+    for file in tmp_path.glob("rpm/RPMS/*/*.rpm"):
+        name = re.match(r"(.*?)-\d", file.name)[1]
+        packages[name] = file
+    return packages
+
+
+def queried(file, *words):
+    return run("rpm", "-qp", *words, file)
+
+
+def each_file_is_in_one_package(listed):
+    files = []
+    for names in listed.values():
+        files += names
+    assert len(files) == len({*files})
+
+
+def has_command_and_library(listed):
+    """They have the files that make install writes."""
+    files = [
+        *listed["keywrap"],
+        *listed["libkeywrap"],
+        *listed["libkeywrap-devel"],
+    ]
+    assert "/usr/share/doc/keywrap" in files
+    assert "/usr/lib64/cmake/keywrap" in files
+    installed = set()
+    for file in files:
+        name = file.removeprefix("/usr/").replace("lib64/", "lib/", 1)
+        installed.add(name)
+    wanted = {*expected("files of command"), *expected("files of library")}
+    assert wanted <= installed
+    # The others are only the directories of documents.
+    for extra in installed - wanted:
+        assert any(name.startswith(f"{extra}/") for name in wanted), extra
+
+
+def has_python_packages(listed):
+    modules = modules_of(listed["python3-keywrap"])
     # The command keywrap is in a package of its own.
-    assert {
-        name for name in expected("files of wheel") if ".data/" not in name
-    } <= modules
-    modules = {name.partition("-packages/")[2] for name in listed["keywrap-rotate"]}
+    wheel = {name for name in expected("files of wheel") if ".data/" not in name}
+    assert wheel <= modules
+    assert "/usr/bin/keywrap-rotate" in listed["keywrap-rotate"]
+    modules = modules_of(listed["keywrap-rotate"])
     assert expected("files of wheel-rotate").keys() <= modules
-    assert {pathlib.Path(name).name for name in listed["keywrap-openssl-provider"]} == {
+
+
+def modules_of(files):
+    return {name.partition("-packages/")[2] for name in files}
+
+
+def has_provider(listed):
+    files = listed["keywrap-openssl-provider"]
+    assert {pathlib.Path(name).name for name in files} == {
         "keywrap.so",
         "keywrap-openssl-provider",
         "OPENSSL.md",
         "openssl.cnf",
     }
-    assert "libkeywrap = " in run(
-        "rpm", "-qp", "--requires", packages["libkeywrap-devel"]
-    )
-    assert "python3-cffi\n" in run(
-        "rpm", "-qp", "--requires", packages["python3-keywrap"]
-    )
-    run("rpm2archive", packages["keywrap"])
-    run("tar", "-C", tmp_path, "-xzf", f"{packages['keywrap']}.tgz")
-    assert (
-        run(tmp_path / "usr/bin/keywrap", "--version")
-        == f"keywrap {NAMES['VERSION']}\n"
-    )
+
+
+def depends_on_others(packages):
+    conflicts = queried(packages["keywrap-rotate"], "--conflicts")
+    assert conflicts == "python3-keywrap < 1.3.0~\n"
+    headers_need = queried(packages["libkeywrap-devel"], "--requires")
+    assert "libkeywrap = " in headers_need
+    python_needs = queried(packages["python3-keywrap"], "--requires")
+    assert "python3-cffi\n" in python_needs
