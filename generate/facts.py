@@ -1,36 +1,43 @@
 #!/usr/bin/env python3
 """Writes what follows from the sources: the synopsis of the manual page; the map of the crates and the hundreds of
-edits in docs/ARCHITECTURE.md; the names of the calls for linkers; the exports over another AES; the calls in Rust;
-the numbers and texts of statuses, the flags and the lengths in each language; and the version.
+edits in docs/ARCHITECTURE.md; the names of the calls for linkers; the exports over another AES; the declarations of
+the calls in Rust and Java; the numbers and texts of statuses, the flags and the lengths in each language; the
+numbers of the pages that follow from a source or a measurement; and the version.
 
-The sources are the options and the help in crates/keywrap_args, the statuses and their texts in
+The sources are the table of options and exit statuses that the program printed, the statuses and their texts in
 crates/keywrap_calls/src, the exports of crates/keywrap_c, crates.txt, the prototypes and flags of keywrap.h and
 keywrap_steps.h, and VERSION.
 
 usage: generate/facts.py             writes the files
        generate/facts.py --check     fails if a file is another
-Both name the files that lack a status or an option, which are written by hand.
+Both name the files that lack a call, a status or an option, which are written by hand.
 """
 
 import re
 import sys
-import textwrap
 
-import completions
+import declarations
 import exports
-from completions import TOP
+import headers
+import options
+import page_numbers
+from options import TOP
 from synopsis import synopsis
 
+sys.path.append(str(TOP / "tests/lib"))
 
-JAVA, RUST = "java/keywrap/Library.java", "dist/src/sys.rs"
-HEADERS = "dist/keywrap.h", "dist/keywrap_steps.h"
+import edits  # noqa: E402
+
+
+JAVA = "java/keywrap/Library.java"
+RUST = "dist/src/sys.rs"
 # The files with the number of each status, and how one is written there. Java only has some of them.
 STATUSES = {
     "dist/keywrap.h": r"KEYWRAP_{}\b = (\d+)",
     "js/calls.js": r"const {} = (\d+)",
     JAVA: r"int {} = (\d+)",
 }
-# The files that give each status a name or a type of theirs, beside those above.
+# More files that give each status a name or a type of their own.
 NAMED = {"dist/keywrap.go": r"C\.KEYWRAP_{}\b", "dist/src/error.rs": r"\bKEYWRAP_{}\b"}
 # The files with other numbers of keywrap.h: the longest key, and the flags of a rewrap.
 NUMBERS = {
@@ -47,16 +54,10 @@ EXITS = {
     "crates/keywrap_args/src/help.rt": r"^  (\d+)  ",
     "command/man/keywrap.1": r"^\.It (\d+)$",
 }
-# The types of the headers in Rust.
-TYPES = {
-    "uint8_t": "u8",
-    "char": "u8",
-    "int32_t": "i32",
-    "uint32_t": "u32",
-    "uint64_t": "u64",
-    "size_t": "usize",
-    "void": "()",
-}
+# The files with each option by hand: the page, and lists of tests. The last one only has flags of commands that read
+# files.
+PAGE = "command/man/keywrap.1"
+RANDOM_WORDS, SHELLS = "tests/random_arguments.txt", "tests/shells.sh"
 
 
 def read(name):
@@ -74,38 +75,19 @@ def part(page, text):
     return f"{found[1]}{text}\n{found[3]}"
 
 
-def calls(*headers):
-    """The names of the calls that the headers declare, in their order."""
-    prototype = r"^(?:u?int\d+_t|size_t|void) (keywrap_\w+)\("
-    names = []
-    for header in headers:
-        names += re.findall(prototype, read(header), re.M)
-    return names
-
-
 def export_map():
     """The exports of libkeywrap.so: the nodes of the last release, and later calls in the node of the next one."""
     released = read("tests/library/released/keywrap.map")
     before = re.sub(r"\s+(keywrap_\w+;)", r"\n        \1", released)
-    later = [call for call in calls(*HEADERS) if f" {call};" not in before]
+    names = [f"keywrap_{call.name}" for call in headers.CALLS]
+    later = [name for name in names if f" {name};" not in before]
     if not later:
         return before
-    shown = "".join(f"        {call};\n" for call in later)
+    shown = "".join(f"        {name};\n" for name in later)
     last_node = re.findall(r"^(KEYWRAP_\S+) \{", before, re.M)[-1]
     version, _, _ = read("VERSION").rpartition(".")
     node = f"KEYWRAP_{version} {{\n    global:\n{shown}}} {last_node};\n"
     return f"{before}\n{node}"
-
-
-def renamed():
-    """The names that the proved calls get below the calls by the processor's AES: objcopy reads them."""
-    files = sorted((TOP / "c/hardware").glob("*.c"))
-    code = "".join(path.read_text() for path in files)
-    return "".join(
-        f"{call} proved_{call}\n"
-        for call in calls("dist/keywrap.h")
-        if re.search(rf"^int32_t {call}\(", code, re.M)
-    )
 
 
 def statuses():
@@ -137,52 +119,24 @@ def with_value(text, pattern, value):
     return text
 
 
+def with_number(name, pattern, value):
+    """A page with this number in the place that the pattern finds, which has to be there."""
+    text = read(name)
+    pattern = pattern.replace(" ", r"\s+")
+    if not re.search(pattern, text, re.M):
+        raise SystemExit(f"{name}: lacks the place of a number: {pattern}")
+    return with_value(text, pattern, value)
+
+
 def with_values(text, pattern, values):
-    """The text with the values of these constants, of those that it has."""
+    """The text with the current values of the constants that it has."""
     for name, value in values.items():
         text = with_value(text, pattern.format(name), value)
     return text
 
 
-def rust_parameter(text):
-    """A parameter of C in Rust. Its spaces are ~, so that no line ends there."""
-    text = text.replace("KEYWRAP_RESTRICT", "").replace("*", " * ")
-    *words, name = text.split()
-    is_constant = words[0] == "const"
-    kind = TYPES[words[1 if is_constant else 0]]
-    if "*" in words:
-        kind = f"*{'const' if is_constant else 'mut'}~{kind}"
-    return f"{name}:~{kind}"
-
-
-def declared(result, name, parameters):
-    """A call of a header, in Rust, on as many lines as it needs."""
-    texts = [text for text in parameters.split(",") if text != "void"]
-    parts = ", ".join(map(rust_parameter, texts))
-    lines = textwrap.wrap(
-        f"fn~{name}({parts})~->~{TYPES[result]};",
-        99,
-        break_on_hyphens=False,
-        initial_indent=" " * 4,
-        subsequent_indent=" " * 8,
-    )
-    return "\n".join(lines).replace("~", " ") + "\n"
-
-
-def rust_calls(header):
-    """The calls of a header that the files of the crate make, declared in Rust."""
-    files = sorted((TOP / "dist/src").glob("*.rs"))
-    code = "".join(path.read_text() for path in files if path.name != "sys.rs")
-    prototypes = re.findall(r"^(\w+) (keywrap_\w+)\(([^;]*)\);", read(header), re.M)
-    return "".join(
-        declared(result, name, parameters)
-        for result, name, parameters in prototypes
-        if re.search(rf"\b{name}\b", code)
-    )
-
-
 def rust():
-    """sys.rs with the statuses, and with the calls that the other files of the crate make."""
+    """sys.rs with the statuses, and with the calls of the crate."""
     numbers = "".join(
         f"    KEYWRAP_{name}: i32 = {number};\n"
         for name, number in statuses().items()
@@ -190,15 +144,19 @@ def rust():
     )
     old_numbers = r"(?<=constants! \{\n)(?:    KEYWRAP_\w+: i32 = \d+;\n)*?(?=    KEYWRAP_ALREADY)"
     page = re.sub(old_numbers, numbers, read(RUST))
-    declarations = "\n".join(map(rust_calls, HEADERS))
-    old_calls = r"(?<=^calls! \{\n).*?(?=^\}\n)"
-    return re.sub(old_calls, declarations, page, flags=re.M | re.S)
+    calls_of_crate = declarations.sys_rs()
+    return re.sub(declarations.IN_MACRO, calls_of_crate, page, flags=re.M | re.S)
 
 
 def lacking():
-    """Finds what is missing and written by hand: a new status in each language, a new exit status and a new option in
-    the manual page."""
-    return [*lacking_statuses(), *lacking_exits(), *lacking_options()]
+    """Finds what is missing and written by hand: a new call in each place that has calls, a new status in each
+    language, a new exit status and a new option in the manual page."""
+    return [
+        *headers.lacking(),
+        *lacking_statuses(),
+        *lacking_exits(),
+        *lacking_options(),
+    ]
 
 
 def lacking_statuses():
@@ -213,21 +171,29 @@ def lacking_statuses():
 
 
 def lacking_exits():
-    source = read("crates/keywrap_cli/src/statuses.rt")
-    numbers = re.findall(r"u8 = (\d+);", source)
     for name, pattern in EXITS.items():
         written = re.findall(pattern, read(name), re.M)
-        for number in numbers:
+        for number in map(str, options.STATUSES):
             if number not in written:
                 yield f"{name}: lacks the exit status {number}"
 
 
 def lacking_options():
-    page = "command/man/keywrap.1"
-    items = "\n".join(re.findall(r"^\.It .*", read(page), re.M))
-    for option in completions.OPTIONS:
-        if not re.search(rf"Fl -{option.name}(?![\w-])", items):
-            yield f"{page}: lacks the option --{option.name}"
+    items = "\n".join(re.findall(r"^\.It .*", read(PAGE), re.M))
+    yield from lacking_words(PAGE, items, "Fl -", options.OPTIONS)
+    flags = [
+        option
+        for option in options.OPTIONS
+        if option.value is None and option.commands != ["drill"]
+    ]
+    for name, listed in {RANDOM_WORDS: options.OPTIONS, SHELLS: flags}.items():
+        yield from lacking_words(name, read(name), "--", listed)
+
+
+def lacking_words(name, text, before, listed):
+    for option in listed:
+        if not re.search(rf"(?<![\w-]){before}{option.name}(?![\w-])", text):
+            yield f"{name}: lacks the option --{option.name}"
 
 
 def crates():
@@ -292,16 +258,14 @@ def versions():
     for name, form in forms.items():
         yield f"{crate}/{name}", r"[Tt]he version ([\d.]+),", ".".join(parts)
         yield f"{crate}/{name}", "(0x[0-9a-f_]+)$", form.format(*numbers)
-    edit = "tests/edits/keywrap_calls/another-version.edit"
-    yield edit, "^old: (.*)", forms["src/version_number.rt"].format(*numbers)
+    number = forms["src/version_number.rt"].format(*numbers)
+    yield "tests/edits/keywrap_calls.txt", r"^another-version: .*\n-(.*)", number
 
 
 def architecture():
     """The page with the map of the crates, and with the hundreds of edits."""
     page = "docs/ARCHITECTURE.md"
-    gate = [*TOP.glob("crates/*/must-fail/*.edit")]
-    evidence = [*TOP.glob("tests/edits/*/*.edit")]
-    hundreds = round(len(gate) + len(evidence), -2)
+    hundreds = round(len(edits.of_gate()) + len(edits.of_release()), -2)
     text = part(page, crate_map())
     return with_value(text, r"about (\d+) with tests/edits", str(hundreds))
 
@@ -320,15 +284,17 @@ def with_numbers_and_texts(name):
 
 def results():
     """Each file that this script writes, with its text."""
-    yield "command/man/keywrap.1", part("command/man/keywrap.1", synopsis())
+    yield PAGE, part(PAGE, synopsis())
     yield "docs/ARCHITECTURE.md", architecture()
     yield "c/include/keywrap.map", export_map()
-    yield "c/hardware/names", renamed()
     yield from exports.results()
+    yield from declarations.results()
     for name in sorted({*STATUSES, *NUMBERS, *TEXTS}):
         yield name, with_numbers_and_texts(name)
     for name, pattern, value in versions():
         yield name, with_value(read(name), pattern, value)
+    for name, pattern, value in page_numbers.results():
+        yield name, with_number(name, pattern, value)
 
 
 def main(arguments):
@@ -341,7 +307,8 @@ def main(arguments):
             file.write_text(text, encoding="utf-8")
         elif not file.exists() or file.read_text(encoding="utf-8") != text:
             stale.append(f"{name}: stale, run generate/facts.py")
-    print("\n".join(stale), end="\n" * bool(stale))
+    for line in dict.fromkeys(stale):
+        print(line)
     return bool(stale)
 
 

@@ -56,9 +56,11 @@ DASHES = {
     "portable C": "2 6",
     "portable C, AES inst.": "10 2 2 2",
 }
-# What whoever reads README can build: in bold.
+# In bold: what a reader of README can build.
 WITHOUT_KIT = ("portable", "portable_hw")
-LEFT, PLOT, HEIGHT = 44, 266, 190
+LEFT = 44
+PLOT = 266
+HEIGHT = 190
 
 
 class Drawing:
@@ -83,8 +85,10 @@ class Drawing:
 
     def line(self, kind, *points, dash=None):
         path = " ".join(f"{x},{y}" for x, y in points)
-        dashes = f' stroke-dasharray="{dash}"' if dash else ""
-        self.elements.append(f'<polyline class="{kind}" points="{path}"{dashes}/>')
+        attributes = f'class="{kind}" points="{path}"'
+        if dash:
+            attributes += f' stroke-dasharray="{dash}"'
+        self.elements.append(f"<polyline {attributes}/>")
 
     def note(self, about):
         """Below a plot: on what it was measured, next to which versions, and when."""
@@ -122,7 +126,7 @@ def size(length):
 
 
 def apart(places, gap):
-    """The same places, moved so that none is nearer to another than the gap; those in the middle move least."""
+    """The same places, moved until all are a gap apart. The ones in the middle move least."""
     order = sorted(range(len(places)), key=places.__getitem__)
     moved = list(places)
     for before, after in zip(order, order[1:]):
@@ -170,7 +174,7 @@ def grid(drawing, axes, lengths):
             drawing.line("grid", (LEFT, y), (LEFT + PLOT, y))
             drawing.text(LEFT - 6, y + 4, str(tick), "end")
     for length in lengths:
-        # Its text would touch that of 16.
+        # Its label would touch the label of 16.
         if length != 32:
             drawing.text(axes.x(length), axes.top + HEIGHT + 16, size(length), "middle")
 
@@ -185,7 +189,8 @@ def label_of(row):
 
 def curve(drawing, row, points, label_y):
     """The curve of one library, and its label, with a line from its end."""
-    name, label = NAMES[row["library"]], label_of(row)
+    name = NAMES[row["library"]]
+    label = label_of(row)
     is_ours = row["library"] in WITHOUT_KIT
     dash = DASHES.get(label, DASHES.get(name))
     drawing.line("ours" if is_ours else "curve", *points, dash=dash)
@@ -303,9 +308,10 @@ def terminal_lines(line):
     """A line of the record on as many lines as the terminal has, each with its colour."""
     mark, _, words = line.partition(" ")
     if mark == "$":
-        first, *rest = textwrap.wrap(words, 57, break_on_hyphens=False)
+        first, *rest = textwrap.wrap(words, 55, break_on_hyphens=False)
         parts = [f"$ {first}", *(f"    {part}" for part in rest)]
-        return [("shown", part) for part in parts]
+        continued = [f"{part} \\" for part in parts[:-1]]
+        return [("shown", part) for part in [*continued, parts[-1]]]
     colour = "faint" if mark == "during:" else "shown"
     return [(colour, part) for part in textwrap.wrap(words, 61)]
 

@@ -12,14 +12,11 @@ TOP = Path(__file__).resolve().parent.parent
 PAGE = TOP / "docs/TESTING.md"
 sys.path[:0] = [str(TOP / "tests"), str(TOP / "tests/lib")]
 
+import edits
 import published
 import rows
 
 BEGIN, END = (f"<!-- generate/testing.py: {edge} -->\n" for edge in ("begin", "end"))
-
-
-def edits(pattern):
-    return len([*TOP.glob(pattern)])
 
 
 def planted_bugs():
@@ -46,8 +43,8 @@ def numbers():
     yield "calls with a published answer of Wycheproof or ACVP", len(
         published.foreign()
     )
-    yield "must-fail edits in the gate", edits("crates/*/must-fail/*.edit")
-    yield "must-fail edits before a release", edits("tests/edits/*/*.edit")
+    yield "must-fail edits in the gate", len(edits.of_gate())
+    yield "must-fail edits before a release", len(edits.of_release())
     yield "planted bugs that are tried again and again", planted_bugs()
     yield "theorems in Coq", theorems()
 

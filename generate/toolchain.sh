@@ -16,20 +16,26 @@ here=$(cd -- "$(dirname -- "$0")" && pwd)
 ln -sfn "$kit/toolchain/lib" "$directory/lib"
 for tool in "$tools"/*; do ln -sf "$tool" "$directory/bin"; done
 rm "$directory/bin/clang"
-cat >"$directory/bin/clang" <<CLANG
-#!/bin/sh -e
+{
+    echo '#!/bin/bash -e'
+    printf '%s=%q\n' clang "$tools/clang" python "$(command -v python3)" substitute "$here/substitute.py" \
+        directory "$directory"
+    cat <<'END_OF_CLANG'
 module= target=
 for word; do
-    case \$word in
-    *.bc) module=\$word ;;
-    --target=*) target=\$word ;;
+    case $word in
+    *.bc) module=$word ;;
+    --target=*) target=$word ;;
     esac
 done
-[ -n "\$module" ] || exec '$tools/clang' "\$@"
-workdir=\$(/usr/bin/mktemp -d '$directory/module.XXXXXX')
-'$tools/clang' "\$target" -x ir -S -emit-llvm -Xclang -disable-llvm-passes "\$module" -o "\$workdir/before.ll"
-'$(command -v python3)' '$here/substitute.py' "\$workdir/before.ll" "\$workdir/after.ll"
-'$tools/clang' "\$target" -x ir -c -emit-llvm -Xclang -disable-llvm-passes "\$workdir/after.ll" -o "\$module"
-exec '$tools/clang' "\$@"
-CLANG
+if [ -n "$module" ]; then
+    workdir=$(/usr/bin/mktemp -d "$directory/module.XXXXXX")
+    trap '/bin/rm -r "$workdir"' EXIT
+    "$clang" "$target" -x ir -S -emit-llvm -Xclang -disable-llvm-passes "$module" -o "$workdir/before.ll"
+    "$python" "$substitute" "$workdir/before.ll" "$workdir/after.ll"
+    "$clang" "$target" -x ir -c -emit-llvm -Xclang -disable-llvm-passes "$workdir/after.ll" -o "$module"
+fi
+"$clang" "$@"
+END_OF_CLANG
+} >"$directory/bin/clang"
 chmod +x "$directory/bin/clang"

@@ -31,7 +31,12 @@ HEADLINES = [
     ("every call of C", {"keywrap_c/src/*.rt": None}),
     (
         "the command, from its arguments on",
-        {"keywrap_cli/src/operation.rt": None, "keywrap/src/cli.rt": ["command"]},
+        {
+            "keywrap_cli/src/operation.rt": None,
+            "keywrap_io/src/disk.rt": None,
+            "keywrap/src/session.rt": None,
+            "keywrap/src/cli.rt": ["command"],
+        },
     ),
 ]
 
@@ -98,7 +103,8 @@ def closure(roots):
     for pattern, functions in roots.items():
         for source in sorted(CRATES.glob(pattern)):
             waiting += used_by_contracts(source, functions)
-    files, outside = set(), set()
+    files = set()
+    outside = set()
     while waiting:
         path, words = waiting.pop()
         file = spec_file(path)
@@ -256,11 +262,14 @@ def main(arguments):
     is_of_hashes = option in ("--hashes", "--check-hashes")
     if is_of_hashes and is_development():
         return 0
-    part, text = "", ""
+    part = ""
+    text = ""
     if is_of_hashes:
-        part, text = " --hashes", hashes(operands[0])
+        part = " --hashes"
+        text = hashes(operands[0])
     elif option == "--axioms":
-        part, text = " --axioms", axioms(operands[0])
+        part = " --axioms"
+        text = axioms(operands[0])
     else:
         text = tables().strip()
     edges = [f"<!-- generate/trust.py{part}: {edge} -->" for edge in ("begin", "end")]
