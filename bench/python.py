@@ -1,4 +1,4 @@
-"""How long a call takes, beside Debian's pyca and the C call, as CSV: python3 bench/python.py WHEEL
+"""Measures how long a call takes, and compares it with Debian's pyca and the C call: python3 bench/python.py WHEEL
 
 The C call is made through cffi; so is the one that is refused at once, which shows what that costs.
 Microseconds by the processor time of this thread, the best of many short rounds."""
@@ -10,7 +10,10 @@ import timeit
 import zipfile
 
 LENGTHS = (16, 32, 4096)
-ROUNDS, CALLS, ROUND_US = 200, 100, 1000
+ROUNDS = 200
+# A round has at most so many calls, and takes about so long.
+CALLS = 100
+ROUND_US = 1000
 
 
 def calls(length):
@@ -18,11 +21,9 @@ def calls(length):
     import keywrap
     from keywrap import _ffi
 
-    kek, key, answer = (
-        bytes(range(32)),
-        bytes(length),
-        _ffi.ffi.new("uint8_t[]", length + 8),
-    )
+    kek = bytes(range(32))
+    key = bytes(length)
+    answer = _ffi.ffi.new("uint8_t[]", length + 8)
     wrapped = keywrap.wrap(kek, key)
     yield "wrap", lambda: keywrap.wrap(kek, key)
     yield "C call", lambda: _ffi.lib.keywrap_wrap(
@@ -45,6 +46,15 @@ def calls(length):
     yield "pyca's unwrap", lambda: theirs.aes_key_unwrap(kek, wrapped)
 
 
+def microseconds(call):
+    """How long a call takes in the fastest round."""
+    timer = timeit.Timer(call, timer=time.thread_time)
+    one_us = timer.timeit(1) * 1e6
+    count = min(CALLS, int(ROUND_US / one_us) + 1)
+    fastest = min(timer.repeat(ROUNDS, count))
+    return fastest / count * 1e6
+
+
 if __name__ == "__main__":
     with tempfile.TemporaryDirectory() as workdir:
         zipfile.ZipFile(sys.argv[1]).extractall(workdir)
@@ -52,8 +62,4 @@ if __name__ == "__main__":
         print("key,call,us")
         for length in LENGTHS:
             for name, call in calls(length):
-                timer = timeit.Timer(call, timer=time.thread_time)
-                count = min(CALLS, int(ROUND_US / (timer.timeit(1) * 1e6)) + 1)
-                print(
-                    f"{length},{name},{min(timer.repeat(ROUNDS, count)) / count * 1e6:.2f}"
-                )
+                print(f"{length},{name},{microseconds(call):.2f}")

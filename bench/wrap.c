@@ -1,4 +1,4 @@
-/* wrap.c: measures how long the library takes, beside other libraries and the same algorithm in C:
+/* wrap.c: measures how long the library takes, and other libraries and the same algorithm in C:
  * for a wrap and an unwrap, each with its key schedule, and with a kept one for a short key, and for
  * a rewrap, where nettle keeps its schedules. First all must return the same bytes. Then the best
  * time of each counts. bench/wrap.sh compiles and runs it. Writes CSV.

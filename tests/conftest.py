@@ -31,17 +31,17 @@ from builds import (
     prefix,
     python,
     rotate_wheel,
-    thing,
+    handed_out,
     wheel,
     words,
 )  # noqa: F401
 from commands import FILES, LARGE
-from windows import windows, windows_objects  # noqa: F401
+from windows import OnWine, windows, windows_objects  # noqa: F401
 from program import SLOW, Ended, Program, shared, wait_for
 from tools import need
 
 ROOT = pathlib.Path(__file__).resolve().parent.parent
-# When a test began, in seconds of processor of this process and of those that have ended.
+# When a test began, in processor seconds of this process and of its processes that have ended.
 BEFORE = pytest.StashKey()
 # The files of long tests.
 LONG = (
@@ -105,17 +105,16 @@ def pytest_collection_modifyitems(config, items):
         items[:] = [item for item in items if item.nodeid not in passed]
     processes = int(os.environ.get("PYTEST_XDIST_WORKER_COUNT", "1"))
     block = len(items) // (4 * processes)
-    long = [
-        item
-        for item in items
-        if item.path.name.startswith(LONG) and "group" not in item.fixturenames
-    ]
-    long.sort(
-        key=lambda item: "long_list" in item.name
-    )  # What is inserted last runs first.
+    long = [item for item in items if is_long(item)]
+    # The item that is inserted last runs first.
+    long.sort(key=lambda item: "long_list" in item.name)
     items[:] = [item for item in items if item not in long]
     for number, item in enumerate(long):
         items.insert(number % processes * block, item)
+
+
+def is_long(item):
+    return item.path.name.startswith(LONG) and "group" not in item.fixturenames
 
 
 def pytest_runtest_setup(item):
@@ -137,42 +136,55 @@ def pytest_runtest_teardown(item):
 def pytest_unconfigure(config):
     """The last lines: the counts, and what was skipped and why, which --skipped=FILE has instead."""
     reporter = config.pluginmanager.get_plugin("terminalreporter")
-    if reporter and not config.getoption("collectonly"):
-        passed, failed, errors, skipped = (
-            reporter.stats.get(kind, [])
-            for kind in ("passed", "failed", "error", "skipped")
-        )
-        if file := config.getoption("passed"):
-            whole = [
-                report
-                for report in passed
-                if not {"skipped", "program"} & {*dict(report.user_properties)}
-            ]
-            pathlib.Path(file).write_text(
-                "".join(f"{report.nodeid}\n" for report in whole)
-            )
-        passed, failed, reasons = counting.of_reports(passed, failed + errors, skipped)
-        named = [f"{reason}\n" for reason in sorted({*reasons} - {SLOW})]
-        if file := config.getoption("skipped"):
-            pathlib.Path(file).write_text("".join(named))
-        else:
-            print(end="".join(f"SKIPPED: {reason}" for reason in named))
-        seconds = collections.Counter()
-        for report in reporter.stats.get("", []):
-            seconds[report.nodeid.partition("::")[0]] += dict(
-                report.user_properties
-            ).get("processor", 0)
-        for file, spent in seconds.most_common():
-            if spent > 60:
-                print(f"{file}: {spent:.0f} s of processor")
-        print(counting.summary(passed, failed, reasons))
+    if not reporter or config.getoption("collectonly"):
+        return
+
+    def reports(kind):
+        return reporter.stats.get(kind, [])
+
+    if file := config.getoption("passed"):
+        write_passed(file, reports("passed"))
+    passed, failed, reasons = counting.of_reports(
+        reports("passed"), reports("failed") + reports("error"), reports("skipped")
+    )
+    named = [f"{reason}\n" for reason in sorted({*reasons} - {SLOW})]
+    if file := config.getoption("skipped"):
+        pathlib.Path(file).write_text("".join(named))
+    else:
+        for reason in named:
+            print(end=f"SKIPPED: {reason}")
+    print_long_files(reports(""))
+    print(counting.summary(passed, failed, reasons))
+
+
+def write_passed(file, passed):
+    """Writes the names of the rows that passed as a whole and do not depend on the program."""
+    names = ""
+    for report in passed:
+        properties = dict(report.user_properties)
+        if "skipped" not in properties and "program" not in properties:
+            names += f"{report.nodeid}\n"
+    pathlib.Path(file).write_text(names)
+
+
+def print_long_files(reports):
+    """Prints the files that took more than a minute of processor."""
+    seconds = collections.Counter()
+    for report in reports:
+        file, _, _ = report.nodeid.partition("::")
+        seconds[file] += dict(report.user_properties).get("processor", 0)
+    for file, spent in seconds.most_common():
+        if spent > 60:
+            print(f"{file}: {spent:.0f} s of processor")
 
 
 def pytest_make_parametrize_id(val):
     """A row with a command has its name. A long text is cut."""
-    return getattr(val, "name", None) or (
-        val[:60] if isinstance(val, str) and len(val) > 60 else None
-    )
+    if getattr(val, "name", None):
+        return val.name
+    if isinstance(val, str) and len(val) > 60:
+        return val[:60]
+    return None
 
 
 @pytest.fixture(autouse=True)
@@ -203,37 +215,28 @@ def program_path(pytestconfig):
 @pytest.fixture(scope="session")
 def keywrap(program_path):
     """The program: keywrap("wrap --kek kek16.hex", stdin=KEY16) returns Ended(status, stdout, stderr)."""
-    return Program(program_path)
+    # test_windows.py runs rows with KEYWRAP_ON_WINE.
+    kind = OnWine if "KEYWRAP_ON_WINE" in os.environ else Program
+    return kind(program_path)
 
 
 @pytest.fixture(scope="session")
 def compiled(tmp_path_factory):
     """compiled("fail_read") builds tests/fail_read.c as a library for LD_PRELOAD, by cc or the kit's clang."""
-    kit = (
-        pathlib.Path(shutil.which("rt") or "rt").resolve().parent.parent
-        / "toolchain/bin"
-    )
+    rt = pathlib.Path(shutil.which("rt") or "rt").resolve()
+    kit = rt.parent.parent / "toolchain/bin"
+    compilers = [["cc"], [f"{kit}/clang", f"-fuse-ld={kit}/ld.lld"]]
+    options = ["-O1", "-shared", "-fPIC", "-nostdlib", "-ffreestanding"]
 
     @functools.cache
     def build(name):
         library = tmp_path_factory.mktemp(name) / f"{name}.so"
-        words = [
-            "-O1",
-            "-shared",
-            "-fPIC",
-            "-nostdlib",
-            "-ffreestanding",
-            "-o",
-            library,
-            f"{ROOT}/tests/{name}.c",
-        ]
-        for compiler in ["cc"], [f"{kit}/clang", f"-fuse-ld={kit}/ld.lld"]:
-            if (
-                shutil.which(compiler[0])
-                and not subprocess.run(
-                    [*compiler, *words], capture_output=True
-                ).returncode
-            ):
+        files = ["-o", library, f"{ROOT}/tests/{name}.c"]
+        for compiler in compilers:
+            if not shutil.which(compiler[0]):
+                continue
+            command = [*compiler, *options, *files]
+            if subprocess.run(command, capture_output=True).returncode == 0:
                 return library
         need("cc")
         pytest.fail(f"cc does not build {name}.c")
@@ -280,17 +283,16 @@ def preloaded(keywrap, compiled):
 @pytest.fixture
 def as_nobody(keywrap, files, monkeypatch):
     """Runs the program as the user nobody, in a directory that everybody may enter. Other users than root stay."""
-    nobody = {
-        "user": "nobody",
-        "group": pwd.getpwnam("nobody").pw_gid,
-        "extra_groups": [],
-    }
+    options = {}
+    if os.getuid() == 0:
+        group = pwd.getpwnam("nobody").pw_gid
+        options = {"user": "nobody", "group": group, "extra_groups": []}
     with tempfile.TemporaryDirectory() as directory:
         os.chmod(directory, 0o755)
         monkeypatch.chdir(shutil.copytree(files, f"{directory}/files", symlinks=True))
         os.chmod(".", 0o755)
         program = Program(shutil.copy(keywrap.path, f"{directory}/keywrap"))
-        yield functools.partial(program, **({} if os.getuid() else nobody))
+        yield functools.partial(program, **options)
 
 
 class Terminal(NamedTuple):
@@ -301,11 +303,13 @@ class Terminal(NamedTuple):
     def waits_for(self, name, text, count):
         """Waits until the file has the text this often, or the program has ended."""
         path = pathlib.Path(name)
-        wait_for(
-            lambda: not self.child.isalive()
-            or path.exists()
-            and path.read_text().count(text) >= count
-        )
+
+        def is_there():
+            if not self.child.isalive():
+                return True
+            return path.exists() and path.read_text().count(text) >= count
+
+        wait_for(is_there)
 
     def types(self, text):
         self.child.delaybeforesend = None
@@ -329,24 +333,18 @@ def terminal(keywrap, files):
 
     os.mkdir("bin")
     os.symlink(keywrap.path, "bin/keywrap")
+    path = f"{files}/bin:{os.environ['PATH']}"
 
     def start(line, TERM="xterm", **env):
-        env = {
-            **os.environ,
-            **env,
-            "PATH": f"{files}/bin:{os.environ['PATH']}",
-            "TERM": TERM,
-        }
-        env = {name: value for name, value in env.items() if value is not None}
-        return Terminal(
-            pexpect.spawn(
-                "/bin/sh",
-                ["-c", line],
-                env=env,
-                timeout=600,
-                echo=False,
-                encoding="utf-8",
-            )
+        variables = {**os.environ, **env, "PATH": path, "TERM": TERM}
+        child = pexpect.spawn(
+            "/bin/sh",
+            ["-c", line],
+            env={name: value for name, value in variables.items() if value is not None},
+            timeout=600,
+            echo=False,
+            encoding="utf-8",
         )
+        return Terminal(child)
 
     return start

@@ -20,7 +20,7 @@ from builds import run
 from face_answers import answer, asked_of
 from face_limits import reason
 
-# The words of a line, behind the call. The size of a buffer is that of what is given.
+# The words of a line, after the call. The size of a buffer is that of what is given.
 WORDS = [name for name in rows.ARGUMENTS if name != "size"]
 
 
@@ -63,7 +63,7 @@ def table(name):
 def asked(face, *names):
     """The questions of these tables that a face can express."""
     return [
-        question(face, row, call)
+        question_of(face, row, call)
         for name in names
         for row in table(name)
         if reason(face, row) is None
@@ -71,7 +71,7 @@ def asked(face, *names):
     ]
 
 
-def question(face, row, call):
+def question_of(face, row, call):
     count = call.fields.get("count", "-")
     fields = {
         "lens_count": count,
@@ -80,12 +80,11 @@ def question(face, row, call):
         **call.fields,
     }
     words = [word(fields.get(name)) for name in WORDS]
-    due = answer(face, row, call)
-    return Question(
-        " ".join([call.call, *words]),
-        " ".join(f"{name}={shown(value)}" for name, value in due.items()),
-        row,
-    )
+    line = " ".join([call.call, *words])
+    expected = [
+        f"{name}={shown(value)}" for name, value in answer(face, row, call).items()
+    ]
+    return Question(line, " ".join(expected), row)
 
 
 def word(value):
@@ -106,34 +105,36 @@ def shown(value):
     return str(int(value))
 
 
-def is_right(said, due):
+def is_right(given, due):
     """Whether the answer is the one that is due, with a text of the pattern that is."""
-    said, _, text = said.partition(" text=")
+    given, _, text = given.partition(" text=")
     due, _, pattern = due.partition(" text=")
-    return said == due and re.fullmatch(pattern, text) is not None
+    return given == due and re.fullmatch(pattern, text) is not None
 
 
 def answers(runner, text):
     """The answers of a runner, which is a command that reads the lines, or a function of them."""
-    said = runner(text) if callable(runner) else run(*runner, input=text)
-    return re.findall("^status=.*", said, re.M)
+    output = runner(text) if callable(runner) else run(*runner, input=text)
+    return re.findall("^status=.*", output, re.M)
 
 
 def faults(face, runner, *names):
     """The rows of these tables to which a runner gives another answer, each with a text."""
     questions = asked(face, *names)
-    said = answers(runner, "".join(f"{asked.line}\n" for asked in questions))
-    assert len(said) == len(questions), (len(said), len(questions), said[-1:])
-    return [
-        (asked.row, fault_text(asked, given))
-        for asked, given in zip(questions, said)
-        if not is_right(given, asked.due)
-    ]
+    lines = "".join(f"{question.line}\n" for question in questions)
+    given = answers(runner, lines)
+    assert len(given) == len(questions), (len(given), len(questions), given[-1:])
+    found = []
+    for question, line in zip(questions, given):
+        if not is_right(line, question.due):
+            found.append((question.row, fault_text(question, line)))
+    return found
 
 
-def fault_text(asked, said):
-    row = rows.shown_row(asked.row)[:300]
-    return f"{row}\n  {asked.line[:40]}: {said[:300]}, not {asked.due[:300]}\n"
+def fault_text(question, given):
+    row = rows.shown_row(question.row)
+    call = f"{question.line:.40}: {given:.300}, not {question.due:.300}"
+    return f"{row:.300}\n  {call}\n"
 
 
 def check(face, runner, *names):

@@ -50,14 +50,14 @@ prepare() {
     as_root "$1" 'useradd -m -s /bin/bash user' && git clone -q "$root" "$1/home/user/keywrap" &&
         as_root "$1" 'chown -R user: /home/user'
 }
-# problem STATUS: why the lines failed that wrote `said`.
-problem() { [ "$1" = 0 ] || { echo "status $1:" && tail -n 5 said; }; }
+# problem STATUS: why the lines failed that wrote `output`.
+problem() { [ "$1" = 0 ] || { echo "status $1:" && tail -n 5 output; }; }
 
 ### The minimal Debian
 
 if [ ! -e "$fresh/minimal/etc/apt/apt.conf.d/machine" ]; then
     rm -rf "$fresh/minimal"
-    debootstrap --variant=minbase "$(. /etc/os-release && echo "$VERSION_CODENAME")" "$fresh/minimal" >said 2>&1
+    debootstrap --variant=minbase "$(. /etc/os-release && echo "$VERSION_CODENAME")" "$fresh/minimal" >output 2>&1
     verdict 'debootstrap, with a Debian mirror' "$(problem $?)" || {
         finish
         exit
@@ -66,7 +66,7 @@ if [ ! -e "$fresh/minimal/etc/apt/apt.conf.d/machine" ]; then
     apt-config dump | grep -E '^Acquire::(http|https|Check-|Retries)' >machine.conf
     echo 'APT::Get::Assume-Yes "yes";' >>machine.conf
     cp /etc/resolv.conf "$fresh/minimal/etc"
-    as_root "$fresh/minimal" "cat >/etc/apt/apt.conf.d/machine && apt-get update" <machine.conf >said 2>&1
+    as_root "$fresh/minimal" "cat >/etc/apt/apt.conf.d/machine && apt-get update" <machine.conf >output 2>&1
     verdict 'its mirror' "$(problem $?)" || {
         finish
         exit
@@ -81,22 +81,22 @@ beside_the_sources() {
         grep -vE '^!! (crates/[a-z0-9_]+/out|out|(generate|tests)(/.*)?/__pycache__|tests/.pytest_cache)/$' |
         grep -vxE '!! dist/keywrap(\.built_from)?'
 }
-# typed COMMAND: runs it in the clone, and writes its output to `said`. The processor's seconds go to `spent`.
+# typed COMMAND: runs it in the clone, and writes its output to `output`. The processor's seconds go to `spent`.
 typed() {
-    as_user "$workdir/machine" "TIMEFORMAT='%0R s, and %0U + %0S s of processor'; cd keywrap; time $1" >said 2>&1
+    as_user "$workdir/machine" "TIMEFORMAT='%0R s, and %0U + %0S s of processor'; cd keywrap; time $1" >output 2>&1
     verdict "README: $1" "$(problem $?)"
-    tail -n 30 said
-    spent=$(grep -oP 's, and \K\d+ \+ \d+(?= s of processor$)' said)
-    sed -i '/ s of processor$/d' said
+    tail -n 30 output
+    spent=$(grep -oP 's, and \K\d+ \+ \d+(?= s of processor$)' output)
+    sed -i '/ s of processor$/d' output
 }
 # make_test LEAST: no row fails, and at least as many run as README says.
 make_test() {
     local last
     typed 'make test'
-    last=$(tail -n 1 said)
+    last=$(tail -n 1 output)
     verdict 'README: no row fails' "$([[ $last =~ ^[0-9]+\ passed,\ 0\ failed, ]] || echo "the last line is: $last")"
     verdict "README: at least $1 tests run" "$([ "${last%% *}" -ge "$1" ] 2>&1 || echo "$last")"
-    verdict 'README: what is left out is said in one line' "$(tail -n 2 said | grep -E '^.{121}|^SKIPPED')"
+    verdict 'README: what is left out is said in one line' "$(tail -n 2 output | grep -E '^.{121}|^SKIPPED')"
     verdict 'README: nothing is written beside the sources' "$(beside_the_sources)"
 }
 readme() {
@@ -108,12 +108,12 @@ readme() {
     mapfile -t least < <(grep -oP '^ +(\$ )?make test .*at least \K[0-9,]+(?= tests)' "$root/README.md" | tr -d ,)
     row 'README: its lines' test -n "$answer" -a "${#least[@]}" = 2
     row 'README: a clone' eval 'cp -a "$fresh/minimal/." machine && prepare "$workdir/machine"' || return
-    as_root "$workdir/machine" "$(lines README.md 'keywrap: AES Key Wrap, proved' | sed -n 1p)" >said 2>&1
+    as_root "$workdir/machine" "$(lines README.md 'keywrap: AES Key Wrap, proved' | sed -n 1p)" >output 2>&1
     verdict 'README: the packages' "$(problem $?)" || return
 
     # On a quiet machine the time is less than that of the processor, since two compile side by side.
     typed "$drill"
-    verdict 'README: the answer' "$(grep -qxF "$answer" said || echo "it is not $answer")"
+    verdict 'README: the answer' "$(grep -qxF "$answer" output || echo "it is not $answer")"
     verdict 'README: 20 seconds of a processor' "$([ $((${spent:-99})) -le 20 ] || echo "${spent:-no time}")"
     make_test "${least[0]}"
 
@@ -130,21 +130,23 @@ readme() {
 
 ### Each page, without the kit
 
-# page PAGE HEADING: the lines in an overlay of the minimal Debian. The network is off once the packages are there.
+# page PAGE HEADING [SCRIPT]: the lines in an overlay of the minimal Debian, and then a script of the tests. The network
+# is off once the packages are there.
 page() {
     lines "$1" "$2" >commands
+    [ -z "$3" ] || echo "cd ~/keywrap; bash $3" >>commands
     inside 'mount -t tmpfs none over && mkdir over/upper over/work over/at && mount -t overlay overlay \
             -o lowerdir="$fresh/minimal",upperdir=over/upper,workdir=over/work over/at
         git clone -q "$1" over/at/home/keywrap && cp commands over/at/home && enter over/at bash -ec "
             useradd -m -s /bin/bash user && mv /home/keywrap ~user && chown -R user: ~user
             . <(head -n 1 /home/commands)
-            unshare -n su -l user -c \"set -ex; cd keywrap; . <(tail -n +2 /home/commands)\""' "$root" >said 2>&1
+            unshare -n su -l user -c \"set -ex; cd keywrap; . <(tail -n +2 /home/commands)\""' "$root" >output 2>&1
     verdict "$1: $2" "$(problem $?)"
 }
-while IFS='|' read -r name heading <&3; do
+while IFS='|' read -r name heading script <&3; do
     [ $# = 0 ] || [[ " $* " = *" $name "* ]] || continue
     began=$SECONDS
-    page "$name" "$heading"
+    page "$name" "$heading" "$script"
     echo "$name: $((SECONDS - began)) s"
-done 3< <(sed -n 's/ *| */|/; /^[^#]/p' "$root/tests/without_kit.txt")
+done 3< <(sed -n 's/ *| */|/g; /^[^#]/p' "$root/tests/without_kit.txt")
 finish

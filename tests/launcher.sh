@@ -143,8 +143,8 @@ done
 ### The program of the kit
 
 starts='prove.sh: proving and building the program, 5 to 10 minutes the first time'
-# said CRATE: what is shown of one whose proof failed.
-said() { printf '%s\n' "prove.sh: failed: $1" "the first line of $1" 'the second line'; }
+# failed_proof CRATE: the lines that show a failed proof.
+failed_proof() { printf '%s\n' "prove.sh: failed: $1" "the first line of $1" 'the second line'; }
 fresh
 TMPDIR=$tree/missing build
 row 'no directory for the logs' [ "$status" = 1 ]
@@ -233,10 +233,10 @@ verdict 'two builds at once: the second' "$(diff second <(echo 'prove.sh: waitin
 
 rm -r crates/aes_block/specs && : >notes
 at=aes_block event='exit 1' build
-ended 'a crate is not proved' 1 '' "$starts"$'\n'"$(said aes_block)" "${steps[2]}"
+ended 'a crate is not proved' 1 '' "$starts"$'\n'"$(failed_proof aes_block)" "${steps[2]}"
 rm -r crates/keywrap/specs && : >notes
 at=keywrap event='exit 5' build
-ended 'the program is not proved' 1 '' "$starts"$'\n'"$(said keywrap)" "${steps[@]:2:3}"
+ended 'the program is not proved' 1 '' "$starts"$'\n'"$(failed_proof keywrap)" "${steps[@]:2:3}"
 mv scripts/prove.mk kept.mk && fresh
 build
 verdict 'make itself fails' "$(
@@ -282,7 +282,7 @@ fresh
 at='(first|second)_four' event='until_true begun 4
     [ $crate = second_four ] || { echo $$ >../../failed; exit 1; }
     until_true [ -s ../../failed ]; until_true eval "[ ! -e /proc/$(<../../failed) ]"' build
-ended 'a proof fails beside others' 1 '' "$starts"$'\n'"$(said first_four)" \
+ended 'a proof fails beside others' 1 '' "$starts"$'\n'"$(failed_proof first_four)" \
     'ends fourth_four' 'ends second_four' 'ends third_four' "${begins[@]}"
 
 for signal in INT TERM; do
@@ -291,5 +291,36 @@ for signal in INT TERM; do
         until_true false" build 2>/dev/null
     ended "$signal" 1 '' "$starts" "${all_ended[@]}" "${begins[@]}"
 done
+
+### Archives, with C in the place of the leaves and without
+
+crates block_pair: aes_block: 'keywrap_c staticlib: block_pair' 'keywrap_hw staticlib: block_pair'
+mkdir -p toolchain/bin archives && touch toolchain/bin/clang
+# archives: builds both. made ARCHIVE..: these are compiled, and no other.
+archives() { scripts/prove.sh archives llvm.a hw.a >out 2>err; }
+made() {
+    : >notes
+    archives || cat err
+    grep -oP 'out/kept/\K\S+(?= src/lib.rt$)' notes | grep '\.a$' | sort | diff - <(printf '%s\n' "$@" | grep .)
+}
+fresh
+verdict 'both archives' "$(made hw.a llvm.a)"
+verdict 'both archives, again' "$(made)"
+for script in substitute.py toolchain.sh; do
+    echo '# other' >>generate/$script
+    verdict "an archive over the leaves, after a change of $script" "$(made hw.a)"
+done
+append crates/block_pair/src/lib.rt
+verdict 'both archives, after a change of a crate' "$(made hw.a llvm.a)"
+fresh
+rm archives/*
+export takes='--statements --antt-project --logic-built --backend'
+archives
+verdict 'a kit that refuses an option builds no archive without C' "$(
+    ls archives
+    ls crates/keywrap/out/kept/hw.a crates/keywrap_hw/out 2>/dev/null
+    grep -x 'hw.a: this kit refuses --links, without which no C takes the place of the leaves' err >/dev/null || cat err
+)"
+verdict 'another archive by such a kit' "$(scripts/prove.sh archives llvm.a 2>&1)"
 
 finish

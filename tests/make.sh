@@ -115,10 +115,12 @@ END_OF_PYTHON
 printf '#!/bin/sh\nwhile [ "$1" != -o ]; do shift; done\necho wasm >"$2"\n' | install -m 755 /dev/stdin bin/wasm-opt
 cp bin/wasm-opt bin/wasm-dis
 export PYTHON=bin/python CC=linker
-make='make -s LIBRARY=library DIST=packed DESTDIR=stage/ PREFIX=usr'
+# libkeywrap_hw is made of an archive that is there: the fake rt has no compiler for the leaves.
+echo 'the exports, which call keywrap_aes_available' >hw.a
+make='make -s LIBRARY=library DIST=packed DESTDIR=stage/ PREFIX=usr HW_ARCHIVE=hw.a'
 linked=('keywrap_c: lib' 'ends keywrap_c' linked)
 rm -r crates/*/out
-rebuilds "$make wheel && cmp library/python/libkeywrap_hw.a $archive" "${linked[@]}" <<<true
+rebuilds "$make wheel && cmp library/python/libkeywrap_hw.a hw.a" "${linked[@]}" <<<true
 rebuilds "$make install && cmp stage/usr/bin/keywrap $program && cmp stage/usr/lib/libkeywrap.so $archive" \
     "${steps[@]}" "${linked[@]}" <<<'append crates/aes_block/src/lib.rt'
 same 'make install keeps to DESTDIR and PREFIX' $'bin\ninclude\nlib\nshare' "$(ls stage/usr)"
@@ -128,7 +130,7 @@ verdict 'make uninstall leaves nothing' "$(
 )"
 rebuilds "$make dist-command dist-library wheel && cat packed/*.tar.gz | tar -xzif - &&
     cmp keywrap-1.2.3-dev-*/bin/keywrap $program && cmp keywrap-library-1.2.3-dev-*/lib/libkeywrap.so $archive &&
-    cmp library/python/libkeywrap_hw.a $archive" "${steps[@]:2}" "${linked[@]}" <<<'append crates/aes_block/src/lib.rt'
+    cmp library/python/libkeywrap_hw.a hw.a" "${steps[@]:2}" "${linked[@]}" <<<'append crates/aes_block/src/lib.rt'
 rebuilds "$make library" "${linked[@]}" <<END_OF_CHANGES
 append crates.txt
 append crates/keywrap_c/proofs/part/Answers.antt
@@ -179,7 +181,7 @@ rebuilds "$make library && cmp $archive library/libkeywrap.a" "${linked[@]}" <<<
 # refused LINE WORD..: make says so on one line, and begins nothing.
 refused() {
     : >notes
-    ! $make "${@:2}" >said 2>&1 && [ "$(wc -l <said)" = 1 ] && grep -qF -e "$1" said && [ ! -s notes ]
+    ! $make "${@:2}" >output 2>&1 && [ "$(wc -l <output)" = 1 ] && grep -qF -e "$1" output && [ ! -s notes ]
 }
 for words in 'library TARGET=aarch64' 'dist TARGET=' "wheel TARGET=%"; do
     # shellcheck disable=SC2086
@@ -198,7 +200,7 @@ row 'make wheel, without its Python' grep -q "packaging/sysroot.sh 'none' " \
 x86=TARGET=x86_64-unknown-linux-gnu
 wasm=('keywrap_wasm: lib --target wasm64-unknown-unknown --backend llvm' 'ends keywrap_wasm')
 mkdir -p sysroot/usr/include/{,aarch64-linux-gnu/}python3.11
-all='make -s DIST=packed CC=linker SYSROOT=sysroot'
+all='make -s DIST=packed CC=linker SYSROOT=sysroot HW_ARCHIVE=hw.a'
 rm -r packed
 fresh
 does 'make dist' 0 packed/SHA256SUMS $all dist -- "${steps[@]}" "${linked[@]}" "${linked_for_arm[@]}"
@@ -230,8 +232,9 @@ does 'make dist-sources, without wasm-opt' 2 '' $make dist-sources WASM_OPT=none
 row 'make dist-sources, without wasm-opt: what to install' grep -q 'no none: apt-get install binaryen' err
 does 'make js' 0 "$PWD/out/js" $make js --
 mkdir -p "${archive%/*}" && echo kept | tee kept.a >$archive
-# The module of the program needs the kit's LLVM: tests/test_command.py compares it with what is kept.
-echo ':' >generate/command_module.sh
+# The modules of the program and of keywrap.c need the kit's LLVM: tests/test_command.py and tests/test_portable.py
+# compare them with what is kept.
+echo ':' | tee generate/command_module.sh >generate/portable_module.sh
 does 'make dist-sources' 0 '' $make dist-sources -- "${steps[@]}" "${wasm[@]}"
 verdict 'make dist-sources leaves the archive of the C library' "$(cmp $archive kept.a 2>&1)"
 rm $archive kept.a
@@ -258,6 +261,11 @@ verdict 'no linker: what is recorded' "$(ls other/built_from 2>/dev/null)"
 does 'no program to pack' 2 '' $make -o build dist-command PROGRAM=missing --
 does 'no library to pack' 2 '' $make -o library -o wheel dist-library LIBRARY=missing --
 verdict 'nothing is packed' "$(find packed -type f 2>/dev/null)"
+echo 'the exports over the proved leaves' >other.a
+does 'libkeywrap_hw of an archive without C' 2 '' $make library-hardware HW_ARCHIVE=other.a LIBRARY=other --
+row 'it is named' grep -q '^other.a: no call of the AES in C' err
+verdict 'libkeywrap_hw of an archive without C: what is built' \
+    "$(ls other/libkeywrap_hw.a other/hw_built_from 2>/dev/null)"
 for target in build install install-command "dist $x86" dist-command bench; do
     append crates/aes_block/src/lib.rt
     at=aes_block event='exit 1' does "make $target, where a crate is not proved" 2 '' $make $target -- "${steps[2]}"

@@ -1,7 +1,7 @@
 """Runs in which allocations fail, each in turn, and runs in ever more memory.
 
 Each run ends with status 7 and `out of memory`, and writes nothing, or ends as it does with ample memory. With --output
-the file is as it was, or has the answer, and nothing is beside it."""
+the file is as it was, or has the answer, and no other file is left."""
 
 import itertools
 import os
@@ -44,13 +44,14 @@ COMMANDS = [
 ]
 # Every allocation fails, the parser's too, by itself and with all later ones. Of the others only the last ones fail,
 # by themselves, which are at most 40: the parser makes 110 to 190 before them, as it does for these.
-WHOLE, LAST = [
+WHOLE = [
     "wrap",
     "rewrap",
     "drill",
     "help",
     *(command.name for command in ARGUMENTS),
-], 48
+]
+LAST = 48
 
 
 @pytest.fixture

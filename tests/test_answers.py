@@ -6,9 +6,11 @@ import random
 
 import pytest
 
+import rules
 from checks import DONE, comes_to, fresh, keeps
 from commands import CHECK, UNWRAP, WRAP, table
-from program import Ended, Program, answered, refused
+from program import Ended, Program, answered, refused, slow
+from rules import Form
 from vectors import (
     BAD_LENGTH,
     INTEGRITY,
@@ -20,11 +22,12 @@ from vectors import (
     zeros,
 )
 
-BOTH_WAYS = [
-    (f"{job} {flags} --kek {kek}.hex", *values)
-    for flags, kek, key, wrapped in table("answers", "both ways")
-    for job, *values in (("wrap", key, wrapped), ("unwrap", wrapped, key))
-]
+BOTH_WAYS = []
+for flags, kek, key, wrapped in table("answers", "both ways"):
+    BOTH_WAYS += [
+        (f"wrap {flags} --kek {kek}.hex", key, wrapped),
+        (f"unwrap {flags} --kek {kek}.hex", wrapped, key),
+    ]
 ANY_FORM = [
     (f"unwrap --any-form {flags} --kek {kek}.hex", wrapped, key)
     for flags, kek, wrapped, key in table("answers", "any form")
@@ -35,35 +38,70 @@ REWRAP = [
 ]
 
 
+def in_hex(args):
+    """The command with KEKs in hex: as it is."""
+    return args
+
+
+def in_raw_keks(args):
+    """The same command with raw KEKs."""
+    return args.replace(".hex", ".raw") + " --raw-kek"
+
+
+def is_check(args):
+    return args.startswith("check")
+
+
 @pytest.mark.parametrize(
     "args, given, answer", BOTH_WAYS + ANY_FORM + REWRAP + table("answers", "check")
 )
-def test_answers(keywrap, args, given, answer):
-    """KEKs in hex and raw; keys in hex, in either case, and raw, and in lines."""
+@pytest.mark.parametrize("kek", [in_hex, in_raw_keks], ids=["KEK in hex", "raw KEK"])
+def test_answers(keywrap, kek, args, given, answer):
+    """Keys in hex, in either case, and raw, and in lines."""
+    args = kek(args)
     status = 5 if answer == "none" else 0
-    for args in args, args.replace(".hex", ".raw") + " --raw-kek":
-        for text in given + "\n", given.upper():
-            assert keywrap(args, stdin=text) == Ended(status, answer + "\n")
-        in_raw = f"{answer}\n".encode() if args.startswith("check") else raw(answer)
-        assert keywrap(args, "--raw", stdin=raw(given), text=False) == Ended(
-            status, in_raw
-        )
-        comes_to(keywrap, args, [given, given.upper()], [answer] * 2)
+    for text in given + "\n", given.upper():
+        assert keywrap(args, stdin=text) == Ended(status, answer + "\n")
+    # The answer of `check` is a text, also with --raw.
+    answer_bytes = raw(answer) if not is_check(args) else f"{answer}\n".encode()
+    ended = keywrap(args, "--raw", stdin=raw(given), text=False)
+    assert ended == Ended(status, answer_bytes)
+    comes_to(keywrap, args, [given, given.upper()], [answer] * 2)
+
+
+@slow
+@pytest.mark.parametrize(
+    "form, flags, lengths",
+    [(Form.PLAIN, "", range(16, 4097, 8)), (Form.PADDED, "--padded", range(1, 1025))],
+    ids=["plain", "padded"],
+)
+def test_every_length(keywrap, form, flags, lengths):
+    """No contract says that memory is lacking, or a file unreadable, only with a cause."""
+    for length in lengths:
+        key = random.Random(length).randbytes(length)
+        wrapped = rules.wrapped(form, bytes(range(16)), key)
+        assert keywrap(f"{WRAP} {flags}", stdin=key.hex()) == answered(wrapped.hex())
+        assert keywrap(f"{UNWRAP} {flags}", stdin=wrapped.hex()) == answered(key.hex())
+
+
+@slow
+def test_check_of_every_length(keywrap):
+    """Zeros are no wrapped key, whether or not a wrapped key can have their length."""
+    for length in range(1, 1041):
+        assert keywrap(CHECK, stdin=bytes(length).hex()) == Ended(5, "none\n"), length
 
 
 @pytest.mark.parametrize("args, given, status, message", table("answers", "refused"))
-def test_refused(keywrap, args, given, status, message):
+@pytest.mark.parametrize("kek", [in_hex, in_raw_keks], ids=["KEK in hex", "raw KEK"])
+def test_refused(keywrap, kek, args, given, status, message):
     """Neither the output file changes, nor an input file that would be replaced."""
+    args = kek(args)
     fresh(given.encode())
-    for args in args, args.replace(".hex", ".raw") + " --raw-kek":
-        ended = keywrap(args, stdin=given)
-        assert (
-            ended
-            == keywrap(args, "--raw", stdin=raw(given))
-            == refused(int(status), message)
-        )
-        keeps(keywrap, f"{args} -o to/file", ended, stdin=given)
-        keeps(keywrap, f"{args} -i to/file -o to/file", ended)
+    refusal = refused(int(status), message)
+    assert keywrap(args, stdin=given) == refusal
+    assert keywrap(args, "--raw", stdin=raw(given)) == refusal
+    keeps(keywrap, f"{args} -o to/file", refusal, stdin=given)
+    keeps(keywrap, f"{args} -i to/file -o to/file", refusal)
 
 
 @pytest.mark.parametrize(
@@ -78,29 +116,43 @@ def test_refused(keywrap, args, given, status, message):
         (1048575, "--padded", "--padded --new-padded", "--padded"),
     ],
 )
-def test_long_key_goes_round(keywrap, size, flags, rewrap_flags, new_flags):
-    """Raw, with streams and in place; and in hex, spread over many lines."""
-    key, kek, in_place = (
-        random.Random(size).randbytes(size),
-        "--kek kek32.hex",
-        "--raw -i file -o file",
-    )
-    wrapped = keywrap(f"wrap --raw {kek} {flags}", stdin=key, text=False).stdout
-    assert len(wrapped) == size + 8 + -size % 8
-    assert keywrap(f"unwrap --raw {kek} {flags}", stdin=wrapped, text=False) == Ended(
-        0, key
-    )
-    in_hex = keywrap(
-        f"wrap {kek} {flags}", stdin=key.hex(" ", 2).replace("00 ", "00\n")
-    )
-    assert in_hex == answered(wrapped.hex())
-    assert keywrap(f"unwrap {kek} {flags}", stdin=in_hex.stdout) == answered(key.hex())
-    pathlib.Path("file").write_bytes(wrapped)
-    assert (
-        keywrap(f"rewrap {kek} --new-kek kek16.hex {rewrap_flags} {in_place}") == DONE
-    )
-    assert keywrap(f"{UNWRAP} {new_flags} {in_place}") == DONE
-    assert pathlib.Path("file").read_bytes() == key
+class TestLongKeys:
+    """A wrapped key is unwrapped to the key that it was made of, raw and in hex."""
+
+    @pytest.fixture
+    def key(self, size):
+        return random.Random(size).randbytes(size)
+
+    @pytest.fixture
+    def wrapped(self, keywrap, key, flags):
+        args = f"wrap --raw --kek kek32.hex {flags}"
+        return keywrap(args, stdin=key, text=False).stdout
+
+    def test_streams(self, keywrap, key, wrapped, flags, size, rewrap_flags, new_flags):
+        padding = -size % 8
+        assert len(wrapped) == size + padding + 8
+        args = f"unwrap --raw --kek kek32.hex {flags}"
+        assert keywrap(args, stdin=wrapped, text=False) == Ended(0, key)
+
+    def test_many_lines_of_hex(
+        self, keywrap, key, wrapped, flags, size, rewrap_flags, new_flags
+    ):
+        flags = f"--kek kek32.hex {flags}"
+        lines = key.hex(" ", 2).replace("00 ", "00\n")
+        ended = keywrap(f"wrap {flags}", stdin=lines)
+        assert ended == answered(wrapped.hex())
+        back = keywrap(f"unwrap {flags}", stdin=ended.stdout)
+        assert back == answered(key.hex())
+
+    def test_rewrap_in_place(
+        self, keywrap, key, wrapped, flags, size, rewrap_flags, new_flags
+    ):
+        pathlib.Path("file").write_bytes(wrapped)
+        in_place = "--raw -i file -o file"
+        rewrap = f"rewrap --kek kek32.hex --new-kek kek16.hex {rewrap_flags}"
+        assert keywrap(f"{rewrap} {in_place}") == DONE
+        assert keywrap(f"{UNWRAP} {new_flags} {in_place}") == DONE
+        assert pathlib.Path("file").read_bytes() == key
 
 
 @pytest.mark.parametrize(
@@ -130,12 +182,16 @@ def test_damaged_decryption(keywrap):
     Eight of the places of InvShiftRows are in the program, and only its decryption uses them.
     """
     keywrap.need_kit()
-    program, places = pathlib.Path(keywrap.path).read_bytes(), raw("000d0a0704010e0b")
+    program = pathlib.Path(keywrap.path).read_bytes()
+    places = raw("000d0a0704010e0b")
     assert places in program
-    pathlib.Path("damaged").write_bytes(program.replace(places, places[::-1]))
+    damaged_program = program.replace(places, places[::-1])
+    pathlib.Path("damaged").write_bytes(damaged_program)
     os.chmod("damaged", 0o700)
+
     damaged = Program(pathlib.Path("damaged").absolute())
-    assert damaged("vectors") == Ended(5, VECTOR_LINES.replace(" ok", " failed"))
+    all_failed = VECTOR_LINES.replace(" ok", " failed")
+    assert damaged("vectors") == Ended(5, all_failed)
     assert damaged(WRAP, stdin=KEY16) == answered(WRAPPED16)
     assert damaged(UNWRAP, stdin=WRAPPED16) == refused(5, INTEGRITY)
     assert damaged(CHECK, stdin=WRAPPED16) == Ended(5, "none\n")

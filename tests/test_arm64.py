@@ -41,24 +41,15 @@ def making(once, built):
     """making("dist") is the directory with what this goal of make packs."""
 
     def made(goal):
-        words = [
-            *ARM,
-            f"ARCHIVE={built('arm64')}/libkeywrap.a",
-            f"PYTHON={sys.executable}",
-        ]
-        return once(
-            f"arm64-{goal}",
-            lambda directory: run(
-                "make",
-                "-s",
-                "-C",
-                ROOT,
-                goal,
-                *words,
-                f"LIBRARY={directory}.library",
-                f"DIST={directory}",
-            ),
-        )
+        archive = built("arm64") / "libkeywrap.a"
+        make = ["make", "-s", "-C", ROOT, goal, *ARM]
+        variables = [f"ARCHIVE={archive}", f"PYTHON={sys.executable}"]
+
+        def build(directory):
+            places = [f"LIBRARY={directory}.library", f"DIST={directory}"]
+            run(*make, *variables, *places)
+
+        return once(f"arm64-{goal}", build)
 
     return made
 
@@ -129,17 +120,12 @@ class TestLibrary:
 class TestPacked:
     @pytest.mark.needs("pkg-config")
     def test_c_example(self, packed):
-        flags = run(
-            "pkg-config",
-            "--cflags",
-            "--libs",
-            "keywrap",
-            env={**os.environ, "PKG_CONFIG_PATH": f"{packed}/lib/pkgconfig"},
-        ).split()
-        run(CC, "-std=c99", ROOT / "c/examples/c/wrap.c", *flags, "-o", "example")
-        assert WRAPPED24 in run(
-            *RUNS, "-E", f"LD_LIBRARY_PATH={packed}/lib", "./example"
-        )
+        places = {**os.environ, "PKG_CONFIG_PATH": f"{packed}/lib/pkgconfig"}
+        flags = run("pkg-config", "--cflags", "--libs", "keywrap", env=places).split()
+        source = ROOT / "c/examples/c/wrap.c"
+        run(CC, "-std=c99", source, *flags, "-o", "example")
+        library_path = f"LD_LIBRARY_PATH={packed}/lib"
+        assert WRAPPED24 in run(*RUNS, "-E", library_path, "./example")
 
 
 class TestDist:
@@ -153,18 +139,13 @@ class TestDist:
             f"keywrap-{version}-aarch64-linux-static.tar.gz",
         }
         run("sha256sum", "-c", "--strict", "SHA256SUMS", cwd=dist)
-        run(
-            sys.executable,
-            ROOT / "generate/trust.py",
-            "--check-hashes",
-            dist / "SHA256SUMS",
-        )
+        trust = ROOT / "generate/trust.py"
+        run(sys.executable, trust, "--check-hashes", dist / "SHA256SUMS")
 
     def test_extension(self, site):
         extension = site / "keywrap/_ffi.abi3.so"
-        assert are_arm(extension) and shown(extension, "-D", tools=TOOLS) == [
-            "PyInit__ffi"
-        ]
+        assert are_arm(extension)
+        assert shown(extension, "-D", tools=TOOLS) == ["PyInit__ffi"]
         check_glibc(extension, TOOLS)
 
     def test_python_takes_the_wheel(self, dist):
@@ -183,23 +164,15 @@ class TestDist:
         programs, which qemu cannot: one_exception, keywrap.rotate, keywrap.vectors and install(). The memory of an
         emulator is not that of the calls."""
         left_out = "not thread and not one_exception and not pyca_installed and not take_no_memory"
+        files = sorted((ROOT / "python/tests").glob("test_[!rv]*.py"))
+        pytest_there = [*PYTHON, "-m", "pytest", "-q", "-p", "no:cacheprovider"]
+        env = {**os.environ, "PYTHONPATH": str(site), "KEYWRAP_CALLS": "10000"}
         ended = subprocess.run(
-            [
-                *PYTHON,
-                "-m",
-                "pytest",
-                "-q",
-                "-p",
-                "no:cacheprovider",
-                "-k",
-                left_out,
-                *sorted((ROOT / "python/tests").glob("test_[!rv]*.py")),
-            ],
+            [*pytest_there, "-k", left_out, *files],
             capture_output=True,
             text=True,
-            env={**os.environ, "PYTHONPATH": str(site), "KEYWRAP_CALLS": "10000"},
+            env=env,
         )
         counts = re.findall(r"^[0-9]+ passed.*", ended.stdout, re.M)
-        assert counts and not re.search(
-            "skipped|failed|error", counts[-1]
-        ), ended.stdout
+        assert counts, ended.stdout
+        assert not re.search("skipped|failed|error", counts[-1]), ended.stdout

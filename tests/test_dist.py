@@ -2,6 +2,7 @@
 directory that has only the archive and the system's C library. test_handed_out.py compares their files."""
 
 import hashlib
+import itertools
 import json
 import os
 import pathlib
@@ -29,24 +30,38 @@ def archive_name(name):
 class TestWhole:
     def test_checksums(self, dist):
         run("sha256sum", "-c", "--strict", "SHA256SUMS", cwd=dist)
-        assert {
-            line.split()[1] for line in (dist / "SHA256SUMS").read_text().splitlines()
-        } == {path.name for path in dist.iterdir()} - {"SHA256SUMS"}
+        lines = (dist / "SHA256SUMS").read_text().splitlines()
+        named = {line.split()[1] for line in lines}
+        assert named == {path.name for path in dist.iterdir()} - {"SHA256SUMS"}
 
-    def test_bill_of_materials(self, dist):
-        """This version, the kit's, its crates that are linked in, and the hash of each file."""
-        bill = json.loads((dist / f"keywrap-{VERSION}.cdx.json").read_text())
+    @pytest.fixture
+    def bill(self, dist):
+        return json.loads((dist / f"keywrap-{VERSION}.cdx.json").read_text())
+
+    @staticmethod
+    def components(bill, kind):
+        """The components of this type by name."""
+        return {
+            component["name"]: component
+            for component in bill["components"]
+            if component["type"] == kind
+        }
+
+    def test_head_of_the_bill(self, bill):
         assert (bill["bomFormat"], bill["specVersion"]) == ("CycloneDX", "1.4")
         assert bill["metadata"]["component"]["version"] == VERSION
-        kit, *parts = bill["components"]
-        kit_id = (
-            pathlib.Path(shutil.which("rt")).resolve().parent.parent / "KIT-ID"
-        ).read_text()
-        assert (
-            kit_id.startswith(f"rattle-kit-{kit['version']} ")
-            and len(kit["hashes"][0]["content"]) == 64
-        )
-        assert {part["name"] for part in parts if part["type"] == "library"} == {
+
+    def test_kit_in_the_bill(self, bill):
+        kit = bill["components"][0]
+        directory = pathlib.Path(shutil.which("rt")).resolve().parent.parent
+        kit_id = (directory / "KIT-ID").read_text()
+        assert kit_id.startswith(f"rattle-kit-{kit['version']} ")
+        assert len(kit["hashes"][0]["content"]) == 64
+
+    def test_crates_in_the_bill(self, bill):
+        """The kit's that are linked in."""
+        libraries = self.components(bill, "library")
+        assert libraries.keys() == {
             "std",
             "base64",
             "byteorder",
@@ -56,20 +71,19 @@ class TestWhole:
             "memchr",
             "thiserror",
         }
-        crates = sorted(part["bom-ref"] for part in parts if part["type"] == "library")
-        assert {
-            one["ref"]: sorted(one["dependsOn"]) for one in bill["dependencies"]
-        } == {"keywrap": crates, "kit": crates}
-        files = {
-            part["name"]: part["hashes"][0]["content"]
-            for part in parts
-            if part["type"] == "file"
-        }
-        assert files == {
-            path.name: hashlib.sha256(path.read_bytes()).hexdigest()
-            for path in dist.iterdir()
-            if path.suffix in (".gz", ".tgz", ".whl")
-        }
+        crates = sorted(library["bom-ref"] for library in libraries.values())
+        depends = {one["ref"]: sorted(one["dependsOn"]) for one in bill["dependencies"]}
+        assert depends == {"keywrap": crates, "kit": crates}
+
+    def test_hashes_in_the_bill(self, bill, dist):
+        files = self.components(bill, "file")
+        packed = [
+            path for path in dist.iterdir() if path.suffix in (".gz", ".tgz", ".whl")
+        ]
+        assert files.keys() == {path.name for path in packed}
+        for path in packed:
+            shown = files[path.name]["hashes"][0]["content"]
+            assert shown == hashlib.sha256(path.read_bytes()).hexdigest()
 
     def test_hashes_in_trust(self, dist):
         run(
@@ -77,12 +91,9 @@ class TestWhole:
         )
 
     def test_lines_of_installing(self, dist):
-        page = (
-            (ROOT / "docs/INSTALLING.md")
-            .read_text()
-            .partition("### From an archive")[2]
-        )
-        lines = re.findall("^    (.*)", page, re.M)
+        page = (ROOT / "docs/INSTALLING.md").read_text()
+        section = page.partition("### From an archive")[2]
+        lines = re.findall("^    (.*)", section, re.M)
         assert lines
         copy = shutil.copytree(dist, "copy")
         run("bash", "-ec", "\n".join(lines), cwd=copy)
@@ -91,27 +102,17 @@ class TestWhole:
         """make dist in a copy of the tree, of another path, umask, time and -j, gives the same checksums."""
         tree = copied_tree(pathlib.Path("another"), program_path, built("llvm.a"))
         run("find", tree, "-exec", "touch", "-d", "2001-02-03", "{}", "+")
-        words = [
-            f"PROGRAM={program_path}",
-            f"ARCHIVE={built('llvm.a')}",
-            "-o",
-            "build",
-        ]
-        run(
-            "sh",
-            "-c",
-            'umask 077; exec make -sj4 "$@"',
-            "-",
-            "-C",
-            tree,
-            "dist",
+        variables = [
             f"PYTHON={python}",
             MACHINE,
-            *words,
-        )
-        assert (tree / "out/SHA256SUMS").read_text() == (
-            dist / "SHA256SUMS"
-        ).read_text()
+            f"PROGRAM={program_path}",
+            f"ARCHIVE={built('llvm.a')}",
+        ]
+        make = 'umask 077; exec make -sj4 "$@"'
+        goals = ["dist", *variables, "-o", "build"]
+        run("sh", "-c", make, "-", "-C", tree, *goals)
+        sums = (tree / "out/SHA256SUMS").read_text()
+        assert sums == (dist / "SHA256SUMS").read_text()
 
 
 def headings(document):
@@ -123,10 +124,10 @@ def headings(document):
 
 @pytest.mark.parametrize("name", ARCHIVES)
 class TestDocuments:
-    def test_links(self, thing, name):
+    def test_links(self, handed_out, name):
         """Each link that does not lead to the web leads to a file there, and to its heading."""
         found = []
-        for document in (thing(f"archive of {name}") / "share/doc/keywrap").rglob(
+        for document in (handed_out(f"archive of {name}") / "share/doc/keywrap").rglob(
             "*.md"
         ):
             for target in re.findall(
@@ -148,24 +149,26 @@ class TestDocuments:
     "name, path",
     [("archive of library", "lib/libkeywrap.so"), ("wheel", "keywrap/_ffi.abi3.so")],
 )
-def test_no_new_glibc(thing, name, path):
-    check_glibc(thing(name) / path)
+def test_no_new_glibc(handed_out, name, path):
+    check_glibc(handed_out(name) / path)
 
 
-def test_command_of_the_wheel_needs_no_library(thing):
-    (command,) = thing("wheel").glob("*.data/scripts/keywrap")
+def test_command_of_the_wheel_needs_no_library(handed_out):
+    (command,) = handed_out("wheel").glob("*.data/scripts/keywrap")
     assert "INTERP" not in run("readelf", "-l", command)
 
 
-def test_packed_program(thing, keywrap):
-    assert (thing("archive of command") / "bin/keywrap").read_bytes() == pathlib.Path(
-        keywrap.path
-    ).read_bytes()
+def test_packed_program(handed_out, keywrap):
+    assert (
+        handed_out("archive of command") / "bin/keywrap"
+    ).read_bytes() == pathlib.Path(keywrap.path).read_bytes()
 
 
 def typed(readme):
-    """The lines that a README has to type, with those that continue them, and the answers."""
-    lines, answers, goes_on = [], [], False
+    """The lines of a README that a reader types, with the lines that continue them, and the answers."""
+    lines = []
+    answers = []
+    goes_on = False
     for line in readme.read_text().splitlines():
         if line.startswith("    $ ") or goes_on:
             lines.append(line[6:])
@@ -191,79 +194,69 @@ cd "bare/$name"
 
 @pytest.mark.needs("tmpfs in a namespace", "cc", "pkg-config")
 @pytest.mark.parametrize("name", ARCHIVES)
-def test_readme_in_an_empty_root(thing, keywrap, name):
+def test_readme_in_an_empty_root(handed_out, keywrap, name):
     """The README's lines are done, but for the provider, with its answers. Each of the library's three programs gives
     the result of RFC 3394, 4.2."""
     root = pathlib.Path("bare")
+    archive = root / archive_name(name)
     root.mkdir()
-    shutil.copytree(
-        thing(f"archive of {name}"), root / archive_name(name), symlinks=True
-    )
+    shutil.copytree(handed_out(f"archive of {name}"), archive, symlinks=True)
     for file in re.findall(r"(/\S+) \(0x", run("ldd", keywrap.path)):
-        (root / file[1:]).parent.mkdir(parents=True, exist_ok=True)
-        shutil.copy(file, root / file[1:])
-    lines, answers = typed(root / archive_name(name) / "README")
-    lines = lines[
-        : next(
-            (
-                at
-                for at, line in enumerate(lines)
-                if line.startswith("cc") and ".so" in line
-            ),
-            len(lines),
-        )
-    ]
+        copy = root / file[1:]
+        copy.parent.mkdir(parents=True, exist_ok=True)
+        shutil.copy(file, copy)
+    lines, answers = typed(archive / "README")
+    lines = [*itertools.takewhile(is_not_of_the_provider, lines)]
     assert len(lines) == (7 if name == "command" else 9)
     script = []
     for line in lines:
         if line.startswith("cp -r "):
             script.append('bare() { "$@"; }')
         script.append(re.sub(r"(^|\| )(bin/keywrap|\./wrap)", r"\1bare \2", line))
-    said = run(
-        "unshare",
-        "-rm",
-        "bash",
-        "-ec",
-        IN_BARE + "\n".join(script),
-        env={**os.environ, "workdir": os.getcwd(), "name": archive_name(name)},
-    )
+    env = {**os.environ, "workdir": os.getcwd(), "name": archive_name(name)}
+    commands = IN_BARE + "\n".join(script)
+    output = run("unshare", "-rm", "bash", "-ec", commands, env=env)
     if name == "command":
-        assert said.splitlines() == answers and len(answers) == 4 and KEY16 in answers
+        assert output.splitlines() == answers
+        assert len(answers) == 4
+        assert KEY16 in answers
     else:
-        assert re.findall("^wrap: done: (.*)$", said, re.M) == [WRAPPED24] * 3
+        assert re.findall("^wrap: done: (.*)$", output, re.M) == [WRAPPED24] * 3
+
+
+def is_not_of_the_provider(line):
+    """Whether this line of README comes before the one that compiles the provider."""
+    return not (line.startswith("cc") and ".so" in line)
 
 
 @pytest.mark.needs("<openssl/evp.h>", "openssl")
-def test_readme_builds_the_provider(thing):
-    root = shutil.copytree(thing("archive of library"), "archive", symlinks=True)
+def test_readme_builds_the_provider(handed_out):
+    root = shutil.copytree(handed_out("archive of library"), "archive", symlinks=True)
     lines, _ = typed(pathlib.Path(root) / "README")
-    (at,) = (
-        at
-        for at, line in enumerate(lines)
-        if line.startswith("cc") and "keywrap.so" in line
-    )
-    run("bash", "-ec", "\n".join(lines[at:]), cwd=root)
-    assert f"version: {VERSION}" in run(
-        "openssl", "list", "-providers", "-provider-path", root, "-provider", "keywrap"
-    )
+    of_provider = [*itertools.dropwhile(is_not_of_the_provider, lines)]
+    assert "keywrap.so" in of_provider[0]
+    run("bash", "-ec", "\n".join(of_provider), cwd=root)
+    provider = ["-provider-path", root, "-provider", "keywrap"]
+    listed = run("openssl", "list", "-providers", *provider)
+    assert f"version: {VERSION}" in listed
 
 
 def test_help(dist):
-    """The files that make help names are those that make dist makes."""
-    said = run("make", "-s", "-C", ROOT, "help", "DIST=there", MACHINE)
-    named = re.findall(r"there/(keywrap\S*)", said)
-    assert named and set(named) <= {path.name for path in dist.iterdir()}
+    """make dist makes the files that make help names."""
+    text = run("make", "-s", "-C", ROOT, "help", "DIST=there", MACHINE)
+    named = re.findall(r"there/(keywrap\S*)", text)
+    assert named != []
+    assert set(named) <= {path.name for path in dist.iterdir()}
 
 
 class TestNpm:
-    def test_readme_links_to_no_file(self, thing):
-        assert not re.search(
-            r"\]\((\.\.|[a-z_]*/)", (thing("npm") / "README.md").read_text()
-        )
+    def test_readme_links_to_no_file(self, handed_out):
+        page = (handed_out("npm") / "README.md").read_text()
+        assert re.search(r"\]\((\.\.|[a-z_]*/)", page) is None
 
     @pytest.mark.needs("npm", "no network")
-    def test_packed_and_installed_by_npm(self, thing, dist):
-        """npm packs the same files, and installs the archive by the README's line. A program then imports it."""
+    def test_packed_by_npm(self, handed_out):
+        """npm packs the same files."""
         env = {
             **os.environ,
             "npm_config_cache": f"{os.getcwd()}/npm",
@@ -271,22 +264,16 @@ class TestNpm:
         }
         pathlib.Path("by_npm").mkdir()
         run("make", "-s", "-C", ROOT, "js", f"JS={os.getcwd()}/js")
-        run(
-            "npm",
-            "pack",
-            "--silent",
-            "--offline",
-            "--pack-destination",
-            "by_npm",
-            "./js",
-            env=env,
-        )
+        options = ["--silent", "--offline", "--pack-destination", "by_npm"]
+        run("npm", "pack", *options, "./js", env=env)
         run("tar", "-C", "by_npm", "-xzf", f"by_npm/keywrap-{VERSION}.tgz")
-        run("diff", "-r", thing("npm"), "by_npm/package")
-        lines = re.findall(
-            "^    npm install .*", (thing("npm") / "README.md").read_text(), re.M
-        )
-        assert len(lines) == 1
+        run("diff", "-r", handed_out("npm"), "by_npm/package")
+
+    @pytest.mark.needs("npm", "no network")
+    def test_installed_by_npm(self, handed_out, dist):
+        """By the README's line. A program then imports it."""
+        page = (handed_out("npm") / "README.md").read_text()
+        (line,) = re.findall("^    npm install .*", page, re.M)
         pathlib.Path("a_program").mkdir()
         shutil.copy(dist / f"keywrap-{VERSION}.tgz", "a_program")
         pathlib.Path("a_program/use.mjs").write_text(
@@ -296,6 +283,6 @@ class TestNpm:
                 console.log((await load()).wrap(new Uint8Array(32), new Uint8Array(16)).at(-1));
             }"""
         )
-        said = run(*alone([*lines, "node use.mjs"], HOME=os.getcwd()), cwd="a_program")
-        assert said.endswith("\n215\n215\n")
-        run("diff", "-r", thing("npm"), "a_program/node_modules/keywrap")
+        commands = alone([line, "node use.mjs"], HOME=os.getcwd())
+        assert run(*commands, cwd="a_program").endswith("\n215\n215\n")
+        run("diff", "-r", handed_out("npm"), "a_program/node_modules/keywrap")

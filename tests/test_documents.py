@@ -9,6 +9,7 @@ from xml.etree import ElementTree
 
 import pytest
 
+import edits
 from page_lines import page_lines
 
 ROOT = pathlib.Path(__file__).resolve().parent.parent
@@ -42,23 +43,29 @@ def tracked(*paths):
     return listed.stdout.splitlines()
 
 
+def anchors_of(text):
+    """The names of the headings of a page, as links have them."""
+    headings = re.findall("^#+ (.*)", text, re.M)
+    without_marks = [
+        re.sub("[^a-z0-9 _-]", "", heading.lower()) for heading in headings
+    ]
+    return [name.replace(" ", "-") for name in without_marks]
+
+
 @pytest.mark.parametrize("document", DOCUMENTS, ids=str)
 class TestEachDocument:
     def test_links(self, document):
         text = text_of(document).replace("\n", " ")
-        for target in re.findall(r"\]\(([^)]*)\)", text) + re.findall(
-            r'<img src="([^"]*)"', text
-        ):
-            if not re.match("https?:", target):
-                name, _, anchor = target.partition("#")
-                file = document.parent / name if name else document
-                assert (ROOT / file).exists(), target
-                headings = re.findall("^#+ (.*)", text_of(file), re.M) if anchor else []
-                anchors = [
-                    re.sub("[^a-z0-9 _-]", "", heading.lower()).replace(" ", "-")
-                    for heading in headings
-                ]
-                assert not anchor or anchor in anchors, target
+        targets = re.findall(r"\]\(([^)]*)\)", text)
+        targets += re.findall(r'<img src="([^"]*)"', text)
+        for target in targets:
+            if re.match("https?:", target):
+                continue
+            name, _, anchor = target.partition("#")
+            file = document.parent / name if name else document
+            assert (ROOT / file).exists(), target
+            if anchor:
+                assert anchor in anchors_of(text_of(file)), target
 
     def test_paths(self, document):
         """Files that are named with their directory are there: in the repository, in the directory of a crate, or next
@@ -72,26 +79,28 @@ class TestEachDocument:
                 assert any(any(ROOT.glob(place + pattern)) for place in places), path
 
 
-def test_lines_without_the_kit():
-    """The page of each language is in without_kit.txt, which tests/fresh.sh runs, and has at most four lines there."""
-    sections = [
-        row.split(" | ")
-        for row in text_of("tests/without_kit.txt").splitlines()
-        if row and row[0] != "#"
-    ]
-    for page, heading in sections:
-        packages, *lines = page_lines(text_of(page), heading)
-        assert packages.startswith("apt-get install ") and 1 <= len(lines) <= 4, (
-            page,
-            lines,
-        )
-    (languages,) = re.findall(
-        r"^## Use it from a language\n\n((?:\|.*\n)+)", text_of("README.md"), re.M
-    )
+def sections_without_the_kit():
+    """The pages and headings of without_kit.txt. A script may follow."""
+    rows = text_of("tests/without_kit.txt").splitlines()
+    return [row.split(" | ")[:2] for row in rows if row and not row.startswith("#")]
+
+
+@pytest.mark.parametrize("page, heading", sections_without_the_kit())
+def test_lines_without_the_kit(page, heading):
+    """A section that tests/fresh.sh runs installs packages, and has at most four lines then."""
+    packages, *lines = page_lines(text_of(page), heading)
+    assert packages.startswith("apt-get install ")
+    assert 1 <= len(lines) <= 4
+
+
+def test_each_language_is_tried_without_the_kit():
+    """The page of each language is in without_kit.txt."""
+    table = r"^## Use it from a language\n\n((?:\|.*\n)+)"
+    (languages,) = re.findall(table, text_of("README.md"), re.M)
     linked = {*re.findall(r"\]\(([^)#]*)", languages)}
-    assert len(linked) == 9 and linked - {page for page, _ in sections} == {
-        "docs/CONTRACTS.md"
-    }
+    assert len(linked) == 9
+    tried = {page for page, _ in sections_without_the_kit()}
+    assert linked - tried == {"docs/CONTRACTS.md"}
 
 
 @pytest.mark.needs("git")
@@ -108,6 +117,8 @@ def test_width():
         ":!tests/all_inputs/*.txt",
         ":!tests/library",
         ":!*.edit",
+        ":!tests/edits/*.txt",
+        ":!command/options.jsonl",
         ":!dist/keywrap.c",
         ":!dist/command/program.c",
         ":!dist/src/proved",
@@ -122,42 +133,23 @@ def test_width():
     assert wide == ["crates.txt"]
 
 
-def test_edits_fit():
+@pytest.mark.parametrize(
+    "edit",
+    [*edits.of_gate(), *edits.of_release()],
+    ids=lambda edit: f"{edit.crate}-{edit.name}",
+)
+def test_edit_fits(edit):
     """Each text that a must-fail edit replaces stands once in its file. rt ci would only say that the edit is bad."""
-    crates = {edit: edit.parents[1] for edit in ROOT.glob("crates/*/must-fail/*.edit")}
-    crates |= {
-        edit: ROOT / "crates" / edit.parent.name
-        for edit in ROOT.glob("tests/edits/*/*.edit")
-    }
-    for edit, crate in crates.items():
-        texts = {}
-        for kind, value in re.findall(
-            r"^(file|old|new): ?(.*)$", edit.read_text(), re.M
-        ):
-            if kind == "file":
-                path = crate / value
-                texts.setdefault(path, path.read_text())
-            elif kind == "old":
-                old = value
-                assert texts[path].count(old) == 1, edit
-            else:
-                texts[path] = texts[path].replace(old, value)
-    assert crates
+    assert edit.edited_files()
 
 
 def test_width_of_rattle():
     """Without imports and attributes, which `rt fmt` leaves on one line, and the first line of whole_rewrap_law."""
+    left_out = re.compile(r" *((ghost |pub )?use |#!?\[|ensures . .pass_new : Bool)")
     for pattern, most in ("src/**/*.rt", 110), ("specs/**/*.antt", 190):
-        wide = [
-            f"{path.relative_to(ROOT)}:{number}"
-            for path in ROOT.glob(f"crates/*/{pattern}")
-            for number, line in enumerate(path.read_text().splitlines(), 1)
-            if len(line) > most
-            and not re.match(
-                r" *((ghost |pub )?use |#!?\[|ensures . .pass_new : Bool)", line
-            )
-        ]
-        assert wide == []
+        for path in ROOT.glob(f"crates/*/{pattern}"):
+            for number, line in enumerate(path.read_text().splitlines(), 1):
+                assert len(line) <= most or left_out.match(line), f"{path}:{number}"
 
 
 def test_map():
@@ -172,6 +164,15 @@ def test_map():
         places.add(f"c/{rest[0]}" if top == "c" else top)
     is_left_out = re.compile(r"\.md$|^\.git").search
     assert sorted(named) == sorted(path for path in places if not is_left_out(path))
+
+
+def width_of_letter(kinds):
+    """In the width of DejaVu Sans."""
+    if kinds & {"shown", "faint", "mono"}:
+        return 7.3
+    if "strong" in kinds:
+        return 7
+    return 6.5
 
 
 class TestRepeatedFacts:
@@ -203,7 +204,9 @@ class TestRepeatedFacts:
         ended = subprocess.run(
             [ROOT / "generate" / script, "--check"], capture_output=True, text=True
         )
-        assert (ended.returncode, ended.stdout) == (0, "")
+        # It names the files.
+        assert ended.stdout == ""
+        assert ended.returncode == 0
 
     def test_what_scripts_miss(self, monkeypatch):
         """`--raw` is not found in `--raw-kek`, and an empty text is not a list of hashes."""
@@ -215,31 +218,46 @@ class TestRepeatedFacts:
             lambda name, real=facts.read: real(name).replace(".It Fl -raw\n", ""),
         )
         assert facts.lacking() == ["command/man/keywrap.1: lacks the option --raw"]
-        assert trust.are_listed("aa  a.tgz\n", "aa  a.tgz\n") and not trust.are_listed(
-            "", "aa  a.tgz\n"
-        )
+        assert trust.are_listed("aa  a.tgz\n", "aa  a.tgz\n")
+        assert not trust.are_listed("", "aa  a.tgz\n")
+
+    @pytest.mark.parametrize(
+        "file, written",
+        [
+            ("dist/keywrap.go", "C.keywrap_kind("),
+            ("dist/check/all_inputs/calls.py", '"keywrap_kind"'),
+            ("dist/src/calls.rs", "pub(crate) fn kind("),
+            ("js/keywrap.d.ts", "    check("),
+            ("tests/portable/fuzz_call.c", "keywrap_kind("),
+        ],
+    )
+    def test_a_call_that_a_file_lacks(self, monkeypatch, file, written):
+        """facts.py names the file to write it into."""
+        monkeypatch.syspath_prepend(ROOT / "generate")
+        headers = importlib.import_module("headers")
+        read = headers.read
+
+        def read_without(name):
+            text = read(name)
+            return text.replace(written, "") if name == file else text
+
+        assert [*headers.lacking()] == []
+        monkeypatch.setattr(headers, "read", read_without)
+        assert [*headers.lacking()] == [f"{file}: lacks the call keywrap_kind"]
 
     def test_texts_of_pictures(self):
         """Texts end inside their picture, in the width of DejaVu Sans, which is wider than most."""
-        fits = []
+        count = 0
         for picture in sorted(ROOT.glob("docs/pictures/*.svg")):
             drawing = ElementTree.parse(picture).getroot()
             for text in drawing.iter("{http://www.w3.org/2000/svg}text"):
                 kinds = {*text.get("class").split()}
-                letter = (
-                    7.3
-                    if kinds & {"shown", "faint", "mono"}
-                    else 7
-                    if "strong" in kinds
-                    else 6.5
-                )
-                if not kinds & {"middle", "end"}:
-                    fits.append(
-                        float(text.get("x")) + letter * len(text.text)
-                        <= float(drawing.get("width"))
-                    )
-                    assert fits[-1], (picture.name, text.text)
-        assert len(fits) > 100
+                if kinds & {"middle", "end"}:
+                    continue
+                end = float(text.get("x")) + width_of_letter(kinds) * len(text.text)
+                assert end <= float(drawing.get("width")), (picture.name, text.text)
+                count += 1
+        assert count > 100
 
     @pytest.mark.needs("git")
     def test_version(self, keywrap):
@@ -251,7 +269,8 @@ class TestRepeatedFacts:
         newest, date = re.search(
             r"^## (\S+)(?: \((\d{4}-\d\d-\d\d)\))?$", text_of("CHANGELOG.md"), re.M
         ).groups()
-        assert newest == version and bool(date) == (not version.endswith("-dev"))
+        assert newest == version
+        assert bool(date) == (not version.endswith("-dev"))
         search = [
             "git",
             "grep",

@@ -1,5 +1,5 @@
 """--output against the system: calls that fail, limits, mounts, files that cannot be replaced, signals. The file is as
-it was, or has the whole answer. The manual page says what can stay beside it.
+it was, or has the whole answer. The manual page says which other file can stay.
 
 And a co-process with --lines, whose finished answers are written before it waits for the next line."""
 
@@ -30,11 +30,10 @@ from commands import CHECK, FILES, JOBS, SAME_KEK, UNWRAP, WRAP
 from program import PIPES, Ended, finish, refused, sh, slow, wait_for
 from vectors import KEY16, NOT_FLUSHED, WRAPPED16
 
-WRAP_FILE, UNWRAP_FILE = (
-    f"{WRAP} -i key.hex -o to/file",
-    f"{UNWRAP} -i wrapped.hex -o to/file",
-)
-WRAPPED, PART = FILES["wrapped.hex"], pathlib.Path("to/file.part0")
+WRAP_FILE = f"{WRAP} -i key.hex -o to/file"
+UNWRAP_FILE = f"{UNWRAP} -i wrapped.hex -o to/file"
+WRAPPED = FILES["wrapped.hex"]
+PART = pathlib.Path("to/file.part0")
 NOT_KEPT = "to/file: owner, group or mode can't be kept"
 
 
@@ -154,11 +153,8 @@ class TestFaults:
             ended = failing(f"{args} --verbose", FAIL_CALL=f"statx:{call}{after}")
             if failing.met.split().count("statx") < call:
                 break
-            assert (ended.status, ended.stdout, state()) == (
-                6,
-                "",
-                before,
-            ), f"{call}{after}"
+            found = ended.status, ended.stdout, state()
+            assert found == (6, "", before), f"{call}{after}"
             assert re.fullmatch(
                 f"({NO_OUTPUT.stderr}|{FLUSH_FAULT.stderr})  to/.*: {reason}\n",
                 ended.stderr,
@@ -258,7 +254,8 @@ class TestFaults:
         ],
     )
     def test_mounts(self, keywrap, script, ended):
-        unshare, env = ["unshare", "-rm", "sh", "-eu", "-c"], {
+        unshare = ["unshare", "-rm", "sh", "-eu", "-c"]
+        env = {
             **os.environ,
             "program": keywrap.path,
         }
@@ -297,9 +294,10 @@ class TestWhileItWaits:
         ids=["standard input", "pipe", "many lines"],
     )
     def test_signal(self, keywrap, begin, number, given):
-        """The file is unchanged, and only the new file may be beside it. The next run uses another name."""
+        """The file is unchanged, and only the new file may be left. The next run uses another name."""
         os.mkfifo("pipe")
-        before, pipe = state(), os.open("pipe", os.O_RDWR)
+        before = state()
+        pipe = os.open("pipe", os.O_RDWR)
         run = begin(f"{WRAP} {given}")
         assert state(str(PART)) == before
         if given == "--lines":
@@ -316,7 +314,8 @@ class TestWhileItWaits:
 
     def test_two_runs(self, keywrap, begin):
         """They make two new files, and the run that ends last determines the file. Until then it is the old file."""
-        before, run = state(), begin()
+        before = state()
+        run = begin()
         assert state(str(PART)) == before
         assert keywrap("wrap --kek kek32.hex -i key.hex -o to/file") == DONE
         assert (pathlib.Path("to/file").read_bytes(), PART.exists()) == (

@@ -38,7 +38,8 @@ COMMANDS = [
         "keywrap: line 1: no hex digit at byte 1\n",
     ),
 ]
-# One command for each way in which something is written, and for each step at which a line comes.
+# A command for each way in which something is written; and, for each of the stages of a run, from its arguments to the
+# check of a wrapped key, one that is refused there, with a line on standard error.
 ANSWERED = [
     "wrap",
     "raw wrap",
@@ -89,11 +90,12 @@ def nothing_is_left(files, monkeypatch):
     pathlib.Path("to/file").write_bytes(b"old\n")
 
     def state():
-        return {
-            path: (path.stat().st_ino, path.stat().st_mtime_ns, path.stat().st_size)
-            for path in files.rglob("*")
-            if path.name not in ("out", "file", "to")
-        }
+        found = {}
+        for path in files.rglob("*"):
+            if path.name not in ("out", "file", "to"):
+                status = path.stat()
+                found[path] = status.st_ino, status.st_mtime_ns, status.st_size
+        return found
 
     before = state()
     yield
@@ -105,10 +107,11 @@ def command(request, keywrap):
     """The command of this name, with what it writes, if that is a text of the program."""
     (found,) = [each for each in COMMANDS if each.name == request.param]
     own = keywrap(found.args)
-    return found._replace(
-        stdout=own.stdout.encode() if found.stdout is None else found.stdout,
-        stderr=own.stderr if found.stderr is None else found.stderr,
-    )
+    if found.stdout is None:
+        found = found._replace(stdout=own.stdout.encode())
+    if found.stderr is None:
+        found = found._replace(stderr=own.stderr)
+    return found
 
 
 @pytest.fixture
@@ -125,6 +128,19 @@ def full_pipe():
         yield read, written
 
 
+def closed_streams():
+    """Each set of standard streams that are closed, and one that is full or has no reader."""
+    for count in range(4):
+        for names in itertools.combinations(PIPES, count):
+            yield dict.fromkeys(names, CLOSED)
+    yield {"stdout": "/dev/full"}
+    yield {"stdout": UNREAD}
+    yield {"stderr": "/dev/full"}
+
+
+STREAMS = [*closed_streams()]
+
+
 class TestStreams:
     @each(ANSWERED)
     def test_output_that_takes_some_bytes(self, keywrap, command):
@@ -132,46 +148,38 @@ class TestStreams:
         if command.name == "version":
             # The program in C writes a second line apart from the first.
             keywrap.need_kit()
-        size, whole = len(command.stdout), Ended(command.status, "", command.stderr)
-        counts = {
-            0,
-            1,
-            size // 3,
-            size // 2,
-            1024,
-            4095,
-            4096,
-            4097,
-            8192,
-            size - 2,
-            size - 1,
-            size,
-        }
-        for taken in range(size + 1) if command.name == "wrap" else sorted(counts):
-            ended = keywrap(
-                command.args, stdin=command.given, stdout="out", limits={"FSIZE": taken}
-            )
+        size = len(command.stdout)
+        if command.name == "wrap":
+            counts = range(size + 1)
+        else:
+            counts = {0, 1, size // 3, size // 2, 1024, 4095, 4096, 4097, 8192}
+            counts |= {size - 2, size - 1, size}
+        for taken in sorted(counts):
+            options = {"stdin": command.given, "limits": {"FSIZE": taken}}
+            ended = keywrap(command.args, stdout="out", **options)
             assert pathlib.Path("out").read_bytes() == command.stdout[:taken]
-            assert ended == (whole if taken >= size else refused(6, FULL.format(taken)))
+            if taken < size:
+                assert ended == refused(6, FULL.format(taken))
+            else:
+                assert ended == Ended(command.status, "", command.stderr)
 
-    @pytest.mark.parametrize(
-        "stream",
-        [UNREAD, "/dev/full", None],
-        ids=["nobody reads", "full device", "full pipe"],
-    )
+    @pytest.mark.parametrize("stream", ["nobody reads", "full device", "full pipe"])
     @SIGPIPE
     @each(ANSWERED + REFUSED)
     def test_nothing_is_taken(self, keywrap, command, stream, ignoring, full_pipe):
-        options, stream = {"stdin": command.given, "ignoring": ignoring}, full_pipe[
-            1
-        ] if stream is None else stream
-        ended = keywrap(command.args, stdout=stream, **options)
-        assert ended == (
-            NOTHING_TAKEN
-            if command.stdout
-            else Ended(command.status, "", command.stderr)
-        )
-        ended = keywrap(command.args, stderr=stream, text=False, **options)
+        _, full = full_pipe
+        streams = {
+            "nobody reads": UNREAD,
+            "full device": "/dev/full",
+            "full pipe": full,
+        }
+        options = {"stdin": command.given, "ignoring": ignoring}
+        ended = keywrap(command.args, stdout=streams[stream], **options)
+        if command.stdout:
+            assert ended == NOTHING_TAKEN
+        else:
+            assert ended == Ended(command.status, "", command.stderr)
+        ended = keywrap(command.args, stderr=streams[stream], text=False, **options)
         assert ended == (command.status, command.stdout, "")
 
     def test_pipe_with_some_room(self, keywrap, full_pipe):
@@ -183,20 +191,21 @@ class TestStreams:
 
     @SIGPIPE
     @each(["long drill", "vectors"])
-    def test_reader_that_goes_away(self, keywrap, command, ignoring):
+    @pytest.mark.parametrize("taken", [0, 1, 100, 4096, 8208])
+    def test_reader_that_goes_away(self, keywrap, command, ignoring, taken):
         """The run succeeds, or reports how many bytes were written: fewer than the whole."""
-        for taken in 0, 1, 100, 4096, 8208:
-            with keywrap.started(
-                command.args, **PIPES | {"stdin": None}, ignoring=ignoring
-            ) as run:
-                assert run.stdout.read(taken) == command.stdout[:taken]
-                run.stdout.close()
-                error = run.stderr.read().decode()
-            counts = re.findall(r"keywrap: output: refused after (\d+) bytes\n", error)
-            assert (run.returncode, error) == (
-                (6, f"keywrap: {FULL.format(counts[0])}\n") if counts else (0, "")
-            )
-            assert not counts or int(counts[0]) < len(command.stdout)
+        streams = {**PIPES, "stdin": None}
+        with keywrap.started(command.args, **streams, ignoring=ignoring) as run:
+            assert run.stdout.read(taken) == command.stdout[:taken]
+            run.stdout.close()
+            error = run.stderr.read().decode()
+        if run.returncode == 0:
+            assert error == ""
+            return
+        assert run.returncode == 6
+        report = r"keywrap: output: refused after (\d+) bytes\n"
+        written = int(re.fullmatch(report, error)[1])
+        assert written < len(command.stdout)
 
     @SIGPIPE
     def test_reader_that_goes_away_while_the_program_waits(
@@ -204,32 +213,18 @@ class TestStreams:
     ):
         reading, writing = full_pipe
         os.set_blocking(writing.fileno(), True)
-        with keywrap.started(
-            LONG.args, stdout=writing, stderr=subprocess.PIPE, ignoring=ignoring
-        ) as run:
+        streams = {"stdout": writing, "stderr": subprocess.PIPE}
+        with keywrap.started(LONG.args, **streams, ignoring=ignoring) as run:
             reading.read(4096)
             time.sleep(0.05)
             writing.close()
             reading.close()
-            assert run.stderr.read().decode() in [
-                f"keywrap: {FULL.format(taken)}\n" for taken in (0, 4096)
-            ]
+            error = run.stderr.read().decode()
+        refusals = [refused(6, FULL.format(taken)).stderr for taken in (0, 4096)]
+        assert error in refusals
         assert run.returncode == 6
 
-    @pytest.mark.parametrize(
-        "streams",
-        [
-            *[
-                dict.fromkeys(names, CLOSED)
-                for count in range(4)
-                for names in itertools.combinations(PIPES, count)
-            ],
-            {"stdout": "/dev/full"},
-            {"stdout": UNREAD},
-            {"stderr": "/dev/full"},
-        ],
-        ids="-".join,
-    )
+    @pytest.mark.parametrize("streams", STREAMS, ids="-".join)
     @each(
         [
             "wrap",
@@ -246,38 +241,48 @@ class TestStreams:
     def test_closed_streams(self, keywrap, command, streams):
         """A closed input is empty, and a closed or full standard error shows no line.
 
-        The file of --output is unchanged or has the answer, and no other file is beside it.
+        The file of --output is unchanged or has the answer, and no other file is next to it.
         """
-        status, answer, line = command[3:]
-        filed = command.name in FILED
+        is_filed = command.name in FILED
+        status = command.status
+        answer = command.stdout
+        line = command.stderr
         if "stdin" in streams and command.stdin:
-            status, answer, line = (
-                (5, b"none\n", "")
-                if command.args[0] == "check"
-                else (4, b"old\n" if filed else b"", f"keywrap: {BAD_LENGTH}\n")
-            )
-        if "stdout" in streams and answer and not filed:
-            status, answer, line = 6, b"", NOTHING_TAKEN.stderr
+            if command.args[0] == "check":
+                status = 5
+                answer = b"none\n"
+                line = ""
+            else:
+                status = 4
+                line = f"keywrap: {BAD_LENGTH}\n"
+                answer = b"old\n" if is_filed else b""
+        if "stdout" in streams and answer and not is_filed:
+            status = 6
+            answer = b""
+            line = NOTHING_TAKEN.stderr
+        if "stderr" in streams:
+            line = ""
+        written = answer
+        content = b"old\n"
+        if is_filed:
+            written = b""
+            content = answer
         ended = keywrap(command.args, text=False, **{"stdin": command.given, **streams})
-        assert ended == (
-            status,
-            b"" if filed else answer,
-            "" if "stderr" in streams else line,
-        )
-        assert held() == (answer if filed else b"old\n")
+        assert ended == (status, written, line)
+        assert held() == content
 
     # Closed standard streams are held by pipes, so that no file gets their descriptors.
     @pytest.mark.parametrize(
-        "count, closed, ended",
+        "count, streams, ended",
         [
-            (1, "stdin", refused(6, "input: cannot be opened")),
-            (2, "stdout", refused(6, "output: cannot be opened")),
-            (3, "stderr", Ended(6)),
-            (4, None, answered(WRAPPED16)),
+            (1, {"stdin": CLOSED}, refused(6, "input: cannot be opened")),
+            (2, {"stdout": CLOSED}, refused(6, "output: cannot be opened")),
+            (3, {"stderr": CLOSED}, Ended(6)),
+            (4, {}, answered(WRAPPED16)),
         ],
     )
-    def test_descriptors(self, keywrap, count, closed, ended):
+    @pytest.mark.parametrize("args", [WRAP, f"{WRAP} --verbose"])
+    def test_descriptors(self, keywrap, args, count, streams, ended):
         """Fewer than four are too few. No second line is written: the stream that failed is not a file of the run."""
-        for args in WRAP, f"{WRAP} --verbose":
-            streams = {"stdin": KEY16} | ({closed: CLOSED} if closed else {})
-            assert keywrap(args, **streams, limits={"NOFILE": count}) == ended
+        streams = {"stdin": KEY16, **streams}
+        assert keywrap(args, **streams, limits={"NOFILE": count}) == ended

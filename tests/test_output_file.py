@@ -18,8 +18,11 @@ from program import CLOSED, Ended, refused, sh, words
 from vectors import FULL
 
 INTO = "-o to/file"
-WRAP_FILE, UNWRAP_FILE = f"{WRAP} -i key.hex {INTO}", f"{UNWRAP} -i wrapped.hex {INTO}"
-WRAPPED, WRAPPED32, KEY = FILES["wrapped.hex"], FILES["wrapped32.hex"], FILES["key.hex"]
+WRAP_FILE = f"{WRAP} -i key.hex {INTO}"
+UNWRAP_FILE = f"{UNWRAP} -i wrapped.hex {INTO}"
+WRAPPED = FILES["wrapped.hex"]
+WRAPPED32 = FILES["wrapped32.hex"]
+KEY = FILES["key.hex"]
 EACH = pytest.mark.parametrize(
     "args, answer",
     [
@@ -30,7 +33,9 @@ EACH = pytest.mark.parametrize(
     ],
     ids=["wrap", "unwrap", "check", "rewrap"],
 )
-ME, NOBODY, OTHER_GROUP = (os.getuid(), os.getgid()), pwd.getpwnam("nobody")[2:4], 54321
+ME = (os.getuid(), os.getgid())
+NOBODY = pwd.getpwnam("nobody")[2:4]
+OTHER_GROUP = 54321
 ONLY_ROOT = pytest.mark.skipif(os.getuid() != 0, reason="only root can try owners")
 
 
@@ -54,7 +59,8 @@ class TestContent:
     )
     def test_each_job(self, keywrap, command):
         """A new file, an old one, the input file by three names, and closed streams. A hard link keeps the old file."""
-        args, answer = command.args, command.stdout
+        args = command.args
+        answer = command.stdout
         fresh()
         os.umask(0)
         lands(keywrap, [*args, "--output", "to/file"], answer, stdin=command.given)
@@ -95,11 +101,9 @@ class TestContent:
         ),
     )
     def test_refusal(self, keywrap, command):
-        """The file is unchanged, also if it is the input, and no other file is beside it."""
-        refusal, given = (
-            Ended(command.status, "", command.stderr),
-            command.stdin or "nothing",
-        )
+        """The file is unchanged, also if it is the input, and no other file is left."""
+        refusal = Ended(command.status, "", command.stderr)
+        given = command.stdin or "nothing"
         fresh()
         keeps(
             keywrap,
@@ -268,7 +272,8 @@ class TestContent:
     )
     def test_full_disk(self, keywrap, args):
         """First there is no room for the answer, then there is. Other tests check standard output."""
-        raw, args = random.Random(2048).randbytes(2048), f"{args} --kek kek16.hex"
+        raw = random.Random(2048).randbytes(2048)
+        args = f"{args} --kek kek16.hex"
         pathlib.Path("given").write_bytes(
             raw if "--raw" in args else raw.hex().encode()
         )
@@ -316,7 +321,7 @@ class TestContent:
 
 
 def replaces(program, args, owner, mode, answer=WRAPPED, **options):
-    """The answer replaces to/file, with this owner, group and mode. No other file is beside it."""
+    """The answer replaces to/file, with this owner, group and mode. No other file is left."""
     assert program(args, **options) == DONE
     found = os.stat("to/file")
     assert (found.st_uid, found.st_gid, oct(stat.S_IMODE(found.st_mode))) == (

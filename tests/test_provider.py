@@ -38,29 +38,10 @@ def environment():
 
 def programs(directory, *options):
     """Compiles the two programs."""
+    compiler = ["cc", *STRICT, "-O1", "-g", *options]
     sources = [path for path in sorted(OWN.glob("*.c")) if path.name != "direct.c"]
-    run(
-        "cc",
-        *STRICT,
-        "-O1",
-        "-g",
-        *options,
-        *sources,
-        "-lcrypto",
-        "-o",
-        directory / "compared",
-    )
-    run(
-        "cc",
-        *STRICT,
-        "-O1",
-        "-g",
-        *options,
-        OWN / "direct.c",
-        "-ldl",
-        "-o",
-        directory / "direct",
-    )
+    run(*compiler, *sources, "-lcrypto", "-o", directory / "compared")
+    run(*compiler, OWN / "direct.c", "-ldl", "-o", directory / "direct")
 
 
 @pytest.fixture(scope="session")
@@ -69,20 +50,11 @@ def compiled_programs(once):
 
 
 def module(directory, library, *options):
-    run(
-        "cc",
-        *STRICT,
-        "-O1",
-        "-g",
-        "-fPIC",
-        "-shared",
-        *options,
-        *sorted((ROOT / "c/provider").glob("*.c")),
-        library / "libkeywrap.a",
-        f"-Wl,--version-script,{ROOT}/c/provider/provider.map",
-        "-o",
-        directory / "keywrap.so",
-    )
+    compiler = ["cc", *STRICT, "-O1", "-g", "-fPIC", "-shared", *options]
+    sources = sorted((ROOT / "c/provider").glob("*.c"))
+    exports = f"-Wl,--version-script,{ROOT}/c/provider/provider.map"
+    inputs = [*sources, library / "libkeywrap.a", exports]
+    run(*compiler, *inputs, "-o", directory / "keywrap.so")
 
 
 @pytest.fixture(scope="session")
@@ -95,9 +67,9 @@ def sanitized(once, library):
 
 
 @pytest.fixture
-def modules(thing):
+def modules(handed_out):
     """The directory with the module, as it is installed."""
-    return thing("provider") / "modules"
+    return handed_out("provider") / "modules"
 
 
 @pytest.fixture(scope="session")
@@ -118,13 +90,8 @@ def over_portable_c(once):
 @pytest.mark.parametrize("compiler", ["gcc", "clang"])
 def test_no_warning(compiler):
     need(compiler)
-    run(
-        compiler,
-        *STRICT,
-        "-O2",
-        "-fsyntax-only",
-        *sorted((ROOT / "c/provider").glob("*.c")),
-    )
+    sources = sorted((ROOT / "c/provider").glob("*.c"))
+    run(compiler, *STRICT, "-O2", "-fsyntax-only", *sources)
 
 
 class TestCompared:
@@ -260,10 +227,8 @@ class TestOpenssl:
         """The lines that build it without the kit end with it in the list."""
         (line,) = re.findall(r"^    (openssl list .*)", PAGE, re.M)
         said = run("bash", "-ec", line, cwd=over_portable_c)
-        assert (
-            "keywrap: AES Key Wrap, proved" in said
-            and f"version: {NAMES['VERSION']}" in said
-        )
+        assert "keywrap: AES Key Wrap, proved" in said
+        assert f"version: {NAMES['VERSION']}" in said
 
     def test_descriptions(self, modules):
         """OpenSSL lists six ciphers, with these descriptions."""
@@ -279,7 +244,8 @@ class TestOpenssl:
         ]
 
     def test_enc(self, ours):
-        plain, padded = ["-id-aes256-wrap", "-iv", "a6" * 8], [
+        plain = ["-id-aes256-wrap", "-iv", "a6" * 8]
+        padded = [
             "-id-aes256-wrap-pad",
             "-iv",
             "a65959a6",
@@ -299,19 +265,11 @@ class TestOpenssl:
             assert len(ended.stdout) == 24
 
     def test_reason_of_a_refusal(self, ours):
-        refuses(
-            "integrity check failed",
-            "openssl",
-            "enc",
-            "-d",
-            "-id-aes256-wrap",
-            "-iv",
-            "a6" * 8,
-            "-K",
-            KEK32,
-            input=raw(WRAPPED32[:-1] + "8"),
-            env=ours,
-        )
+        default_iv = "a6" * 8
+        unwrap = ["openssl", "enc", "-d", "-id-aes256-wrap", "-iv", default_iv]
+        damaged = raw(WRAPPED32[:-1] + "8")
+        message = "integrity check failed"
+        refuses(message, *unwrap, "-K", KEK32, input=damaged, env=ours)
 
     @pytest.mark.needs("qemu-x86_64")
     def test_processor_without_sse41(self, ours, modules):
@@ -411,7 +369,8 @@ def test_script(ours, command):
     program, script = command.split()
     need(program)
     said = run(program, OWN / script, "a6" * 8, env=ours)
-    assert WRAPPED32 in said and KEY16 in said
+    assert WRAPPED32 in said
+    assert KEY16 in said
     refuses(RESERVED, program, OWN / script, "a65959a600000010", env=ours)
     assert KEY16 in run(program, OWN / script, "a65959a600000010")
 

@@ -1,4 +1,4 @@
-"""Published cases, of NIST, Wycheproof and ACVP, over the program. Other tests run them, beside the rows of rows.txt,
+"""Published cases, of NIST, Wycheproof and ACVP, over the program. Other tests run them, with the rows of rows.txt,
 over each face of the library: see test_rows.py."""
 
 import pathlib
@@ -37,16 +37,14 @@ class TestProgram:
 
     def test_nist(self, keywrap, call):
         """A fifth of NIST's cases, in base64."""
-        cases = [case for case in published.nist_or_skip() if case.call is CALLS[call]][
-            ::5
-        ]
+        all_cases = published.nist_or_skip()
+        cases = [case for case in all_cases if case.call is CALLS[call]][::5]
         assert len(cases) > 500
         for case in cases:
-            due = (
-                REFUSALS[published.refusal(case)]
-                if case.answer is None
-                else Ended(0, in_base64(case.answer.hex()) + "\n")
-            )
-            assert (
-                over_program(keywrap, case, "--base64 --base64-kek", in_base64) == due
-            ), case
+            if case.answer is None:
+                due = REFUSALS[published.refusal(case)]
+            else:
+                answer = in_base64(case.answer.hex())
+                due = Ended(0, f"{answer}\n")
+            ended = over_program(keywrap, case, "--base64 --base64-kek", in_base64)
+            assert ended == due, case

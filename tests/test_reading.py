@@ -7,6 +7,7 @@ import pathlib
 import signal
 import socket
 import subprocess
+from typing import NamedTuple, Optional
 
 import pytest
 
@@ -44,20 +45,15 @@ from vectors import (
     zeros,
 )
 
-WRAPPED, REWRAPPED, NONE, BAD = (
-    answered(WRAPPED16),
-    answered(WRAPPED32),
-    Ended(5, "none\n"),
-    refused(4, BAD_LENGTH),
-)
-NO_KEK, NOT_HEX = refused(6, "key file: cannot be opened"), refused(
-    6, "input: no hex digit at byte 1"
-)
-BAD_KEK, BAD_NEW_KEK, NOT_RIGHT = (
-    refused(3, KEK_LENGTH),
-    refused(3, NEW_KEK_LENGTH),
-    refused(5, INTEGRITY),
-)
+WRAPPED = answered(WRAPPED16)
+REWRAPPED = answered(WRAPPED32)
+NONE = Ended(5, "none\n")
+BAD = refused(4, BAD_LENGTH)
+NO_KEK = refused(6, "key file: cannot be opened")
+NOT_HEX = refused(6, "input: no hex digit at byte 1")
+BAD_KEK = refused(3, KEK_LENGTH)
+BAD_NEW_KEK = refused(3, NEW_KEK_LENGTH)
+NOT_RIGHT = refused(5, INTEGRITY)
 # Each command with a good input, its result, and the result of an empty input.
 RESULTS = {
     "wrap": (WRAP, KEY16, WRAPPED, BAD),
@@ -67,48 +63,62 @@ RESULTS = {
 }
 # Command lines that end before the name of a file that is read, the name that messages give it, and a good content.
 KEKS = [
-    *[
-        (f"{job} --kek", "key file", KEK16)
-        for job in ("wrap", "unwrap", "check", "rewrap --new-kek kek32.hex")
-    ],
+    ("wrap --kek", "key file", KEK16),
+    ("unwrap --kek", "key file", KEK16),
+    ("check --kek", "key file", KEK16),
+    ("rewrap --new-kek kek32.hex --kek", "key file", KEK16),
     ("rewrap --kek kek16.hex --new-kek", "new key file", KEK32),
 ]
 INPUTS = [(f"{args} -i", "input", given) for args, given, *_ in RESULTS.values()]
 EACH_FILE = pytest.mark.parametrize("args, file, content", KEKS + INPUTS)
 
 
-def whatever_can_be_read(content, run):
-    """Makes runs with the name of a file with this content: pipes, an open file, and a named pipe."""
+def ends_of_each_kind_of_file(content, run):
+    """How runs end with the name of a file with this content: two pipes, an open file, and a named pipe."""
     pathlib.Path("content").write_bytes(content)
+    ends = set()
     for size in len(content), 5:
         with piped(content, size) as pipe:
-            yield run(pipe)
+            ends.add(run(pipe))
     with open("content", "rb") as file, shared(file.fileno()) as name:
-        yield run(name)
+        ends.add(run(name))
     os.mkfifo("named")
     with subprocess.Popen(["timeout", "240", "sh", "-c", "cat content >named"]):
-        yield run("named")
+        ends.add(run("named"))
+    return ends
 
 
 @pytest.mark.parametrize("job", JOBS)
 class TestEachJob:
     def test_kek(self, keywrap, job):
-        """It may be any file that can be read. A KEK on standard input takes all of it, and no input is left."""
+        """It may be any file that can be read."""
+        kek = pathlib.Path(self.kek_of(job)).read_bytes()
+
+        def run(name):
+            args = self.with_kek(job, name)
+            return keywrap(args, stdin=job.given, text=False)
+
+        assert ends_of_each_kind_of_file(kek, run) == {job[3:]}
+
+    def test_kek_on_standard_input(self, keywrap, job):
+        """It takes all of standard input, and no input is left."""
+        kek = pathlib.Path(self.kek_of(job)).read_bytes()
+        args = self.with_kek(job, "/dev/stdin")
+        ended = keywrap(args, stdin=kek)
+        if job.args[0] == "check":
+            assert ended == NONE
+        else:
+            assert ended == BAD
+
+    @staticmethod
+    def kek_of(job):
+        return job.args[job.args.index("--kek") + 1]
+
+    @staticmethod
+    def with_kek(job, name):
+        """The arguments, with another name of the KEK."""
         at = job.args.index("--kek") + 1
-        kek = pathlib.Path(job.args[at]).read_bytes()
-
-        def run(name, stdin=job.given):
-            return keywrap(
-                [*job.args[:at], name, *job.args[at + 1 :]], stdin=stdin, text=False
-            )
-
-        assert set(whatever_can_be_read(kek, run)) == {job[3:]}
-        nothing = (
-            (5, b"none\n", "")
-            if job.args[0] == "check"
-            else (4, b"", f"keywrap: {BAD_LENGTH}\n")
-        )
-        assert run("/dev/stdin", kek) == nothing
+        return [*job.args[:at], name, *job.args[at + 1 :]]
 
     def test_input(self, keywrap, job):
         """With --input, standard input is not read."""
@@ -116,14 +126,15 @@ class TestEachJob:
         def run(name, stdin=WRONG):
             return keywrap(job.args, "--input", name, stdin=stdin, text=False)
 
-        assert set(whatever_can_be_read(job.given, run)) == {job[3:]}
+        assert ends_of_each_kind_of_file(job.given, run) == {job[3:]}
         assert run(job.stdin, CLOSED) == job[3:]
 
-    def test_standard_input(self, keywrap, job):
-        """It comes in pieces, or while the program is stopped."""
-        for size in 1, 7:
-            with piped(job.given, size) as given:
-                assert keywrap(job.args, stdin=given, text=False) == job[3:]
+    @pytest.mark.parametrize("size", [1, 7])
+    def test_standard_input_in_pieces(self, keywrap, job, size):
+        with piped(job.given, size) as given:
+            assert keywrap(job.args, stdin=given, text=False) == job[3:]
+
+    def test_standard_input_while_stopped(self, keywrap, job):
         with keywrap.started(job.args, **PIPES) as run:
             run.send_signal(signal.SIGSTOP)
             run.stdin.write(job.given)
@@ -132,41 +143,44 @@ class TestEachJob:
 
     def test_read_error(self, keywrap, job):
         """A directory, a file that is only open for writing, and a pipe that fails after some bytes."""
-        with open("full", "wb") as written, failing_after(b"") as pipe, failing_after(
-            job.given[:5]
-        ) as later:
-            for given in pathlib.Path("directory"), written, pipe, later:
-                assert keywrap(job.args, stdin=given) == refused(
-                    6, "input: cannot be read"
-                )
+        some_bytes = job.given[:5]
+        with (
+            open("full", "wb") as only_for_writing,
+            failing_after(b"") as fails,
+            failing_after(some_bytes) as fails_later,
+        ):
+            unreadable = [
+                pathlib.Path("directory"),
+                only_for_writing,
+                fails,
+                fails_later,
+            ]
+            for given in unreadable:
+                ended = keywrap(job.args, stdin=given)
+                assert ended == refused(6, "input: cannot be read")
+
+
+SPACED_KEY = "0011 2233 4455 6677\n8899 AABB CCDD EEFF\n"
+SPACED_KEK = b"00 01 02 03\t04 05 06 07\r\n\n08090A0b0c0D0e0F\r\n"
 
 
 class TestFiles:
     @pytest.mark.parametrize(
         "args, stdin, ended",
         [
-            # Links, and names with blanks, dashes and letters that are not ASCII; blanks and either case in a file.
-            *[
-                ([*words(WRAP), *name], WRONG, WRAPPED)
-                for name in (
-                    ["-i", "a key"],
-                    ["-i", "./-x"],
-                    ["-i", "link"],
-                    ["-i", "é"],
-                    ["--input=-x"],
-                    ["-ikey.hex"],
-                )
-            ],
+            # Links, and names with blanks, dashes and letters that are not ASCII.
+            ([*words(WRAP), "-i", "a key"], WRONG, WRAPPED),
+            (f"{WRAP} -i ./-x", WRONG, WRAPPED),
+            (f"{WRAP} -i link", WRONG, WRAPPED),
+            (f"{WRAP} -i é", WRONG, WRAPPED),
+            (f"{WRAP} --input=-x", WRONG, WRAPPED),
+            (f"{WRAP} -ikey.hex", WRONG, WRAPPED),
             # The names of standard output.
-            *[
-                (f"{WRAP} -i key.hex {name}", WRONG, WRAPPED)
-                for name in ("-o -", "--output -", "-o-")
-            ],
-            (
-                ["wrap", "--kek", "kek link"],
-                "0011 2233 4455 6677\n8899 AABB CCDD EEFF\n",
-                WRAPPED,
-            ),
+            (f"{WRAP} -i key.hex -o -", WRONG, WRAPPED),
+            (f"{WRAP} -i key.hex --output -", WRONG, WRAPPED),
+            (f"{WRAP} -i key.hex -o-", WRONG, WRAPPED),
+            # Blanks and either case in a file.
+            (["wrap", "--kek", "kek link"], SPACED_KEY, WRAPPED),
             (f"{UNWRAP} -i ./-", None, NOT_RIGHT),
             ("wrap --kek ./-", KEY16, REWRAPPED),
             # --raw-kek is for both KEKs.
@@ -187,9 +201,7 @@ class TestFiles:
         sh("cp key.hex 'a key'; cp key.hex ./-x; cp key.hex é; ln -s key.hex link")
         sh("cp kek32.hex ./-; ln -s spaced 'kek link'")
         pathlib.Path("kek32.raw").write_bytes(raw(KEK32))
-        pathlib.Path("spaced").write_bytes(
-            b"00 01 02 03\t04 05 06 07\r\n\n08090A0b0c0D0e0F\r\n"
-        )
+        pathlib.Path("spaced").write_bytes(SPACED_KEK)
         assert keywrap(args, stdin=stdin) == ended
 
     @pytest.mark.parametrize(
@@ -219,7 +231,7 @@ class TestFiles:
         ],
     )
     def test_socket(self, keywrap, given, args):
-        """A socket cannot be opened by a name. As standard input it is read all the same, under any of its names."""
+        """A socket cannot be opened by a name. As standard input it is still read, under any of its names."""
         for name in "/dev/stdin", "/dev/fd/0", "/proc/self/fd/0":
             end, other = socket.socketpair()
             with end, other:
@@ -228,85 +240,106 @@ class TestFiles:
                 assert keywrap(f"{args} {name}", stdin=end.fileno()) == WRAPPED
 
     @EACH_FILE
-    def test_refused_file(self, keywrap, args, file, content):
+    @pytest.mark.parametrize(
+        "message, names",
+        [
+            (
+                "cannot be opened",
+                ["", "./-", "missing", "loop", "link/", "key.hex/", "key.hex/key"],
+            ),
+            ("cannot be opened", ["missing/key", "/dev/fd/77", "a\nb", zeros(2500)]),
+            ("cannot be read", ["directory", "/proc/self/mem"]),
+            ("too long", ["long.hex"]),
+            ("no hex digit at byte 1", ["digit.hex"]),
+            ("no hex digit at byte 22", ["spaced"]),
+            ("odd number of hex digits", ["odd.hex", "odd"]),
+        ],
+    )
+    def test_refused_file(self, keywrap, args, file, content, message, names):
         """The KEK files are read before the input, so the next command gets the whole input."""
         sh("ln -s loop loop; ln -s key.hex link")
         pathlib.Path("spaced").write_text("0001020304050607 0809ag")
         pathlib.Path("odd").write_text("000102 03040506070809 0a0b0c0d0e0f0")
-        for message, names in {
-            "cannot be opened": [
-                "",
-                "./-",
-                "missing",
-                "loop",
-                "link/",
-                "key.hex/",
-                "key.hex/key",
-                "missing/key",
-                "/dev/fd/77",
-                "a\nb",
-                zeros(2500),
-            ],
-            "cannot be read": ["directory", "/proc/self/mem"],
-            "too long": ["long.hex"],
-            "no hex digit at byte 1": ["digit.hex"],
-            "no hex digit at byte 22": ["spaced"],
-            "odd number of hex digits": ["odd.hex", "odd"],
-        }.items():
-            for name in names:
-                leaves_input(
-                    keywrap, [*words(args), name], refused(6, f"{file}: {message}")
-                )
+        refusal = refused(6, f"{file}: {message}")
+        for name in names:
+            leaves_input(keywrap, [*words(args), name], refusal)
 
     @pytest.mark.parametrize("args, file, content", KEKS)
     def test_kek_length(self, keywrap, args, file, content):
+        pathlib.Path("most").write_bytes(zeros(MAX_FILE // 2).encode())
+        refusal = BAD_KEK if file == "key file" else BAD_NEW_KEK
+        for name in "kek15.hex", "nothing", "/dev/null", "most":
+            leaves_input(keywrap, f"{args} {name}", refusal)
+
+    @pytest.mark.parametrize("args, file, content", KEKS)
+    def test_raw_kek_length(self, keywrap, args, file, content):
         pathlib.Path("kek17.raw").write_bytes(bytes(17))
         pathlib.Path("most").write_bytes(zeros(MAX_FILE // 2).encode())
-        (
-            bad_length,
-            raw_args,
-        ) = BAD_KEK if file == "key file" else BAD_NEW_KEK, args.replace(
-            "kek16.hex", "kek16.raw"
-        )
-        for name in "kek15.hex", "nothing", "/dev/null", "most":
-            leaves_input(keywrap, f"{args} {name}", bad_length)
+        # The other KEK of a rewrap is raw, too.
+        args = args.replace("kek16.hex", "kek16.raw")
+        refusal = BAD_KEK if file == "key file" else BAD_NEW_KEK
         for name in "kek17.raw", "kek16.hex", "nothing", "most":
-            leaves_input(keywrap, f"{raw_args} {name} --raw-kek", bad_length)
+            leaves_input(keywrap, f"{args} {name} --raw-kek", refusal)
 
     @EACH_FILE
     def test_longest_file(self, keywrap, args, file, content):
-        """A file of 4,194,304 bytes is accepted. A file with one byte more, or an endless one, is not."""
-        (_, given, ended, _), too_long = RESULTS[words(args)[0]], refused(
-            6, f"{file}: too long"
-        )
-        for size, wanted in (MAX_FILE, ended), (MAX_FILE + 1, too_long):
-            pathlib.Path("file").write_text(content.ljust(size))
-            assert keywrap(f"{args} file", stdin=given) == wanted
-        with subprocess.Popen(["yes", "00"], stdout=subprocess.PIPE) as yes, shared(
-            yes.stdout.fileno()
-        ) as endless:
-            assert keywrap(f"{args} {endless}") == too_long
-        flag, kek = (
-            ("--raw", "kek16.hex") if file == "input" else ("--raw-kek", "kek16.raw")
-        )
-        assert keywrap(f"{args} /dev/zero {flag}".replace("kek16.hex", kek)) == too_long
+        """A file of 4,194,304 bytes is accepted. A file with one byte more is not."""
+        _, given, ended, _ = RESULTS[words(args)[0]]
+        pathlib.Path("file").write_text(content.ljust(MAX_FILE))
+        assert keywrap(f"{args} file", stdin=given) == ended
+        pathlib.Path("file").write_text(content.ljust(MAX_FILE + 1))
+        too_long = refused(6, f"{file}: too long")
+        assert keywrap(f"{args} file", stdin=given) == too_long
+
+    @EACH_FILE
+    def test_endless_file(self, keywrap, args, file, content):
+        too_long = refused(6, f"{file}: too long")
+        with subprocess.Popen(["yes", "00"], stdout=subprocess.PIPE) as yes:
+            with shared(yes.stdout.fileno()) as endless:
+                assert keywrap(f"{args} {endless}") == too_long
+        if file == "input":
+            raw_args = f"{args} /dev/zero --raw"
+        else:
+            raw_args = f"{args} /dev/zero --raw-kek".replace("kek16.hex", "kek16.raw")
+        assert keywrap(raw_args) == too_long
+
+    @pytest.mark.parametrize(
+        "args, given, ended, empty, stdin, flag",
+        [
+            pytest.param(*result, stdin, flag, id=f"{command}-{name}")
+            for command, result in RESULTS.items()
+            for name, stdin, flag in [
+                ("nothing", "", ""),
+                ("most digits", zeros(MAX_FILE // 2), ""),
+                ("most raw bytes", bytes(MAX_FILE), "--raw"),
+            ]
+        ],
+    )
+    def test_length_of_standard_input(
+        self, keywrap, args, given, ended, empty, stdin, flag
+    ):
+        """Input of an illegal length ends as an empty one. The longest input has 4,194,304 bytes."""
+        self.reads(keywrap, f"{args} {flag}", stdin, empty)
 
     @pytest.mark.parametrize("args, given, ended, empty", RESULTS.values(), ids=RESULTS)
-    def test_standard_input(self, keywrap, args, given, ended, empty):
-        """A pipe with the same bytes is the same. The longest input has 4,194,304 bytes."""
-        for stdin, flag, wanted in [
-            (given.ljust(MAX_FILE), "", ended),
-            ("", "", empty),
-            (zeros(MAX_FILE // 2), "", empty),
-            (bytes(MAX_FILE), "--raw", empty),
-            ("0g", "", NOT_HEX),
-            ("00 1", "", refused(6, "input: odd number of hex digits")),
-            (given.ljust(MAX_FILE + 1), "", refused(6, "input: too long")),
-            (bytes(MAX_FILE + 1), "--raw", refused(6, "input: too long")),
-        ]:
-            assert keywrap(f"{args} {flag}", stdin=stdin) == wanted
-            with piped(stdin) as pipe:
-                assert keywrap(f"{args} {flag} -i {pipe}") == wanted
+    def test_standard_input_with_blanks(self, keywrap, args, given, ended, empty):
+        self.reads(keywrap, args, given.ljust(MAX_FILE), ended)
+        too_long = refused(6, "input: too long")
+        self.reads(keywrap, args, given.ljust(MAX_FILE + 1), too_long)
+
+    @pytest.mark.parametrize("args, given, ended, empty", RESULTS.values(), ids=RESULTS)
+    def test_refused_standard_input(self, keywrap, args, given, ended, empty):
+        too_long = refused(6, "input: too long")
+        self.reads(keywrap, f"{args} --raw", bytes(MAX_FILE + 1), too_long)
+        self.reads(keywrap, args, "0g", NOT_HEX)
+        self.reads(keywrap, args, "00 1", refused(6, "input: odd number of hex digits"))
+
+    @staticmethod
+    def reads(keywrap, args, content, ended):
+        """The command ends like this if standard input has the content, and if a named pipe has it."""
+        assert keywrap(args, stdin=content) == ended
+        with piped(content) as pipe:
+            assert keywrap(f"{args} -i {pipe}") == ended
 
     @pytest.mark.parametrize("args, given, ended, empty", RESULTS.values(), ids=RESULTS)
     def test_standard_input_is_read_from_where_it_is(
@@ -335,87 +368,105 @@ class TestFiles:
             assert keywrap(args, stdin=zeros(size)) == BAD, size
             assert keywrap(f"{args} --raw", stdin=bytes(size)) == BAD, size
 
-    def test_pipes(self, keywrap):
-        """Three at once. One pipe has only one KEK, and leaves none for the new KEK."""
-        with piped(KEK16, 5) as old, piped(KEK32, 5) as new, piped(
-            WRAPPED16, 5
-        ) as given:
-            assert (
-                keywrap(f"rewrap --kek {old} --new-kek {new} -i {given}", stdin=WRONG)
-                == REWRAPPED
-            )
-        for content, args, ended in [
+    def test_three_pipes(self, keywrap):
+        with (
+            piped(KEK16, 5) as old,
+            piped(KEK32, 5) as new,
+            piped(WRAPPED16, 5) as given,
+        ):
+            args = f"rewrap --kek {old} --new-kek {new} -i {given}"
+            assert keywrap(args, stdin=WRONG) == REWRAPPED
+
+    @pytest.mark.parametrize(
+        "content, args, ended",
+        [
             ("", "wrap --kek {}", BAD_KEK),
             (KEK16[:10], "wrap --kek {}", BAD_KEK),
             (KEK16, "wrap --kek {}", BAD),
             (KEK16, "rewrap --kek {0} --new-kek {0}", BAD_NEW_KEK),
-        ]:
-            with piped(content) as pipe:
-                assert keywrap(args.format(pipe), stdin=CLOSED) == ended
+        ],
+    )
+    def test_kek_of_a_pipe(self, keywrap, content, args, ended):
+        """One pipe has only one KEK, and leaves none for the new KEK."""
+        with piped(content) as pipe:
+            assert keywrap(args.format(pipe), stdin=CLOSED) == ended
 
-    def test_nothing_is_read_after_a_refusal(self, keywrap):
-        """The new KEK comes after the old one, and standard input after the output."""
-        for old, ended in {
-            "missing": NO_KEK,
-            "directory": refused(6, "key file: cannot be read"),
-            "kek15.hex": BAD_KEK,
-            "digit.hex": refused(6, "key file: no hex digit at byte 1"),
-        }.items():
-            with piped(KEK32) as pipe:
-                assert keywrap(f"rewrap --kek {old} --new-kek {pipe}") == ended
-                assert pipe.read_text() == KEK32
-        for args in f"{WRAP} -o directory", f"{REWRAP} -o missing/file":
-            leaves_input(keywrap, args, refused(6, NOT_OPENED))
+    @pytest.mark.parametrize(
+        "old, refusal",
+        [
+            ("missing", NO_KEK),
+            ("directory", refused(6, "key file: cannot be read")),
+            ("kek15.hex", BAD_KEK),
+            ("digit.hex", refused(6, "key file: no hex digit at byte 1")),
+        ],
+    )
+    def test_new_kek_is_not_read_after_a_refusal(self, keywrap, old, refusal):
+        with piped(KEK32) as pipe:
+            assert keywrap(f"rewrap --kek {old} --new-kek {pipe}") == refusal
+            assert pipe.read_text() == KEK32
+
+    @pytest.mark.parametrize(
+        "args", [f"{WRAP} -o directory", f"{REWRAP} -o missing/file"]
+    )
+    def test_input_is_not_read_without_an_output(self, keywrap, args):
+        leaves_input(keywrap, args, refused(6, NOT_OPENED))
 
     def test_both_keks_are_opened_before_either_is_read(self, keywrap):
         """The writer of the old KEK waits until the new KEK is read."""
         sh("mkfifo kek new")
         writer = "exec 7>kek 6>new; cat kek32.hex >&6; exec 6>&-; cat kek16.hex >&7"
+        args = "rewrap --kek kek --new-kek new"
         with subprocess.Popen(["sh", "-c", writer]):
-            assert (
-                keywrap("rewrap --kek kek --new-kek new", stdin=WRAPPED16) == REWRAPPED
-            )
+            assert keywrap(args, stdin=WRAPPED16) == REWRAPPED
 
 
-# The order of refusals. A cause is its place in the order, what brings it about, and its refusal. 99: nothing is wrong.
+# The order of refusals.
+class Cause(NamedTuple):
+    """The cause of a refusal. A cause with a lower place comes before the others. None: nothing is wrong."""
+
+    place: int
+    given: Optional[str]
+    refusal: Optional[Ended]
+
+
+NOTHING_WRONG = 99
+
+
+def first_refusal(causes):
+    """The refusal that comes first, or None."""
+    return min(causes, key=lambda cause: cause.place).refusal
+
+
+OLD_KEKS = [
+    Cause(NOTHING_WRONG, "kek16.hex", None),
+    Cause(1, "missing", NO_KEK),
+    Cause(5, "digit.hex", refused(6, "key file: no hex digit at byte 1")),
+    Cause(6, "kek15.hex", BAD_KEK),
+]
 NEW_KEKS = [
-    (99, "kek32.hex", None),
-    (2, "missing", refused(6, "new key file: cannot be opened")),
-    (7, "digit.hex", refused(6, "new key file: no hex digit at byte 1")),
-    (8, "kek15.hex", BAD_NEW_KEK),
+    Cause(NOTHING_WRONG, "kek32.hex", None),
+    Cause(2, "missing", refused(6, "new key file: cannot be opened")),
+    Cause(7, "digit.hex", refused(6, "new key file: no hex digit at byte 1")),
+    Cause(8, "kek15.hex", BAD_NEW_KEK),
 ]
 # The wrapped key has the padded form, and the new one the plain form.
 GIVEN = [
-    (99, PADDED16, None),
-    (9, "0g", NOT_HEX),
-    (10, PADDED16[:-2], BAD),
-    (11, PADDED16[:-2] + "d4", NOT_RIGHT),
-    (12, PADDED7, BAD),
+    Cause(NOTHING_WRONG, PADDED16, None),
+    Cause(9, "0g", NOT_HEX),
+    Cause(10, PADDED16[:-2], BAD),
+    Cause(11, PADDED16[:-2] + "d4", NOT_RIGHT),
+    Cause(12, PADDED7, BAD),
 ]
-OUTPUTS = [(99, None, None), (13, "/dev/full", refused(6, FULL.format(0)))]
+OUTPUTS = [
+    Cause(NOTHING_WRONG, None, None),
+    Cause(13, "/dev/full", refused(6, FULL.format(0))),
+]
 
 
-def combined(*causes):
-    """What brings the causes about, and the refusal that comes first, or None; of each combination."""
-    for each in itertools.product(*causes):
-        yield [cause[1] for cause in each], min(each, key=lambda cause: cause[0])[2]
-
-
-@pytest.mark.parametrize(
-    "kek",
-    [
-        (99, "kek16.hex", None),
-        (1, "missing", NO_KEK),
-        (5, "digit.hex", refused(6, "key file: no hex digit at byte 1")),
-        (6, "kek15.hex", BAD_KEK),
-    ],
-    ids=lambda kek: kek[1],
-)
+@pytest.mark.parametrize("kek", OLD_KEKS, ids=lambda cause: cause.given)
 def test_order(keywrap, kek):
-    for (old, new, given, output), refusal in combined([kek], NEW_KEKS, GIVEN, OUTPUTS):
-        ended = keywrap(
-            f"rewrap --padded --kek {old} --new-kek {new}",
-            stdin=given + "\n",
-            stdout=output,
-        )
-        assert ended == (refusal or REWRAPPED), (new, given, output)
+    for causes in itertools.product([kek], NEW_KEKS, GIVEN, OUTPUTS):
+        old, new, given, output = [cause.given for cause in causes]
+        args = f"rewrap --padded --kek {old} --new-kek {new}"
+        ended = keywrap(args, stdin=f"{given}\n", stdout=output)
+        assert ended == (first_refusal(causes) or REWRAPPED), causes

@@ -23,7 +23,9 @@ TOOLS = "openssl", "xxd", "jq"
 
 def typed_and_shown(section):
     """The typed lines and the shown output of a section, without indentation."""
-    typed, shown, indent = "", "", 4
+    typed = ""
+    shown = ""
+    indent = 4
     for line in section.splitlines(keepends=True):
         if prompt := re.match(r"    (?: {1,3})?[$>] ", line):
             indent = len(prompt[0]) - 2

@@ -21,16 +21,17 @@ HERE = pathlib.Path(__file__).resolve().parent
     ),
 )
 def test_rows(name, program_path, record_property):
-    env = {
-        key: value for key, value in os.environ.items() if not key.startswith("PYTEST_")
-    }
+    env = {"KEYWRAP": str(program_path)}
+    for key, value in os.environ.items():
+        if not key.startswith("PYTEST_"):
+            env.setdefault(key, value)
     ended = subprocess.run(
         ["bash", HERE / f"{name}.sh"],
         stdin=subprocess.DEVNULL,
         stdout=subprocess.PIPE,
         text=True,
         stderr=subprocess.STDOUT,
-        env={**env, "KEYWRAP": str(program_path)},
+        env=env,
     )
     passed, failed, reasons = counting.of_script(ended.stdout, ended.returncode)
     record_property("passed", passed)
@@ -58,9 +59,8 @@ def test_evidence():
         return ended.returncode, ended.stdout.splitlines()
 
     pathlib.Path("tried").write_text("one\n")
-    assert evidence()[0] == 1 and pathlib.Path(
-        "docs/evidence/1.9.0/good"
-    ).read_text().endswith("\nfine\n")
+    assert evidence()[0] == 1
+    assert pathlib.Path("docs/evidence/1.9.0/good").read_text().endswith("\nfine\n")
     assert evidence("--stale") == (0, ["bad"])
     pathlib.Path("tried").write_text("two\n")
     assert evidence("--stale") == (0, ["bad", "good"])

@@ -1,4 +1,4 @@
-"""Fixtures of what is built and packed. Each is made once, for all processes of pytest-xdist."""
+"""Fixtures: builds and packages. Each is made once, for all processes of pytest-xdist."""
 
 import fcntl
 import functools
@@ -53,7 +53,8 @@ def once(tmp_path_factory):
     base = base.parent if "PYTEST_XDIST_WORKER" in os.environ else base
 
     def make(name, build):
-        directory, made = base / name, base / f"{name}.made"
+        directory = base / name
+        made = base / f"{name}.made"
         with open(f"{directory}.lock", "w") as lock:
             fcntl.flock(lock, fcntl.LOCK_EX)
             if not made.exists():
@@ -204,7 +205,8 @@ def python():
 @pytest.fixture(scope="session")
 def words(library, built):
     """The variables with which make installs and packs what is built."""
-    return [f"LIBRARY={library}", f"ARCHIVE={built('llvm.a')}", MACHINE]
+    archives = [f"ARCHIVE={built('llvm.a')}", f"HW_ARCHIVE={built('hw.a')}"]
+    return [f"LIBRARY={library}", *archives, MACHINE]
 
 
 @pytest.fixture(scope="session")
@@ -276,7 +278,7 @@ def rotate_wheel(once, python):
 
 @pytest.fixture(scope="session")
 def debs(once, built, program_path):
-    """Debian's packages, built in tree/ over the program and the archive, and log."""
+    """Debian's packages, built in tree/ over the program and the archives, and log."""
     need(
         "dpkg-buildpackage",
         "dh",
@@ -299,7 +301,7 @@ def debs(once, built, program_path):
             "-us",
             "-uc",
             cwd=tree,
-            env={**os.environ, "PATH": path},
+            env={**os.environ, "PATH": path, "HW_ARCHIVE": str(built("hw.a"))},
         )
         (directory / "log").write_text(log)
 
@@ -329,9 +331,9 @@ def unpacked(archive, directory):
 
 
 @pytest.fixture
-def thing(request, once, program_path):
-    """thing("wheel") is the directory with all of its files, as a user has it. Each test has its own request: pytest
-    fails if a request asks twice for a fixture that was skipped."""
+def handed_out(request, once, program_path):
+    """handed_out("wheel") is the directory with all files of the wheel, as a user has it. Each test has a request of
+    its own: pytest fails if a request asks twice for a fixture that was skipped."""
 
     def installed(goal, *more):
         def build(directory):
@@ -353,7 +355,7 @@ def thing(request, once, program_path):
         return build
 
     def hardware(directory):
-        """Only what is there beside the library's files."""
+        """Only the files that are not the library's."""
         words = [f"LIBRARY={directory}/build", *request.getfixturevalue("words")[1:]]
         for goal, words in [
             ("one", [*words, "HARDWARE=1"]),
@@ -444,6 +446,8 @@ def thing(request, once, program_path):
     def find(name):
         if name == "dist":
             return request.getfixturevalue("dist")
-        return once(f"thing-{name}".replace(" ", "-"), makers.get(name) or deb(name))
+        return once(
+            f"handed-out-{name}".replace(" ", "-"), makers.get(name) or deb(name)
+        )
 
     return find

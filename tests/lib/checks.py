@@ -8,9 +8,11 @@ from program import Ended, refused, words
 from vectors import BAD_LENGTH, INTEGRITY, NOT_FLUSHED, NOT_OPENED
 
 DONE = Ended(0)
-NO_OUTPUT, FLUSH_FAULT = refused(6, NOT_OPENED), refused(6, NOT_FLUSHED)
+NO_OUTPUT = refused(6, NOT_OPENED)
+FLUSH_FAULT = refused(6, NOT_FLUSHED)
 # The outcome of a line is the answer, or (status, message) if the line is refused.
-LENGTH, WRONG_LINE = (4, BAD_LENGTH), (5, INTEGRITY)
+LENGTH = (4, BAD_LENGTH)
+WRONG_LINE = (5, INTEGRITY)
 
 
 def no_output(reason):
@@ -34,23 +36,26 @@ def held():
 
 def state(*without):
     """The names, kinds, modes, owners and contents of all files, except these and the files of the tests themselves."""
+    left_out = {"met", "pipe", *without}
+    paths = [path for path in pathlib.Path().rglob("*") if str(path) not in left_out]
+    return {str(path): state_of(path) for path in paths}
 
-    def of(path):
-        found = path.lstat()
-        content = (
-            path.read_bytes()
-            if stat.S_ISREG(found.st_mode)
-            else os.readlink(path)
-            if path.is_symlink()
-            else None
-        )
-        return oct(found.st_mode), found.st_uid, found.st_gid, found.st_ino, content
 
-    return {
-        str(path): of(path)
-        for path in pathlib.Path().rglob("*")
-        if str(path) not in {"met", "pipe", *without}
-    }
+def state_of(path):
+    status = path.lstat()
+    content = None
+    if stat.S_ISREG(status.st_mode):
+        content = path.read_bytes()
+    elif path.is_symlink():
+        content = os.readlink(path)
+    mode = oct(status.st_mode)
+    return mode, status.st_uid, status.st_gid, status.st_ino, content
+
+
+def has_mode(name, mode):
+    """It is a file of this mode. Wine makes modes of lists of access rights, of which test_windows.py has rows."""
+    if "KEYWRAP_ON_WINE" not in os.environ:
+        assert oct(os.lstat(name).st_mode) == oct(stat.S_IFREG | mode)
 
 
 def lands(keywrap, args, answer, name="to/file", **options):
@@ -61,7 +66,7 @@ def lands(keywrap, args, answer, name="to/file", **options):
     before = state(name)
     assert keywrap(args, **options) == DONE
     assert pathlib.Path(name).read_bytes() == answer
-    assert oct(os.lstat(name).st_mode) == oct(stat.S_IFREG | mode)
+    has_mode(name, mode)
     assert state(name) == before
 
 
@@ -81,30 +86,45 @@ def leaves_input(keywrap, args, ended, **options):
 
 def comes_to(keywrap, args, given, outcomes, keep_going=False, report=""):
     """The run over these lines ends as expected, with streams and with files: a run that stops keeps the old file."""
-    written, error, status, filed = "", "", 0, True
-    for number, outcome in enumerate(outcomes, 1):
-        if isinstance(outcome, str):
-            written += outcome + "\n"
-            continue
-        error += f"keywrap: line {number}: {outcome[1]}\n"
-        status = status or outcome[0]
-        # The end of such a line is unknown, so these end every run.
-        filed = keep_going and outcome[1] not in ("too long", "cannot be read")
-        if not filed:
-            break
-        written += "\n"
-    ended = Ended(status or (5 if "none" in outcomes else 0), written, error + report)
-    args = [*words(args), "--lines", *["--keep-going"] * keep_going]
-    given = given if isinstance(given, (str, bytes)) else "\n".join(given) + "\n"
-    given = given.encode() if isinstance(given, str) else given
+    ended, is_filed = outcome_of_lines(outcomes, keep_going)
+    ended = ended._replace(stderr=ended.stderr + report)
+    args = [*words(args), "--lines"]
+    if keep_going:
+        args.append("--keep-going")
+    if not isinstance(given, (str, bytes)):
+        given = "\n".join(given) + "\n"
+    if isinstance(given, str):
+        given = given.encode()
     assert keywrap(args, stdin=given) == ended
+
     pathlib.Path("in").write_bytes(given)
     os.makedirs("lines", exist_ok=True)
     pathlib.Path("lines/file").write_text("old\n")
     os.chmod("lines/file", 0o644)
     assert keywrap(args, "-i", "in", "-o", "lines/file") == ended._replace(stdout="")
     assert os.listdir("lines") == ["file"]
-    assert pathlib.Path("lines/file").read_text() == (written if filed else "old\n")
-    assert os.stat("lines/file").st_mode & 0o777 == (
-        0o600 if args[0] == "unwrap" and filed else 0o644
-    )
+    content = ended.stdout if is_filed else "old\n"
+    assert pathlib.Path("lines/file").read_text() == content
+    mode = 0o600 if is_filed and args[0] == "unwrap" else 0o644
+    has_mode("lines/file", mode)
+
+
+def outcome_of_lines(outcomes, keep_going):
+    """How a run ends whose lines have these outcomes, and whether it writes the file of --output."""
+    answers = ""
+    error = ""
+    status = 0
+    for number, outcome in enumerate(outcomes, 1):
+        if isinstance(outcome, str):
+            answers += f"{outcome}\n"
+            continue
+        line_status, message = outcome
+        error += f"keywrap: line {number}: {message}\n"
+        status = status or line_status
+        # The end of such a line is unknown, so these end every run.
+        if not keep_going or message in ("too long", "cannot be read"):
+            return Ended(status, answers, error), False
+        answers += "\n"
+    if status == 0 and "none" in outcomes:
+        status = 5
+    return Ended(status, answers, error), True

@@ -10,11 +10,9 @@ from typing import NamedTuple, Optional
 from vectors import VALUES, VECTOR_LINES, raw, zeros
 
 # The usual command lines.
-WRAP, UNWRAP, CHECK = (
-    "wrap --kek kek16.hex",
-    "unwrap --kek kek16.hex",
-    "check --kek kek16.hex",
-)
+WRAP = "wrap --kek kek16.hex"
+UNWRAP = "unwrap --kek kek16.hex"
+CHECK = "check --kek kek16.hex"
 REWRAP = "rewrap --kek kek16.hex --new-kek kek32.hex"
 SAME_KEK = "rewrap --kek kek16.hex --new-kek kek16.hex"
 MAX_FILE = 4194304

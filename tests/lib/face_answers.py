@@ -84,7 +84,8 @@ def digits(content, length, head=0):
 
 
 def room_of(call, given):
-    """The length of what a call for one key writes beside what it is given, or - if it writes over that."""
+    """The length of the buffer that a call for one key writes, or - if it writes over its input. The key that an unwrap
+    finds there may be shorter."""
     if call == "rewrap":
         return "-"
     if call.startswith("w"):
@@ -95,7 +96,9 @@ def room_of(call, given):
 def with_buffers(row):
     if row.is_many:
         return many_in_buffers(row)
-    call, given, out = row.call, row.arguments["given"], row.due.get("out")
+    call = row.call
+    given = row.arguments["given"]
+    out = row.due.get("out")
     is_over_given = call.startswith("rewrap") or call.endswith("in_place")
     if is_over_given or call == "kek_clear":
         after = given.hex() if out is None else digits(out, len(given))
@@ -115,7 +118,9 @@ def slot_before_wrap(key):
 
 def many_in_buffers(row):
     """All slots side by side."""
-    call, contents, out = row.call, row.arguments["given"], row.due.get("out")
+    call = row.call
+    contents = row.arguments["given"]
+    out = row.due.get("out")
     is_wrap = call == "wrap_many"
     slots = [slot_before_wrap(key) for key in contents] if is_wrap else contents
     size = row.arguments.get("size", sum(map(len, slots)))
@@ -142,7 +147,8 @@ def many_in_buffers(row):
 
 def in_place(row):
     """The same in one buffer. Before the key of a wrap are eight bytes that may hold anything."""
-    given, out = row.arguments["given"], row.due.get("out")
+    given = row.arguments["given"]
+    out = row.due.get("out")
     is_wrap = row.call.startswith("w")
     buffer = given
     head = 8
@@ -162,7 +168,9 @@ def in_place(row):
 
 def with_values(row):
     """A refusal returns nothing, and a question for the form no key."""
-    call, given, out = row.call, row.arguments["given"], row.due.get("out")
+    call = row.call
+    given = row.arguments["given"]
+    out = row.due.get("out")
     if not row.is_many:
         returned = given if out is None else out
         has_out = row.is_done and "kind" not in call

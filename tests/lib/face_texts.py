@@ -46,10 +46,22 @@ def says_nothing(face, call, row, status):
 
 def of_go(row, statuses, refused):
     text = f"keywrap: {TEXTS[refused[0]]}"
+    if row.is_many and refused[0] == Status.BAD_LENGTH:
+        return text + other_length(row.arguments["given"])
     if "statuses" not in row.due:
         return text
     first = statuses.index(refused[0])
     return f"{text} at index {first}; {len(refused)} of {len(statuses)} refused"
+
+
+def other_length(items):
+    """Where the first of many items is that has another length."""
+    for index, item in enumerate(items):
+        if len(item) != len(items[0]):
+            return (
+                f": {len(item)} bytes at index {index}, but {len(items[0])} at index 0"
+            )
+    return ""
 
 
 def of_rust(call, row, status):

@@ -69,13 +69,9 @@ def declared(pattern, *headers):
     return sorted(re.findall(rf"^{pattern} (keywrap_[a-z_]*)\(", text, re.M))
 
 
-# The calls that return a status; all names of the library; and those of the archive, which also has the calls that
-# c/hardware makes.
+# The calls that return a status, and all names of the library.
 EXPORTS = declared("int32_t", "dist/keywrap")
 NAMES = declared(r"(?:u?int[0-9]+_t|size_t|void)", "dist/keywrap", "dist/keywrap_steps")
-ARCHIVED = sorted(
-    NAMES + declared(r"KEYWRAP_CHECK u?int[0-9]+_t", "c/include/keywrap_checks")
-)
 
 
 def shown(file, *options, tools=""):
@@ -105,12 +101,13 @@ def nodes(path):
     }
 
 
-def check_library(directory, name="libkeywrap", archived=ARCHIVED, tools=""):
+def check_library(directory, name="libkeywrap", tools=""):
     """The names that the archive and the shared object show and need. Each name of the shared object is under the node
     of the version that it came with, its tables are read-only once it is loaded, and its own name is right.
     """
-    archive, shared = directory / f"{name}.a", directory / f"{name}.so.1"
-    assert shown(archive, "-g", tools=tools) == archived
+    archive = directory / f"{name}.a"
+    shared = directory / f"{name}.so.1"
+    assert shown(archive, "-g", tools=tools) == NAMES
     others = {call for call in needed(archive, tools) if call[:8] != "keywrap_"}
     assert others <= {"memcpy", "memmove", "memset"}
 
@@ -121,14 +118,17 @@ def check_library(directory, name="libkeywrap", archived=ARCHIVED, tools=""):
     assert shown(shared, "-D", tools=tools) == with_nodes
 
     elf = run("readelf", "-dlW", shared)
-    assert "BIND_NOW" in elf and "GNU_RELRO" in elf and "TEXTREL" not in elf
+    assert "BIND_NOW" in elf
+    assert "GNU_RELRO" in elf
+    assert "TEXTREL" not in elf
     assert re.search(rf"SONAME.*\[{re.escape(name)}\.so\.1\]", elf)
 
 
 def check_glibc(file, tools=""):
     """It needs no symbol of glibc that is newer than 2.17."""
     versions = VERSION.findall(run(f"{tools}objdump", "-T", file))
-    assert versions and max((int(major), int(minor)) for major, minor in versions) <= (
+    assert versions
+    assert max((int(major), int(minor)) for major, minor in versions) <= (
         2,
         17,
     )

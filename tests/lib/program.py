@@ -15,7 +15,8 @@ import pytest
 
 # Slow tests run only with KEYWRAP_ALL=1, which `make gate` sets, and those that are left to `make evidence` only with
 # KEYWRAP_EVIDENCE=1, too.
-ALL, SLOW = os.environ.get("KEYWRAP_ALL") == "1", "left to KEYWRAP_ALL=1"
+ALL = os.environ.get("KEYWRAP_ALL") == "1"
+SLOW = "left to KEYWRAP_ALL=1"
 slow = pytest.mark.skipif(not ALL, reason=SLOW)
 evidence = pytest.mark.skipif(os.environ.get("KEYWRAP_EVIDENCE") != "1", reason=SLOW)
 
@@ -23,13 +24,15 @@ evidence = pytest.mark.skipif(os.environ.get("KEYWRAP_EVIDENCE") != "1", reason=
 def all_of(values, few, in_gate=None):
     """The values as parameters. All but these few of them are slow, and all but those in the gate, if these are given,
     are left to `make evidence`."""
-    in_gate = values if in_gate is None else in_gate
-    return [
-        value
-        if value in few
-        else pytest.param(value, marks=slow if value in in_gate else evidence)
-        for value in values
-    ]
+    parameters = []
+    for value in values:
+        if value in few:
+            parameters.append(value)
+        elif in_gate is None or value in in_gate:
+            parameters.append(pytest.param(value, marks=slow))
+        else:
+            parameters.append(pytest.param(value, marks=evidence))
+    return parameters
 
 
 class Ended(NamedTuple):
@@ -41,7 +44,8 @@ class Ended(NamedTuple):
 
 
 # Instead of a standard stream: a closed one, and a pipe without a reader.
-CLOSED, UNREAD = object(), object()
+CLOSED = object()
+UNREAD = object()
 # The last line of --version, if the program is the one in C.
 IN_C = "built from C (dist/command)\n"
 # The options of a run with pipes.
@@ -57,9 +61,10 @@ def answered(text):
 
 def refused(status, message, reason=None):
     """A refusal: one line on standard error, a second one with --verbose, and nothing on standard output."""
-    return Ended(
-        status, "", f"keywrap: {message}\n" + (f"  {reason}\n" if reason else "")
-    )
+    error = f"keywrap: {message}\n"
+    if reason:
+        error += f"  {reason}\n"
+    return Ended(status, "", error)
 
 
 def words(args):
@@ -75,14 +80,15 @@ def sh(script):
 def finish(run, given=None, text=True):
     """Writes the given bytes to a run, and returns how it ended. If `text` is False, its answer stays bytes."""
     try:
-        out, err = run.communicate(given, timeout=600)
+        output, error = run.communicate(given, timeout=600)
     except subprocess.TimeoutExpired:
         run.kill()
         raise
-    out, err = out or b"", (err or b"").decode(errors="backslashreplace")
-    return Ended(
-        run.returncode, out.decode(errors="backslashreplace") if text else out, err
-    )
+    output = output or b""
+    if text:
+        output = output.decode(errors="backslashreplace")
+    error = (error or b"").decode(errors="backslashreplace")
+    return Ended(run.returncode, output, error)
 
 
 def wait_for(ready):
@@ -91,6 +97,24 @@ def wait_for(ready):
     while not ready():
         assert time.monotonic() < end, "the run does not come to this point"
         time.sleep(0.01)
+
+
+TO_WRITE = os.O_WRONLY | os.O_CREAT | os.O_TRUNC
+
+
+def opened_stream(opened, stream, flags):
+    """A standard stream as `Popen` takes it. What is opened for it is closed with `opened`."""
+    if stream in (None, CLOSED):
+        return subprocess.DEVNULL
+    if stream is UNREAD:
+        reading, descriptor = os.pipe()
+        os.close(reading)
+    elif isinstance(stream, (str, pathlib.Path)):
+        descriptor = os.open(stream, flags, 0o644)
+    else:
+        return stream
+    opened.callback(os.close, descriptor)
+    return descriptor
 
 
 class Program:
@@ -117,15 +141,20 @@ class Program:
         stdout, stderr: a path to write to, CLOSED or UNREAD; what went there is not returned.
         text: if False, the answer is returned as bytes.
         options: see `started`."""
-        given = stdin.encode() if isinstance(stdin, str) else stdin
-        streams = [
-            subprocess.PIPE if stream is None else stream for stream in (stdout, stderr)
-        ]
-        stdin = subprocess.PIPE if isinstance(given, bytes) else given
+        given = None
+        if isinstance(stdin, str):
+            stdin = stdin.encode()
+        if isinstance(stdin, bytes):
+            given = stdin
+            stdin = subprocess.PIPE
+        if stdout is None:
+            stdout = subprocess.PIPE
+        if stderr is None:
+            stderr = subprocess.PIPE
         with self.started(
-            args, *more, stdin=stdin, stdout=streams[0], stderr=streams[1], **options
+            args, *more, stdin=stdin, stdout=stdout, stderr=stderr, **options
         ) as run:
-            return finish(run, given if isinstance(given, bytes) else None, text)
+            return finish(run, given, text)
 
     def started(
         self,
@@ -144,28 +173,13 @@ class Program:
 
         limits: by name, as {"FSIZE": 1024}; a write beyond FSIZE fails, as on a full disk.
         ignoring: signals that are ignored. None is SIGXFSZ if there is a limit FSIZE, which is an error then.
-        env: variables beside the environment's own.
+        env: variables besides the environment's own.
         prefix: a command that runs the program, as setpriv.
         options: of `Popen`, as cwd and user."""
-        closed = [
-            number
-            for number, stream in enumerate((stdin, stdout, stderr))
-            if stream is CLOSED
-        ]
-        ignoring = (
-            ignoring if ignoring is not None else [signal.SIGXFSZ] * ("FSIZE" in limits)
-        )
-
-        def stream(given, flags=os.O_WRONLY | os.O_CREAT | os.O_TRUNC):
-            if given is UNREAD:
-                reading, given = os.pipe()
-                os.close(reading)
-            elif isinstance(given, (str, pathlib.Path)):
-                given = os.open(given, flags, 0o644)
-            else:
-                return subprocess.DEVNULL if given in (None, CLOSED) else given
-            opened.callback(os.close, given)
-            return given
+        streams = (stdin, stdout, stderr)
+        closed = [number for number in range(3) if streams[number] is CLOSED]
+        if ignoring is None:
+            ignoring = [signal.SIGXFSZ] if "FSIZE" in limits else []
 
         def prepare():
             for number in closed:
@@ -178,9 +192,9 @@ class Program:
         with contextlib.ExitStack() as opened:
             return subprocess.Popen(
                 [*prefix, self.path, *words(args), *more],
-                stdin=stream(stdin, os.O_RDONLY),
-                stdout=stream(stdout),
-                stderr=stream(stderr),
+                stdin=opened_stream(opened, stdin, os.O_RDONLY),
+                stdout=opened_stream(opened, stdout, TO_WRITE),
+                stderr=opened_stream(opened, stderr, TO_WRITE),
                 env={**os.environ, **env},
                 pass_fds=SHARED,
                 preexec_fn=prepare if closed or limits or ignoring else None,

@@ -15,7 +15,7 @@ FOREIGN = HERE / "foreign"
 
 
 def _parser():
-    """The parser, which is in the Python package but needs nothing of it. Python writes no cache beside the source."""
+    """The parser, which is in the Python package but needs nothing of it. Python writes no cache into its directory."""
     path = HERE.parent / "python/src/keywrap/_vector_files.py"
     spec = importlib.util.spec_from_file_location("vector_files", path)
     module = sys.modules["vector_files"] = importlib.util.module_from_spec(spec)

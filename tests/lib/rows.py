@@ -63,7 +63,7 @@ class Row(NamedTuple):
 
 
 def content_of(text, names):
-    """The bytes of a value: hex digits, $NAME, zeros(N), filled(XX, N), or some of these with + between them."""
+    """The bytes of a value: hex digits, $NAME, zeros(N), filled(XX,N), or some of these with + between them."""
     return b"".join(part_of(part, names) for part in text.split("+"))
 
 
@@ -99,15 +99,15 @@ def row_of(words, names):
     due = {"status": Status[status]}
     for pair in pairs:
         key, _, text = pair.partition("=")
-        kind = arguments if key in ARGUMENTS else due
-        kind[key] = value_of(key, text, is_many, names)
+        fields = arguments if key in ARGUMENTS else due
+        fields[key] = value_of(key, text, is_many, names)
     if isinstance(due.get("out"), str):
         due["out"] = content_with_digest(due["out"], call, arguments)
     return Row(name, call, arguments, due)
 
 
 def content_with_digest(digest, call, arguments):
-    """Computes an output that is too long for rows.txt, and compares it with the digest there."""
+    """Computes an output that is too long for rows.txt. All stops if it has not the digest that stands there."""
     content = rules.due(call, arguments)["out"]
     assert shown_digest(content) == digest, (call, digest)
     return content
@@ -135,7 +135,7 @@ def read():
 # Rows that follow from a row
 
 
-def kept():
+def with_implied_rows():
     """The rows of rows.txt, and those that follow from them."""
     rows = []
     for row in read():
@@ -162,7 +162,7 @@ def as_call(call, row, arguments, what):
 
 def with_kept_keks():
     """The rows, and those of short keys once more with kept KEKs: each that there is, and all."""
-    for row in kept():
+    for row in with_implied_rows():
         yield row
         if row.call == "kek_init" or len(row.arguments["given"]) >= LONG:
             continue
@@ -238,13 +238,13 @@ def many(name, call, arguments, slots):
     return Row(name, call, {**arguments, "given": given}, due)
 
 
-# Rows that are not kept
+# Rows with one argument changed, which rows.txt does not have
 
 
 def more():
     """The rows for one key under a KEK with each change of an argument, and these as slots."""
     changed = {}
-    for row in kept():
+    for row in with_implied_rows():
         if not is_changed(row):
             continue
         for change in changes(row):
@@ -321,13 +321,14 @@ def other_keks(row):
 
 
 def other_initial_values(row):
-    begins = (
-        rules.RESERVED + bytes(3),
-        row.arguments["iv"][:7],
-        bytes.fromhex("a65959a7000000"),
-    )
-    for begin in begins:
-        for end in (rules.DEFAULT_IV[7:], b"", b"\xa7", bytes(2)):
+    """Initial values that are reserved for the padded form, like the row's own, and one bit beside the reserved ones,
+    which is legal: each of 8 bytes twice, and of 7 and of 9 bytes. If the row has none, of 0 to 2 bytes.
+    """
+    reserved = rules.RESERVED + bytes(3)
+    own = row.arguments["iv"][:7]
+    next_to_reserved = bytes.fromhex("a65959a7000000")
+    for begin in (reserved, own, next_to_reserved):
+        for end in (b"\xa6", b"", b"\xa7", bytes(2)):
             yield {"iv": begin + end}
 
 
@@ -349,26 +350,30 @@ def shown_pairs(pairs):
     return " ".join(f"{name}={shown(value)}" for name, value in pairs.items())
 
 
-def shown_call(call, arguments):
-    """The call as in rows.txt. What is empty is left out."""
+def shown_arguments(arguments):
+    """The arguments as in rows.txt. What is empty is left out."""
     given = {
         name: arguments[name] for name in ARGUMENTS if arguments.get(name, []) != []
     }
-    return f"{call} {shown_pairs(given)}"
+    return shown_pairs(given)
+
+
+def shown_call(call, arguments):
+    return f"{call} {shown_arguments(arguments)}"
 
 
 def shown_row(row, due=None):
     """A line as in rows.txt, with what is due of the row, or something else."""
     due = due or row.due
-    results = {name: due[name] for name in sorted(due) if name != "status"}
     status = Status(due["status"]).name
-    call = shown_call(row.call, row.arguments)
-    return f"{row.name}: {status} {call} {shown_pairs(results)}".rstrip()
+    results = {name: due[name] for name in sorted(due) if name != "status"}
+    pairs = shown_arguments(row.arguments), shown_pairs(results)
+    return " ".join(filter(None, [row.name, row.call, status, *pairs]))
 
 
 def wrong():
     """The rows for one key that are kept and wrong, each with the right one."""
-    for row in kept():
+    for row in with_implied_rows():
         if row.is_many:
             continue
         right = rules.due(row.call, row.arguments)

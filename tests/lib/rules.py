@@ -28,7 +28,10 @@ class Form(enum.IntEnum):
 BOTH_FORMS = (Form.PLAIN, Form.PADDED)
 
 # The flags of the calls that rewrap. Calls for many keys take the first two.
-OLD_PADDED, NEW_PADDED, KEEP_FORM, PASS_NEW = 1, 2, 4, 8
+OLD_PADDED = 1
+NEW_PADDED = 2
+KEEP_FORM = 4
+PASS_NEW = 8
 
 MAX_KEY = 1 << 20
 KEK_LENGTHS = (16, 24, 32)
@@ -262,7 +265,8 @@ def wrapping_in(forms, kek, text):
 
 def rewrap(arguments):
     """A refusal leaves the buffer as it was."""
-    text, flags = arguments["given"], arguments["flags"]
+    text = arguments["given"]
+    flags = arguments["flags"]
     if not are_flags("rewrap", flags):
         return {"status": Status.BAD_LENGTH}
     found = wrapping_in(old_forms(flags), arguments["kek"], text)

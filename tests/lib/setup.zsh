@@ -1,4 +1,4 @@
-# What offers.zsh runs in its terminal: completion whose offers are printed.
+# offers.zsh runs this in its terminal: completion whose offers are printed.
 PS1= PS2= RPS1=
 fpath=($completions $fpath)
 autoload -Uz compinit; compinit -u -D

@@ -1,11 +1,12 @@
 """The self test of a shared object passes, and fails if one byte of a vector or of the damaged wrapped key is changed.
 
-With `decryption` it also fails if only the decryption is damaged: then every wrap is right, so a self test that unwraps
+With `tables` it also fails if only the decryption is damaged: then every wrap is right, so a self test that unwraps
 nothing passes. Nothing shows that it calls the exports, and not what they call: to a proof two functions of one meaning
 are one, and both compilers put a copy of the exports' code into the self test.
-Rattle's own compiler does not store the table in one piece, so there is nothing to damage in what it makes.
+With `instructions` the tables are there and the processor's AES runs in their place, so damage to them is not seen.
+With neither there are no tables to damage: Rattle's own compiler does not store one in one piece.
 
-usage: patched.py LIBRARY [decryption]"""
+usage: patched.py LIBRARY [tables | instructions]"""
 
 import ctypes
 import pathlib
@@ -87,10 +88,9 @@ with tempfile.TemporaryDirectory() as directory:
     tables = [
         table for table in map(bytes.fromhex, DECRYPTION) if original.count(table) == 1
     ]
-    assert bool(tables) == (
-        "decryption" in sys.argv[2:]
-    ), "the tables of the decryption"
-    for table in tables:
-        library = original.replace(table, bytes(reversed(table)))
-        assert self_test(table.hex(), library) == 5, table.hex()
-        assert wraps(table.hex()), table.hex()
+    assert bool(tables) == (sys.argv[2:] in (["tables"], ["instructions"]))
+    if sys.argv[2:] == ["tables"]:
+        for table in tables:
+            library = original.replace(table, bytes(reversed(table)))
+            assert self_test(table.hex(), library) == 5, table.hex()
+            assert wraps(table.hex()), table.hex()
