@@ -24,7 +24,7 @@ make provider           builds the provider for OpenSSL 3, as $(PROVIDER)/keywra
 make examples           builds the example in C, as $(EXAMPLES)/wrap (the library's time)
 make wheel              builds the Python package, as $(wheel) (the library's time)
 make wheel-rotate       builds the rotation, as $(DIST)/$(rotate_wheel) (5 seconds, no kit)
-make js                 puts the package for browsers, Node and Deno together, as $(JS) (1 second, no kit)
+make js                 puts the package for browsers and Node together, as $(JS) (1 second, no kit)
 make dist-js            packs it for npm, as $(DIST)/keywrap-$(version).tgz (1 second, no kit)
 make go                 packs the Go module of dist/, as $(GO), which GOPROXY can name: dist/GO.md (1 second)
 make sdist              packs the Python package with portable C, for pip to build elsewhere (5 seconds, no kit)
@@ -94,7 +94,8 @@ evidence:
 dist-sources: dist-rust
 	$(needs_kit)$(PYTHON) generate/portable.py --needs
 	generate/module.sh out/keywrap.wasm
-	$(PYTHON) generate/portable.py out/keywrap.wasm dist
+	generate/portable_module.sh out/portable.wasm
+	$(PYTHON) generate/portable.py out/portable.wasm out/keywrap.wasm dist
 	$(MAKE) --no-print-directory dist-command-sources
 
 dist-rust:
@@ -107,11 +108,10 @@ dist-command-sources: build
 
 # With BENCH=DIRECTORY it also writes DIRECTORY/*.csv; `make bench BENCH=docs/pictures` renews the data of the plots.
 export BENCH := $(abspath $(BENCH))
-bench: build library library-hardware provider wheel wheel-rotate
+bench: build library library-hardware provider wheel
 	bench/wrap.sh '$(LIBRARY)/libkeywrap.a' '$(PROVIDER)/keywrap.so'
 	bench/record.sh lines python3-cryptography $(PYTHON) bench/lines.py '$(PROGRAM)'
 	bench/record.sh python python3-cryptography $(PYTHON) bench/python.py '$(wheel)'
-	$(PYTHON) bench/rotation.py '$(wheel)' '$(DIST)/$(rotate_wheel)'
 
 pictures:
 	generate/plots.py
