@@ -18,6 +18,7 @@ import subprocess
 import sys
 import tempfile
 import textwrap
+from typing import NamedTuple
 
 from headers import CALLS, FIXED, LONGEST
 
@@ -32,8 +33,8 @@ PROTOTYPE = re.compile(r"^static \w+ (w2c_\w+)\(struct instance .*\);\n", re.M)
 FRAME = re.compile(
     r"w2c_j0 = instance->w2c_g0;\s+w2c_j1 = (\d+)ull;\s+w2c_j0 -= w2c_j1;"
 )
-# A function without a frame, which only checks that this many bytes of stack are left.
-LOOK = re.compile(
+# A function without a frame only checks that this many bytes of stack are left.
+STACK_CHECK = re.compile(
     r"w2c_j0 = instance->w2c_g0;\s+(w2c_l\d+) = w2c_j0;\s+w2c_j1 = (\d+)ull;\s+"
     r"w2c_i0 = \(u64\)\(\(s64\)w2c_j0 ([<>]) \(s64\)w2c_j1\);"
 )
@@ -59,12 +60,11 @@ def check_imports(text):
     """Stops unless the module, as wasm2c writes it, calls each function of leaves.c.in and imports nothing else."""
     called = set(re.findall(r"\(\*Z_(\w+?)Z_(\w+)\)\(", text))
     leaves = (PARTS / "leaves.c.in").read_text()
-    expected = {
-        ("aes", name)
-        for name in re.findall(r"^\w+(?: \w+)* leaf_(\w+)\(", leaves, re.M)
-    }
+    names = re.findall(r"^\w+(?: \w+)* leaf_(\w+)\(", leaves, re.M)
+    expected = {("aes", name) for name in names}
     if called != expected:
-        missing, other = sorted(expected - called), sorted(called - expected)
+        missing = sorted(expected - called)
+        other = sorted(called - expected)
         sys.exit(
             f"portable.py: the module does not call {missing}, and imports {other}"
         )
@@ -106,17 +106,26 @@ def frame_of(name, body):
     """The bytes by which the function moves the stack, and those that it wants left."""
     if frame := FRAME.search(body):
         return int(frame[1]), 0
-    look = LOOK.search(body)
+    check = STACK_CHECK.search(body)
     stores = body.count("instance->w2c_g0 = ")
-    kept = (
-        stores and look and body.count(f"{look[1]} = ") == 2
-    )  # its declaration, and what was read
-    restored = kept and len(
-        re.findall(rf"w2c_j0 = {look[1]};\s+instance->w2c_g0 = w2c_j0;", body)
-    )
-    if stores != (restored or 0):
+    if stores != restores_of_stack(body, check):
         sys.exit(f"portable.py: the stack of {name}: it is moved in another way")
-    return 0, int(look[2]) + (look[3] == ">") if look else 0
+    if not check:
+        return 0, 0
+    is_strict = check[3] == ">"
+    return 0, int(check[2]) + is_strict
+
+
+def restores_of_stack(body, check):
+    """How many stores of the stack pointer put back what the function read at its check of the stack."""
+    if not check:
+        return 0
+    pointer = check[1]
+    # The variable is set by its declaration and by the check, and not changed in between.
+    if body.count(f"{pointer} = ") != 2:
+        return 0
+    restore = rf"w2c_j0 = {pointer};\s+instance->w2c_g0 = w2c_j0;"
+    return len(re.findall(restore, body))
 
 
 def calls_in(body):
@@ -129,12 +138,11 @@ def stack_needs(bodies):
     while len(need) < len(bodies):
         known = len(need)
         for name, body in bodies.items():
-            if name not in need and calls_in(body) <= need.keys():
+            calls = calls_in(body)
+            if name not in need and calls <= need.keys():
                 frame, left = frame_of(name, body)
-                need[name] = max(
-                    left,
-                    frame + max((need[call] for call in calls_in(body)), default=0),
-                )
+                most_of_calls = max((need[call] for call in calls), default=0)
+                need[name] = max(left, frame + most_of_calls)
         if len(need) == known:
             sys.exit("portable.py: the calls of the module: it recurses")
     return need
@@ -142,7 +150,8 @@ def stack_needs(bodies):
 
 def reached_from(roots, bodies):
     """The functions that these call, and they themselves."""
-    reached, left = set(), list(roots)
+    reached = set()
+    left = list(roots)
     while left:
         name = left.pop()
         if name not in reached:
@@ -158,17 +167,18 @@ def in_sixteens(size):
 def with_constants(body, top, end):
     """The function, whose loads of constants name them if the code adds an index to the address of a constant."""
 
+    def is_constant(address):
+        return top <= int(address) < end
+
     def offset(load):
-        return (
-            f"constant_{load[1]}({load[2]})" if top <= int(load[3]) < end else load[0]
-        )
+        if not is_constant(load[3]):
+            return load[0]
+        return f"constant_{load[1]}({load[2]})"
 
     def added(load):
-        return (
-            f"{load[1]}constant_{load[6]}({load[7]})"
-            if top <= int(load[3]) < end
-            else load[0]
-        )
+        if not is_constant(load[3]):
+            return load[0]
+        return f"{load[1]}constant_{load[6]}({load[7]})"
 
     body = re.sub(
         r"\b(i(?:32|64)_load\w*)\(memory, (\(u64\)\(\w+\) \+ (\d+)u)\)", offset, body
@@ -183,24 +193,18 @@ def with_constants(body, top, end):
 
 def function_of(found, top, end):
     """A function in C, whose memory is a value: it never grows, so no store can change it."""
-    name, parameters, body = found[1], found[2], found[3]
-    unused = "".join(
-        f"\n  (void){one};"
-        for one in re.findall(r"\bw2c_p\d+\b", parameters)
-        if not re.search(rf"\b{one}\b", body)
-    )
+    name, parameters, body = found.groups()
     if body.count("FUNC_PROLOGUE;") != 1 or body.count("FUNC_EPILOGUE;") != 1:
         sys.exit(f"portable.py: {name}: no beginning or no end of wasm2c's template")
-    body = body.replace("  FUNC_EPILOGUE;\n", "").replace(
-        "&instance->w2c_memory", "memory"
-    )
-    local = "const struct memory memory = instance->w2c_memory;\n  (void)memory;"
-    body = body.replace("FUNC_PROLOGUE;", local + unused)
-    return (
-        found[0][: found.start(3) - found.start(0)]
-        + with_constants(body, top, end)
-        + "}\n"
-    )
+    beginning = "const struct memory memory = instance->w2c_memory;\n  (void)memory;"
+    for parameter in re.findall(r"\bw2c_p\d+\b", parameters):
+        if not re.search(rf"\b{parameter}\b", body):
+            beginning += f"\n  (void){parameter};"
+    body = body.replace("  FUNC_EPILOGUE;\n", "")
+    body = body.replace("&instance->w2c_memory", "memory")
+    body = body.replace("FUNC_PROLOGUE;", beginning)
+    head = found[0].partition(found[3])[0]
+    return head + with_constants(body, top, end) + "}\n"
 
 
 def with_quick_steps(function):
@@ -208,55 +212,96 @@ def with_quick_steps(function):
     return re.sub(r"\b(i64_(?:load|store))\(memory, ", r"step_\1(memory, ", function)
 
 
-def module_of(text):
-    """The numbers of the module, and its constants and functions in C."""
-    top = int(
-        the_one("the stack pointer", r"w2c_g0 = (\d+)ull;\n  instance->w2c_g1", text)
-    )
-    at = the_one(
-        "the place of the constants",
-        r"LOAD_DATA\(.*?, (\d+)u, data_segment_data_w2c_d0",
-        text,
-    )
-    if int(at) != top:
+class Parts(NamedTuple):
+    """The parts of the module as wasm2c writes it: functions, prototypes and bodies by their names."""
+
+    top: int
+    constants: str
+    functions: dict
+    prototypes: dict
+    bodies: dict
+
+
+def parts_of(text):
+    """The parts of the module. Its constants lie above its stack, whose size is their address."""
+    stack = r"w2c_g0 = (\d+)ull;\n  instance->w2c_g1"
+    top = int(the_one("the stack pointer", stack, text))
+    load = r"LOAD_DATA\(.*?, (\d+)u, data_segment_data_w2c_d0"
+    address = int(the_one("the place of the constants", load, text))
+    if address != top:
         sys.exit("portable.py: the place of the constants: not above the stack")
-    constants = the_one(
-        "the constants",
-        r"static const u8 data_segment_data_w2c_d0\[\] = \{\n((?:.*\n)*?)\};",
-        text,
-    )
+    array = r"static const u8 data_segment_data_w2c_d0\[\] = \{\n((?:.*\n)*?)\};"
+    constants = the_one("the constants", array, text)
     between = r"^(static \w+ w2c_\w+\([^;]*\) \{(?:.*\n)*)/\* export: 'memory' \*/"
-    functions = [*FUNCTION.finditer(the_one("the functions", between, text))]
+    code = the_one("the functions", between, text)
+    functions = {found[1]: found for found in FUNCTION.finditer(code)}
     prototypes = {found[1]: found[0] for found in PROTOTYPE.finditer(text)}
-    bodies = {found[1]: found[3] for found in functions}
-    if not bodies or prototypes.keys() != bodies.keys() or not STEPS <= bodies.keys():
+    names = functions.keys()
+    if not names or prototypes.keys() != names or not STEPS <= names:
         sys.exit("portable.py: the functions: not those that are declared")
-    needs, steps = stack_needs(bodies), reached_from(STEPS, bodies)
-    # What only the calls by the processor's AES reach.
-    whole = reached_from(
-        {name for name in bodies if name.startswith("w2c_keywrap_")}, bodies
-    )
-    size = constants.count("0x")
-    exports = [name for name in bodies if re.match(r"w2c_(?:keywrap|aes)_", name)]
-    numbers = {
-        f"STACK_{name.removeprefix('w2c_')}": in_sixteens(needs[name])
-        for name in exports
-    }
-    numbers |= {"DATA": size, "TOP": top}
-    written = {found[1]: function_of(found, top, top + size) for found in functions}
-    # The statuses and phases of a rewrap, within 1 KiB: the steps have no table of AES, which would take more.
-    loads = [
-        load
-        for name in steps
-        for load in re.findall(r"constant_(\w+)\((.*)\);", written[name])
-    ]
-    places = sorted({int(place.rpartition("+ ")[2].rstrip("u)")) for _, place in loads})
-    if {load for load, _ in loads} != {"i32_load"} or places[-1] - places[0] >= 1024:
+    bodies = {name: found[3] for name, found in functions.items()}
+    return Parts(top, constants, functions, prototypes, bodies)
+
+
+def stack_sizes(bodies):
+    """The numbers STACK_NAME: the bytes of stack for each call."""
+    needs = stack_needs(bodies)
+    sizes = {}
+    for name in bodies:
+        if re.match(r"w2c_(?:keywrap|aes)_", name):
+            sizes[f"STACK_{name.removeprefix('w2c_')}"] = in_sixteens(needs[name])
+    return sizes
+
+
+def constants_of_steps(functions):
+    """The first and the last address of a constant that these functions of the steps load, which is a word: the
+    statuses and phases of a rewrap, within 1 KiB. The steps have no table of AES, which would take more.
+    """
+    kinds = set()
+    addresses = set()
+    for function in functions:
+        for kind, place in re.findall(r"constant_(\w+)\((.*)\);", function):
+            kinds.add(kind)
+            addresses.add(int(place.rpartition("+ ")[2].rstrip("u)")))
+    first = min(addresses)
+    last = max(addresses)
+    if kinds != {"i32_load"} or last - first >= 1024:
         sys.exit("portable.py: the steps: they read other constants")
-    numbers |= {"STEPS_AT": places[0], "STEPS_DATA": places[-1] + 12 - places[0]}
-    those = re.findall("0x..", constants)[places[0] - top :][: numbers["STEPS_DATA"]]
+    return first, last
+
+
+def in_conditions(pieces):
+    """The pieces as one text: each is the condition in which a build has it, and its text. Neighbours of one condition
+    have one line of the preprocessor before them, and one after."""
+    text = ""
+    for condition, group in itertools.groupby(pieces, lambda piece: piece[0]):
+        together = "".join(piece for _, piece in group)
+        text += f"{condition}{together}#endif\n" if condition else together
+    return text
+
+
+def module_of(text):
+    """The numbers of the module, its constants with those of the steps alone, and its functions in C."""
+    parts = parts_of(text)
+    size = parts.constants.count("0x")
+    written = {}
+    for name, found in parts.functions.items():
+        written[name] = function_of(found, parts.top, parts.top + size)
+
+    exports = [name for name in parts.bodies if name.startswith("w2c_keywrap_")]
+    steps = reached_from(STEPS, parts.bodies)
+    whole = reached_from(exports, parts.bodies)
+    # The other functions are reached by the calls over the processor's AES only.
     for name in written.keys() - whole - steps:
         written[name] = with_quick_steps(written[name])
+
+    first, last = constants_of_steps(written[name] for name in steps)
+    size_of_steps = last + 12 - first
+    numbers = stack_sizes(parts.bodies)
+    numbers |= {"DATA": size, "TOP": parts.top}
+    numbers |= {"STEPS_AT": first, "STEPS_DATA": size_of_steps}
+    values = re.findall("0x..", parts.constants)[first - parts.top :]
+    of_steps = "    " + ", ".join(values[:size_of_steps]) + "\n"
 
     def condition_of(name):
         """The line of the preprocessor before a function that is not in every build."""
@@ -266,32 +311,25 @@ def module_of(text):
             return WHOLE_ONLY
         return WITH_AES
 
-    parts = []
-    for pieces in (prototypes, written):
-        for name, piece in pieces.items():
-            parts.append((condition_of(name), piece))
-    module = ""
-    for only, group in itertools.groupby(parts, lambda part: part[0]):
-        pieces = "".join(piece for _, piece in group)
-        module += f"{only}{pieces}#endif\n" if only else pieces
-    return (
-        numbers,
-        [
-            f"static const u8 constants[CONSTANTS] = {{\n{bytes_of}}};"
-            for bytes_of in (constants, "    " + ", ".join(those) + "\n")
-        ],
-        module,
-    )
+    pieces = []
+    for texts in (parts.prototypes, written):
+        for name, piece in texts.items():
+            pieces.append((condition_of(name), piece))
+    return numbers, (parts.constants, of_steps), in_conditions(pieces)
 
 
-# What an argument that is no buffer becomes, by its type: an argument of the module, with its number among the numbers;
-# and, if it is a pointer, a field of the runtime's call and an argument of the module. So is the block that a step
-# writes.
+def array_of(values):
+    """The constants of a build as an array of C."""
+    return f"static const u8 constants[CONSTANTS] = {{\n{values}}};"
+
+
+# An argument that is no buffer, by its type. A number is an argument of the module, with its place among the numbers.
 NUMBERS = {
     "size_t": "NUM({})",
     "uint64_t": "NUM({})",
     "uint32_t": "(u32)NUM({})",
 }
+# A pointer is a field of the runtime's call and an argument of the module. So is the block that a step writes.
 POINTERS = {
     "size_t": ("key_len", "NUMBER"),
     "uint32_t": ("flag", "FLAG"),
@@ -314,16 +352,20 @@ def buffer_of(argument, size, of_many):
 
 def translator(macro, call):
     """The CALL or STEP of the runtime for a call of a header: its buffers and numbers, as the module takes them."""
-    buffers, numbers, fields, given = [], [], ["BUFFERS"], ["module"]
+    buffers = []
+    numbers = []
+    fields = ["BUFFERS"]
+    given = ["module"]
     for argument in call.arguments:
         name = argument.name
+        is_written_block = name == "block" and not argument.is_constant
         if not argument.is_pointer:
             given.append(NUMBERS[argument.type].format(len(numbers)))
             numbers.append(name)
         elif argument.length:
             given.append(f"BUFFER({len(buffers)})")
             buffers.append(buffer_of(argument, argument.length, call.is_for_many))
-        elif name in FIXED and (name != "block" or argument.is_constant):
+        elif name in FIXED and not is_written_block:
             given.append(f"ADDRESS({len(buffers)})")
             buffers.append(buffer_of(argument, FIXED[name], call.is_for_many))
         else:
@@ -334,29 +376,29 @@ def translator(macro, call):
         fields.append(f"NUMBERS({', '.join(numbers)})")
     if call.name.startswith("begin_"):
         fields.append(".begins = 1")
-    # A line ends behind a parameter, or behind a whole argument of the macro.
     parameters = [f"{kind} {name}".replace("* ", "*") for kind, name in call.parameters]
     items = f"{macro}({call.name}, ({', '.join(parameters)})".split(", ")
     items += [f"({', '.join(given)})", f"({', '.join(fields)})", *buffers]
-    lines = textwrap.wrap(
-        ", ".join(item.replace(" ", "\0") for item in items) + ")",
-        100,
-        subsequent_indent=" " * 5,
-        break_on_hyphens=False,
-    )
+    return on_lines(items, ")")
+
+
+def on_lines(items, end):
+    """The items with commas between them. A line ends only after an item: a space within one is \\0 meanwhile."""
+    text = ", ".join(item.replace(" ", "\0") for item in items) + end
+    indent = " " * 5
+    lines = textwrap.wrap(text, 100, subsequent_indent=indent, break_on_hyphens=False)
     return "\n".join(lines).replace("\0", " ") + "\n"
 
 
 def translators(macro, header, of_many):
-    """What stands for the calls of a header that take a buffer: those for one key, and with `of_many` for many."""
-    return "\n".join(
-        translator(macro, call)
-        for call in CALLS
-        if call.header == header
-        and call.result == "int32_t"
-        and call.has_bytes
-        and (of_many or not call.is_for_many)
-    )
+    """The text for the calls of a header that take a buffer: those for one key, and with `of_many` for many."""
+    written = []
+    for call in CALLS:
+        takes_buffer = call.result == "int32_t" and call.has_bytes
+        is_wanted = of_many or not call.is_for_many
+        if call.header == header and takes_buffer and is_wanted:
+            written.append(translator(macro, call))
+    return "\n".join(written)
 
 
 def leaves():
@@ -374,23 +416,22 @@ def leaves():
     return "\n".join(parts)
 
 
-def version_of(*command):
+def first_line(*command):
+    """The first line that a command prints."""
+    ended = subprocess.run(command, capture_output=True, text=True, check=True)
+    return ended.stdout.splitlines()[0]
+
+
+def version_of(tool):
     """The version that a tool prints."""
-    return the_one(
-        f"the version of {command[0]}",
-        r"\d+(?:\.\d+)*",
-        subprocess.run(
-            command, capture_output=True, text=True, check=True
-        ).stdout.splitlines()[0],
-    )
+    line = first_line(tool, "--version")
+    return the_one(f"the version of {tool}", r"\d+(?:\.\d+)*", line)
 
 
 def tools():
     """The tools that the file depends on, as it names them."""
-    kit = subprocess.run(
-        ["rt", "version"], capture_output=True, text=True, check=True
-    ).stdout.splitlines()[0]
-    return f"Rattle {kit}, binaryen {version_of(WASM_OPT, '--version')}, wabt {version_of(WASM2C, '--version')}"
+    kit = first_line("rt", "version")
+    return f"Rattle {kit}, binaryen {version_of(WASM_OPT)}, wabt {version_of(WASM2C)}"
 
 
 def head():
@@ -409,37 +450,40 @@ def readme(lines):
     return re.sub(r"(?<=^the )\d+(?= lines of keywrap.c)", str(lines), text, flags=re.M)
 
 
+def template(name):
+    """A part of keywrap.c with places to fill."""
+    return (PARTS / name).read_text()
+
+
+def runtime_with(**texts):
+    """The runtime with these texts in the places of their names."""
+    runtime = template("runtime.c.in")
+    for name, text in texts.items():
+        the_one(f"the place of {name}", rf"^@{name}@$", runtime)
+        runtime = runtime.replace(f"@{name}@", text)
+    return runtime
+
+
 def main(portable, wasm, directory):
     directory = pathlib.Path(directory)
     directory.mkdir(parents=True, exist_ok=True)
     numbers, constants, module = module_of(translated(portable))
     macros = "\n".join(f"#define {name} {value}" for name, value in numbers.items())
-    runtime, calls, steps = [
-        (PARTS / name).read_text()
-        for name in ("runtime.c.in", "calls.c.in", "steps.c.in")
-    ]
-    for name, value in {
-        "HEAD": head(),
-        "NUMBERS": macros,
-        "CONSTANTS": constants[0],
-        "STEPS_CONSTANTS": constants[1],
-    }.items():
-        the_one(f"the place of {name}", rf"^@{name}@$", runtime)
-        runtime = runtime.replace(f"@{name}@", value)
-    one = translators("CALL", "dist/keywrap.h", of_many=False)
-    calls = calls.replace("@CALLS@\n", one + "\n")
+    whole, of_steps = map(array_of, constants)
+    runtime = runtime_with(
+        HEAD=head(), NUMBERS=macros, CONSTANTS=whole, STEPS_CONSTANTS=of_steps
+    )
+    for_one_key = translators("CALL", "dist/keywrap.h", of_many=False)
+    calls = template("calls.c.in").replace("@CALLS@\n", for_one_key + "\n")
     each_step = translators("STEP", "dist/keywrap_steps.h", of_many=True)
-    steps = steps.replace("@CALLS@\n", each_step)
+    steps = template("steps.c.in").replace("@CALLS@\n", each_step)
     aes = leaves()
     (directory / "keywrap.c").write_text(
         f"{runtime}\n{WITH_AES}/*** AES by the processor's instructions ***/\n\n{aes}#endif\n\n"
         f"/*** The module, by wasm2c ***/\n\n{module}\n{WHOLE_ONLY}{calls}#endif\n\n{steps}"
     )
-    lines = sum(
-        part.count("\n")
-        for part in [(PARTS / "runtime.c.in").read_text(), calls, steps, aes]
-    )
-    (directory / "README").write_text(readme(lines))
+    around_module = template("runtime.c.in") + calls + steps + aes
+    (directory / "README").write_text(readme(around_module.count("\n")))
     if pathlib.Path(wasm).resolve() != (directory / "keywrap.wasm").resolve():
         shutil.copyfile(wasm, directory / "keywrap.wasm")
     print(directory)
