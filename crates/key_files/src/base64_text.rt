@@ -57,7 +57,7 @@ pub fn decode_symbols_into(text: &[u8], bytes: &mut Vec<u8>) -> Result<(), FileF
 
 // Decodes a base64 text with blanks anywhere.
 //
-// The first that applies is answered, as by `decode_symbols_into`.
+// Returns the first error that applies, in the order of `decode_symbols_into`.
 #[tactic(auto, unfolding(crate::specs::Base64Text::base64_meaning))]
 pub(crate) fn decode_base64<A: Allocator + Copy>(
     alloc: A,
@@ -105,7 +105,7 @@ pub fn print_base64(alphabet: Alphabet, bytes: &[u8], line: &mut Vec<u8>) -> Res
     Ok(())
 }
 
-// Whether the encoding of the bytes is as long as the output, which then is it.
+// Encodes the bytes into the output. Returns whether their encoding fills it exactly.
 fn fills(alphabet: Alphabet, bytes: &[u8], output: &mut [u8]) -> bool
     ensures whole { result ≡ true → output.new ≡ encode_of (output_encoding alphabet) bytes.now }
     ensures fits { length output.old ≡ encoded_size_of (output_encoding alphabet)
@@ -117,7 +117,7 @@ fn fills(alphabet: Alphabet, bytes: &[u8], output: &mut [u8]) -> bool
     }
 }
 
-// Returns the encoding of output.
+// Returns the encoding in which bytes are written.
 fn output_encoding(alphabet: Alphabet) -> GeneralPurpose
     ensures { SameEngine result (output_encoding alphabet) }
 {
@@ -225,8 +225,8 @@ fn is_url_safe(c: u8) -> bool
     c == b'-' || c == b'_'
 }
 
-// Returns the encoding of a text, from its alphabet and its padding.
-// Each arm returns: after a join the tables of the engine would have to be proved again.
+// Returns the encoding of a text, by its alphabet and its padding. Each arm has its own `return`:
+// after a join the tables of the engine would have to be proved again.
 fn encoding_of(text: &[u8]) -> GeneralPurpose
     ensures { SameEngine result (encoding_of text.now) }
 {

@@ -41,8 +41,8 @@ pub fn decode_hex<A: Allocator + Copy>(alloc: A, text: &[u8]) -> Result<Vec<u8, 
     }
 }
 
-/// Replaces `bytes` with the bytes that a text of digits only denotes, decoded into the room that
-/// `bytes` has.
+/// Replaces `bytes` with the bytes that a text of digits denotes, without blanks. Allocates only if
+/// `bytes` is too small.
 ///
 /// Returns the first error that applies: BadDigit, OddDigits, Memory.
 #[tactic(auto, unfolding(crate::specs::FileMeaning::digit_text_meaning))]
@@ -63,8 +63,8 @@ pub fn decode_digits_into<A: Allocator>(
     }
 }
 
-// Whether the text has only digits, two for each of the bytes, which they then spell. It is read to
-// its end, so that no branch depends on a digit.
+// Decodes a text of digits into `bytes`, and returns whether it has only digits, two for each byte.
+// It is read to its end, so that no branch depends on a digit.
 fn decode_strict(text: &[u8], bytes: &mut [u8]) -> bool
     ensures { result ≡ true → digit_text_meaning text.now ≡ Ok bytes.new }
 {

@@ -15,7 +15,7 @@ use std::io::Read;
 /// The largest size of a file of the command, in bytes.
 pub const MAX_FILE: usize = 4_194_304;
 
-// A law that ties the constant to the number that definitions write.
+// A law: the constant is the number that the definitions use.
 fn max_file_value()
     ensures { MAX_FILE ≡ 4194304 }
 {}
@@ -42,7 +42,7 @@ pub fn read_raw<A: Allocator, R: Read>(
     let mut chunk = [0; CHUNK];
     loop {
         let room = (limit + 1 - bytes.len()).min(CHUNK);
-        let count = read_some(reader, &mut chunk[..room])?;
+        let count = read_once(reader, &mut chunk[..room])?;
         if count == 0 {
             return Ok(bytes);
         }
@@ -53,8 +53,8 @@ pub fn read_raw<A: Allocator, R: Read>(
     }
 }
 
-// Makes one read into the front of `buf`.
-fn read_some<R: Read>(reader: &mut R, buf: &mut [u8]) -> Result<usize, FileFault>
+// Reads once into the front of `buf`, and returns the number of bytes.
+fn read_once<R: Read>(reader: &mut R, buf: &mut [u8]) -> Result<usize, FileFault>
     ensures within { IfOk result (λ count. count ≤ length buf.new) }
     ensures taken { IfOk result (λ count. Consumes (R.remaining reader.old) (R.remaining reader.new)
         (take count buf.new)) }
@@ -87,8 +87,8 @@ pub fn read_hex<A: Allocator + Copy, R: Read>(
 /// `limit` counts the bytes of the file.
 ///
 /// The file is read as [`read_raw`] reads it: Read and Memory are returned when they occur. A whole
-/// file is refused for the first of these that applies: TooLong, a Character, BehindPadding, the
-/// Length, TrailingBits.
+/// file is refused with the first of these faults that applies: TooLong, BadCharacter,
+/// BehindPadding, BadBase64Length, TrailingBits.
 pub fn read_base64<A: Allocator + Copy, R: Read>(
     alloc: A,
     reader: &mut R,

@@ -20,7 +20,7 @@ enum Notation {
     Hex,
 }
 
-// Whether an answer is these bytes, or this fault.
+// Returns whether an answer is these bytes, or this fault.
 fn is_answer<A: Allocator>(
     answer: Result<Vec<u8, A>, FileFault>,
     want: Result<&[u8], FileFault>,
@@ -31,10 +31,11 @@ fn is_answer<A: Allocator>(
     }
 }
 
-// The first byte; each other is the one before it times the second number and the third.
+// A content: its first byte, a factor and a step. Each next byte is the one before it times the
+// factor, plus the step.
 const COUNTING: [u8; 3] = [0, 1, 1];
 
-// So many bytes of a content.
+// Returns this many bytes of a content.
 fn filled(alloc: Global, content: [u8; 3], len: usize) -> Result<Vec<u8>, AllocError> {
     let [mut byte, factor, step] = content;
     let mut bytes = Vec::new(alloc);

@@ -17,7 +17,7 @@ pub enum LineFault<R> {
     Refused(R),
     /// An allocation failed.
     Memory,
-    /// There were so many lines that none after it would have a number.
+    /// The line is past the largest number of lines of a run, 2^64 - 2.
     TooManyLines,
 }
 

@@ -24,7 +24,7 @@ pub trait LineJob {
     /// The answers to the bytes of a line: a text with its note, or a refusal.
     ghost answers: { Self → List ℕ → Result Answer Self.Refusal → Type 0 };
 
-    /// The bytes for whose answer memory may be lacking.
+    /// The bytes for which the job may return Memory in place of an answer.
     ghost may_lack_memory: { Self → List ℕ → Type 0 } = { λ _ _. ⊤ };
 
     /// Replaces `output` with the answer to `bytes` and an LF. Returns the note on the answer.

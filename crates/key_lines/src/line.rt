@@ -12,15 +12,15 @@ use std::alloc::Allocator;
 // How a part of a line ended.
 #[derive(Clone, Copy)]
 pub(crate) enum Part {
-    // The reader has more, or has ended.
+    // It did not end in the bytes that the reader showed.
     More,
-    // The LF that ends it.
+    // An LF ended it.
     Ended,
-    // The end of the reader.
+    // The reader was at its end.
     Missing,
 }
 
-// What follows where the next line would begin.
+// What a reader has where the next line would begin.
 #[derive(Clone, Copy, PartialEq)]
 pub(crate) enum Line {
     // A line that an LF ends.

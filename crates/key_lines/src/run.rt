@@ -29,7 +29,7 @@ const MAX_LINES: u64 = u64::MAX - 1;
 pub struct RunOptions {
     /// The notation of the lines.
     pub notation: TextNotation,
-    /// The run continues after a line that is refused for its content.
+    /// Whether the run continues after a line that is refused for its content.
     pub keep_going: bool,
 }
 
@@ -75,8 +75,8 @@ impl<J: LineJob> LineRun<J> {
             (R.remaining input.old) (R.remaining input.new)
             (W.contents out.old) (W.contents out.new)
             (L.received log.old) (L.received log.new) result }
-        // What was written are the answers to the first lines of the input, in order: to all of
-        // them, or to those before the line at which the call stopped.
+        // The call wrote the answers to the first lines of the input, in order: to all lines, or to
+        // the lines before the one at which it stopped.
         ensures headline { IfSome (R.remaining input.old) (λ text. WritesAnswers self.now.options
             (J.answers self.now.job) text (W.contents out.old) (W.contents out.new) result) }
         // Laws of the notation: a line that denotes bytes denotes them as a file, too. What is
@@ -153,8 +153,8 @@ impl<J: LineJob> LineRun<J> {
         }
     }
 
-    // Answers the next line, if there is one, in the block. This may wait for the line, so until then
-    // no answer may be held back.
+    // Adds the answer to the next line, if there is one, to the block. The call may wait for the line,
+    // and the block must have no answer that is held back meanwhile.
     fn next<L: RefusalLog<J::Refusal>, R: LineSource>(
         &self,
         summary: &mut RunSummary<J::Refusal>,

@@ -15,7 +15,7 @@ pub enum TextNotation {
     /// Base64 (RFC 4648). Either alphabet is read, with padding or without it. The alphabet of
     /// section 4 is written, with padding.
     Base64,
-    /// The same, but the alphabet of section 5 is written, without padding.
+    /// Read as `Base64` is. The alphabet of section 5 is written, without padding.
     Base64Url,
 }
 
@@ -65,7 +65,7 @@ fn fault_behind(before: usize, fault: FileFault) -> FileFault
     }
 }
 
-// The bytes between the blanks at the ends of a line.
+// Returns the bytes between the blanks at the ends of a line.
 fn text_of(line: &[u8]) -> &[u8]
     ensures { result.now ≡ text_of line.now }
 {
@@ -73,7 +73,7 @@ fn text_of(line: &[u8]) -> &[u8]
     &rest[..rest.len() - blanks_behind(rest)]
 }
 
-// How many blanks a line begins with.
+// Returns the number of blanks at the start of a line.
 fn blanks_before(line: &[u8]) -> usize
     ensures count { result ≡ prefix_len is_blank line.now }
     ensures bound { result ≤ length line.now }
@@ -81,7 +81,7 @@ fn blanks_before(line: &[u8]) -> usize
     line.iter().take_while(|c| is_blank(**c)).count()
 }
 
-// How many blanks it ends with.
+// Returns the number of blanks at the end of a line.
 fn blanks_behind(line: &[u8]) -> usize
     ensures count { result ≡ suffix_len is_blank line.now }
     ensures bound { result ≤ length line.now }
@@ -89,7 +89,7 @@ fn blanks_behind(line: &[u8]) -> usize
     line.iter().rev().take_while(|c| is_blank(**c)).count()
 }
 
-// Space, tab and CR.
+// Returns whether a byte is a space, a tab or a CR.
 fn is_blank(c: u8) -> bool
     ensures { result ≡ is_blank c }
 {

@@ -160,7 +160,7 @@ fn form(args: &Args<'_>, padded: &str) -> Form
     }
 }
 
-// Clap refuses two of these flags.
+// Clap refuses two of these flags together.
 fn text_notation(args: &Args<'_>) -> TextNotation
     ensures { IsTextNotation args.now result }
 {

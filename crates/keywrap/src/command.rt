@@ -35,14 +35,14 @@ pub struct Run<'a> {
     pub input: Option<&'a str>,
     /// The output file. `None` means standard output.
     pub output: Option<&'a str>,
-    /// With `--lines`, no progress is shown.
+    /// Whether the progress of `--lines` is hidden.
     pub quiet: bool,
-    /// A refusal has a second line, also if standard error is not a terminal.
+    /// Whether a refusal has a second line even if standard error is not a terminal.
     pub verbose: bool,
 }
 
 impl<'a> Run<'a> {
-    /// Whether the output is raw bytes. A check writes a line.
+    /// Returns whether the output is raw bytes. A check writes a line.
     pub fn writes_raw(&self) -> bool
         ensures { IsTrue result
             ↔ (¬ IsCheck self.now.operation.what × (input_notation self.now.how ≡ Notation.Raw)) }

@@ -18,7 +18,7 @@ use keywrap_cli::{Conversion, JobFault, Keks, Notation, ProgramFault, What};
 use keywrap_io::{FileRole, Inspected, Inspection, Reason};
 use std::fmt;
 
-// The reason for a key that no plain key can be.
+// The reason for a key whose length no plain key has.
 const KEY_NOT_PLAIN: &str =
     "its key cannot be wrapped in the plain form: 16 bytes or more, a multiple of 8";
 
@@ -123,7 +123,7 @@ fn kek_reason(notation: Notation, fault: FileFault, kek: &Inspection) -> Reason 
     file_reason(notation, fault, kek, kek_notation_hint(notation, kek))
 }
 
-// The hint is on a file that is not in this notation.
+// Returns the reason for a fault of a file. The hint is for a file that is not in this notation.
 fn file_reason(
     notation: Notation,
     fault: FileFault,

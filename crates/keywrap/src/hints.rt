@@ -72,8 +72,8 @@ pub fn raw_input_hint(notation: Notation, input: &Inspection) -> Option<&'static
     }
 }
 
-/// Returns the likely mistake in an input that was wrapped as one key. A raw key that looks like
-/// base64 is none: it may be a password.
+/// Returns the likely mistake in an input that was wrapped as one key. Raw bytes that look like
+/// base64 are not taken for a mistake: they may be a password.
 pub fn wrapped_key_hint(notation: Notation, key: &Inspection) -> Option<Reason> {
     match (notation, key.content()) {
         (Notation::Raw, Content::Hex) => Some(Reason::Text(OMIT_RAW)),

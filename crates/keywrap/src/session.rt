@@ -28,7 +28,7 @@ pub struct Session<'a, R> {
     rt: &'a R,
     run: &'a Run<'a>,
     streams: Streams,
-    // A refusal has a second line, and warnings are printed.
+    // Whether a refusal has a second line, and warnings are printed.
     explains: bool,
 }
 

@@ -10,15 +10,15 @@ const SUBCOMMANDS: &str = "the first argument is wrap, unwrap, rewrap, check, dr
 
 const OPTIONS: &str = "files are named by options: --kek FILE, --input FILE, --output FILE";
 
-// Clap finds another option more similar to this one.
+// Clap's refusal of `--in`, for which it would propose an option that is not `--input`.
 const NOT_INPUT: &str = "error: unexpected argument '--in' found";
 
 const INPUT: &str = "a similar argument exists: '--input'";
 
-// The usage begins here in a message of clap.
+// The text before the usage in a message of clap.
 const USAGE: &str = "\n\nUsage: ";
 
-// A hint begins here.
+// The text before a hint.
 const TIP: &str = "\n\n  tip: ";
 
 /// Returns the message for arguments that clap refused, with a hint if clap gives none. A terminal
@@ -44,12 +44,12 @@ fn with_hint(alloc: Global, args: &[String], error: &Error) -> Result<String, Al
         return Err(AllocError);
     }
     let text = format!(in alloc; "{error}")?;
-    let Some((said, usage)) = text.as_str().split_once(USAGE) else {
+    let Some((before_usage, usage)) = text.as_str().split_once(USAGE) else {
         return Ok(text);
     };
-    let (refusal, tip) = match said.split_once(TIP) {
+    let (refusal, tip) = match before_usage.split_once(TIP) {
         Some((refusal, tip)) => (refusal, Some(tip)),
-        None => (said, None),
+        None => (before_usage, None),
     };
     match hint(args, error.kind(), refusal, tip) {
         Some(hint) => format!(in alloc; "{refusal}{TIP}{hint}{USAGE}{usage}"),

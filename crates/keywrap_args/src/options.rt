@@ -17,9 +17,9 @@ pub(crate) struct Argument<'a> {
 // The subcommands that have an argument.
 #[derive(Clone, Copy)]
 pub(crate) enum Users {
-    // Those that read a KEK.
+    // The subcommands that read a KEK.
     Keyed,
-    // Those to which the form is given.
+    // The subcommands with an option for the form.
     Formed,
     Unwrap,
     Rewrap,
@@ -94,7 +94,7 @@ impl<'a> Argument<'a> {
     }
 }
 
-// A flag, or with further fields another argument.
+// Makes an argument. It is a flag, unless the further fields give it a value.
 macro_rules! argument {
     ($users:ident: $id:expr, $help:expr $(, $field:ident: $value:expr)*) => {
         Argument {
@@ -127,8 +127,8 @@ static ARGUMENTS: [Argument<'static>; 22] = [
     },
     argument!(Formed: "padded", "The padded form of RFC 5649 (KWP): keys of any length"),
     argument!(Rewrap: "new-padded", "The new one gets the padded form of RFC 5649"),
-    // The padded form has its own initial value. Clap ignores the arguments that a subcommand
-    // lacks.
+    // The padded form has its own initial value. Clap ignores a conflict with an argument that the
+    // subcommand lacks.
     argument! {
         Keyed: "iv", "The initial value both ends agreed on, 16 hex digits",
         value: Value::Iv, conflicts: &["padded", "keep-form"]

@@ -47,8 +47,8 @@ pub fn arguments<R: Env + AllocGlobal>(rt: &R) -> Result<Vec<String>, ParseStop>
         Ok(args) => Ok(args.collect::<Vec<String>>(rt.alloc())?),
         Err(error) if error.kind() == io::ErrorKind::OutOfMemory => Err(ParseStop::Memory),
         Err(_) => {
-            let said = "invalid UTF-8 was detected in one or more arguments";
-            Err(refusal(rt.alloc(), said)?)
+            let cause = "invalid UTF-8 was detected in one or more arguments";
+            Err(refusal(rt.alloc(), cause)?)
         }
     }
 }
@@ -129,19 +129,19 @@ impl<'a> Args<'a> {
         if name != "-" {
             return Ok(name);
         }
-        let said = format!(in self.alloc;
+        let cause = format!(in self.alloc;
             "invalid value '-' for '--{option} <FILE>'\n\n  tip: a KEK on standard input is \
              --{option} /dev/stdin; a file of this name is ./-"
         )?;
-        Err(refusal(self.alloc, said.as_str())?)
+        Err(refusal(self.alloc, cause.as_str())?)
     }
 }
 
-// A refusal that clap does not know, in clap's form.
-fn refusal(alloc: Global, said: &str) -> Result<ParseStop, AllocError>
+// Returns a refusal that clap does not make, in the form of clap's messages.
+fn refusal(alloc: Global, cause: &str) -> Result<ParseStop, AllocError>
     ensures { IfOk result (λ stop. IsRefusal stop) }
 {
-    Ok(ParseStop::Usage(format!(in alloc; "error: {said}{USAGE}")?))
+    Ok(ParseStop::Usage(format!(in alloc; "error: {cause}{USAGE}")?))
 }
 
 const USAGE: &str = "\n\nUsage: keywrap <COMMAND>\n\nFor more information, try '--help'.\n";

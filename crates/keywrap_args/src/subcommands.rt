@@ -115,7 +115,8 @@ pub(crate) fn definitions() -> &'static [Definition<'static>] {
 }
 
 impl<'a> Definition<'a> {
-    // With this display name the `--version` of a subcommand prints the program's.
+    // Returns the subcommand as clap takes it. With this display name its `--version` prints the name
+    // of the program.
     fn to_clap(self, alloc: Global) -> Result<Command<'a>, AllocError> {
         let arguments = self.subcommand.arguments(alloc)?;
         Command::new(alloc, self.name)

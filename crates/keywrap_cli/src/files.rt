@@ -1,4 +1,4 @@
-//! The notations of files: reads a file, and prints bytes for one.
+//! The notations of files: reads a file in a notation, and prints bytes in one.
 
 ghost use Rattle.std.specs.Prelude.{◌≡◌, OnOk};
 ghost use Rattle.key_files.specs.FileReading.{answer_of};
@@ -23,7 +23,7 @@ pub enum Notation {
     /// Base64 (RFC 4648). Either alphabet is read, with or without padding. The alphabet of section
     /// 4 is written, with padding.
     Base64,
-    /// The same, but the alphabet of section 5 is written, without padding.
+    /// Read as `Base64` is. The alphabet of section 5 is written, without padding.
     Base64Url,
 }
 

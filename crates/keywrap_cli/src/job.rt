@@ -179,7 +179,8 @@ pub fn run_rewrap<K: Read, N: Read, R: Read, W: Write>(
     }
 }
 
-// Returns the fault in which both lengths, of the wrapped key and of its key, have one cause.
+// Returns BadLength for KeyNotPlain, too: the calls here name one cause for both lengths, of the
+// wrapped key and of its key.
 fn without_cause(fault: JobFault) -> JobFault
     ensures { result ≡ fault_without_cause fault }
 {

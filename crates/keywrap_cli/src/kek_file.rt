@@ -33,7 +33,7 @@ pub enum KekRole {
 pub struct Ciphers {
     pub kek: Aes,
     pub new_kek: Option<Aes>,
-    /// Whether there are two KEKs, which are the same key.
+    /// Whether there is a new KEK that is the same key as the KEK.
     pub same: bool,
 }
 

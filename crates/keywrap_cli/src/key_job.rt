@@ -116,7 +116,8 @@ impl<B: BlockPair> KeyJob<B> {
         }
     }
 
-    // Prints the answer in `output`, without a note. `bytes` is room for it.
+    // Replaces the bytes in `output` with their text in the notation, and returns no note. `bytes` is
+    // used as a buffer.
     fn print(&self, bytes: &mut Vec<u8>, output: &mut Vec<u8>) -> Result<Note, LineFault<Refusal>>
         ensures { IsPrinted self.now.notation output.old.items output.new.items result }
     {

@@ -16,7 +16,7 @@ pub enum Done {
 #[derive(Clone, Copy)]
 pub struct Outcome<T> {
     pub result: T,
-    /// Whether there are two KEKs, which are the same key.
+    /// Whether there is a new KEK that is the same key as the KEK.
     pub same_kek: bool,
 }
 
@@ -28,7 +28,7 @@ pub enum JobFault {
     KekFile(FileFault),
     #[error("key length is not 16, 24 or 32 bytes")]
     KekLength,
-    /// The same for the new KEK file of a rewrapping.
+    /// The new KEK file of a rewrap cannot be read, is too long, or does not decode.
     #[error("new key file: {0}")]
     NewKekFile(FileFault),
     #[error("new key length is not 16, 24 or 32 bytes")]

@@ -11,7 +11,8 @@ use crate::what::What;
 use key_lines::{RefusedLine, RunSummary};
 use key_wrap_core::Refusal;
 
-/// Returns the exit status of a run over a whole input.
+/// Returns the exit status of a run over a whole input: 0 if the answer was written, and 5 if a
+/// check found no wrapping and wrote `none`.
 pub fn done_status(done: Done) -> u8
     ensures done { (result ≡ 0) ↔ (done ≡ Done.Written) }
     ensures neither { (result ≡ 5) ↔ (done ≡ Done.Neither) }
@@ -22,8 +23,9 @@ pub fn done_status(done: Done) -> u8
     }
 }
 
-/// Returns the exit status of a run over lines: the status of the first refused line. A check notes
-/// the lines for which it found no key. A run over no lines is refused.
+/// Returns the exit status of a run over lines: 4 if there are no lines, or else the status of the
+/// first refused line. If no line was refused, the status is 5 if a check found no wrapping in one
+/// of the lines, and 0 otherwise.
 pub fn lines_status(what: &What, summary: &RunSummary<Refusal>) -> u8
     ensures done { (result ≡ 0) ↔ EndsWell what.now summary.now }
     ensures no_lines { summary.now.lines ≡ 0 → result ≡ 4 }

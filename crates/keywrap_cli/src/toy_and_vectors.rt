@@ -77,7 +77,7 @@ pub fn write_help<W: Write>(text: &str, out: &mut W) -> Result<u8, ProgramFault>
     flush(out, statuses::DONE)
 }
 
-// Flushes the output, and returns the status of a call without a fault.
+// Flushes the output, and returns this status if that succeeds.
 fn flush<W: Write>(out: &mut W, status: u8) -> Result<u8, ProgramFault>
     ensures status { IfOk result (λ answer. answer ≡ status) }
     ensures fault { IfErr result (λ fault. fault ≡ ProgramFault.Flush) }

@@ -32,7 +32,8 @@ pub enum Conversion {
     Wrap(AgreedForm),
     /// The input is a wrapped key in this form, and the output the key.
     Unwrap(AgreedForm),
-    /// The same for a wrapped key in either form. The plain form has this initial value.
+    /// The input is a wrapped key in either form, and the output the key. The plain form has this
+    /// initial value.
     UnwrapAny(InitialValue),
 }
 
@@ -46,7 +47,7 @@ pub enum How {
 }
 
 impl What {
-    /// Whether this is a check, whose output is a line in any notation.
+    /// Returns whether this is a check, whose output is a line in any notation.
     pub fn is_check(&self) -> bool
         ensures { IsTrue result ↔ IsCheck self.now }
     {
@@ -56,7 +57,7 @@ impl What {
         }
     }
 
-    /// Whether this is a rewrap that changes neither the form nor the initial value.
+    /// Returns whether this is a rewrap that changes neither the form nor the initial value.
     pub fn keeps_form(&self) -> bool
         ensures { IsTrue result ↔ KeepsForm self.now }
     {

@@ -1,4 +1,5 @@
-//! The files and standard streams of a run, as contracts see them, and those of the system.
+//! The trait [`Disk`]: the files and standard streams of a run, whose bytes contracts name. The
+//! program runs on [`SystemDisk`], the files and standard streams of the system.
 
 ghost use Rattle.std.specs.Prelude.{◌≡◌, ℕ, List, Option, None, Some, IfErr, IfSome, MatchResult, OnErr, OnOk};
 ghost use Rattle.keywrap_io.specs.Places.{IsEmpty, IsOldOrNew, KeepsFiles, KeepsOthers, place};
@@ -15,14 +16,14 @@ use std::rt::Files;
 
 /// The files and standard streams of a run. A file has a name, and a standard stream has none.
 ///
-/// Another run may change the same files. The ghost members then say what this run finds.
+/// Another process may change the same files. The ghost members then describe what this run finds.
 pub trait Disk {
     /// A file that is open to be read, or standard input.
     type Source: Read + Drop;
     /// A new file without its name yet, or standard output.
     type Target: Write + Drop;
 
-    /// Whoever opens this file to read it, or standard input, can read these bytes.
+    /// These bytes can be read from this file, or from standard input.
     ghost reads: { Self → Option (List ℕ) → Option (List ℕ) → Type 0 };
 
     /// This file cannot be opened to be read.
@@ -42,7 +43,7 @@ pub trait Disk {
     fn occupy_closed(&self, streams: Streams) -> Result<Occupied, LostStream>
         ensures { IfErr result (λ lost. cannot_occupy self.now lost) };
 
-    /// Opens a file to read it, or standard input without a name.
+    /// Opens the file of this name to read it, or standard input if there is no name.
     fn open(&self, name: Option<&str>) -> io::Result<Self::Source>
         ensures { MatchResult result
             (λ source. reads self.now (place name.entry) (Self.Source.remaining source))
@@ -82,8 +83,9 @@ pub trait Disk {
         ensures { KeepsFiles (holds self.old) (holds self.new) };
 }
 
-/// The files and standard streams of the system. No contract knows their bytes, so nothing is said
-/// of them: that each method does what its contract in [`Disk`] says is only tested.
+/// The files and standard streams of the system. No contract of the toolchain states their bytes, so
+/// the ghost members are true of any bytes. Only tests show that each method does what its contract
+/// in [`Disk`] says.
 #[derive(Drop)]
 pub struct SystemDisk<'a, R> {
     pub rt: &'a R,

@@ -6,7 +6,7 @@ ghost use Rattle.std.specs.Prelude.{◌≡◌};
 use crate::line_lengths::LineLengths;
 use std::io::{self, Read, Write};
 
-/// What was read from a file or written to it.
+/// Counts of the bytes that were read from a file or written to it, and the system's last error.
 #[derive(Clone, Copy, Default)]
 pub struct Inspection {
     /// The bytes that were read or written.
@@ -15,11 +15,11 @@ pub struct Inspection {
     pub hex_digits: u64,
     /// The bytes read that are base64 characters in either alphabet, without padding.
     pub base64: u64,
-    // Those of them that only base64url has.
+    // The bytes read that are `-` or `_`, which base64url has and base64 has not.
     url_signs: u64,
     // The bytes read that are base64 padding or end a line.
     fill: u64,
-    // The bytes read that ASCII text does not have.
+    // The bytes read that do not occur in ASCII text.
     binary: u64,
     line_lengths: LineLengths,
     // Whether the last byte read is a newline.
@@ -28,34 +28,34 @@ pub struct Inspection {
     pub os_error: Option<i32>,
 }
 
-/// What the bytes of a file look like.
+/// The notation in which the bytes of a file seem to be.
 #[derive(Clone, Copy)]
 pub enum Content {
     /// Hex digits.
     Hex,
-    /// Base64, with no character that only base64url has.
+    /// Base64, without `-` and `_`.
     Base64,
-    /// Base64url, with a character that base64 lacks.
+    /// Base64url, with `-` or `_`, which base64 has not.
     Base64Url,
     /// Some other text, or no bytes.
     Text,
-    /// Bytes that ASCII text does not have.
+    /// Some of the bytes do not occur in ASCII text.
     Binary,
 }
 
-/// A file, and what was read from it or written to it.
+/// A file, with an inspection of the bytes that are read from it or written to it.
 #[derive(Drop)]
 pub struct Inspected<F> {
     /// The file.
     pub file: F,
-    /// What was read or written.
+    /// The inspection of the bytes so far.
     pub inspection: Inspection,
-    // Whether the kinds of the bytes are counted.
+    // Whether the bytes of each kind are counted.
     counts: bool,
 }
 
 impl<F> Inspected<F> {
-    /// Inspects this file. The kinds of the bytes are counted only if `counts` is set.
+    /// Starts the inspection of a file. The bytes of each kind are counted only if `counts` is set.
     pub fn new(file: F, counts: bool) -> Self
         ensures { result.file ≡ file }
     {
@@ -68,7 +68,7 @@ impl<F> Inspected<F> {
 }
 
 impl Inspection {
-    /// Returns what the bytes look like. Line ends and base64 padding do not matter.
+    /// Returns the notation in which the bytes seem to be. Line ends and base64 padding are ignored.
     pub fn content(&self) -> Content {
         let symbols = self.bytes.saturating_sub(self.fill);
         if self.binary > 0 {

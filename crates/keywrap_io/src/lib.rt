@@ -1,7 +1,8 @@
-//! The files and streams of the command `keywrap`: what was read of a file, the reason of a
-//! refusal, the output file and the files that it must not replace, and the progress of a run. The
-//! readers and writers pass the bytes of the files and streams below them unchanged. `Disk` says
-//! what a run may rely on. No contract covers the rest: the tests of the program do.
+//! The files and streams of the command `keywrap`: the inspection of the bytes that are read, the
+//! reason of a refusal, the output file and the files that it must not replace, and the progress of
+//! a run. The readers and writers pass on the bytes of the files and streams below them unchanged.
+//! The contracts of `Disk` state what a run may rely on. The rest has no contracts, and is tested
+//! with the program.
 #![tactic(auto)]
 
 mod disk;

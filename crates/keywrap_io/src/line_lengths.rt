@@ -8,7 +8,7 @@ pub(crate) struct LineLengths {
     // The number of lines that ended and are not empty, and the length of the first of them.
     lines: u64,
     first: u64,
-    // Whether another one has another length.
+    // Whether a later line that is not empty has another length.
     differ: bool,
 }
 

@@ -27,7 +27,7 @@ impl<W: Write> Output<W> {
         match (self, name) {
             (Output::File(file), Some(name)) => file.commit(rt, name),
             (Output::Stdout(out), None) => Ok(out.flush()?),
-            // No run asks for this.
+            // The output of a run is a file exactly if it has a name.
             (Output::File(_), None) | (Output::Stdout(_), Some(_)) => Err(Reason::NameOnly),
         }
     }

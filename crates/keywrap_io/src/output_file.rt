@@ -8,7 +8,7 @@ use std::io;
 use std::os::unix::fs::{MetadataExt, OpenOptionsExt, PermissionsExt, fchown};
 use std::rt::Files;
 
-// The new file has one of this many names until it is whole.
+// Until the new file is whole, it has a temporary name. This many names are tried.
 const MAX_TEMPORARIES: u8 = 100;
 
 // The permission bits of a mode, and the permission bits for users other than the owner.
@@ -25,7 +25,7 @@ pub enum Access {
     LikeOld,
 }
 
-/// A new file, which replaces the old file, if any, once it is whole.
+/// A new file. Once it is whole, it replaces the old file, if there is one.
 #[derive(Drop)]
 pub struct OutputFile<F = File> {
     /// The new file.
@@ -57,8 +57,8 @@ impl OutputFile {
         Err(Reason::OwnershipNotKept(error))
     }
 
-    /// Renames the new file, which is whole, to the name that it was made for, and syncs its
-    /// directory.
+    /// Syncs the new file, which is whole, renames it to the name that it was made for, and syncs
+    /// its directory.
     pub fn commit<R: Files<File = File>>(&self, rt: &R, name: &str) -> Result<(), Reason> {
         if let Err(reason) = self.replace_target(rt, name) {
             self.discard(rt);

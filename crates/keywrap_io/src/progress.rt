@@ -16,7 +16,7 @@ const CLEAR: &str = "\r\x1b[K";
 #[derive(Drop)]
 pub struct Progress<'a, R> {
     rt: &'a R,
-    // When the run started. Without it nothing is shown.
+    // When the run started, or `None` if no progress is shown.
     start: Option<Duration>,
     state: Cell<State>,
     // Whether the terminal has the line now.
@@ -76,7 +76,7 @@ impl<'a, R: Eprint + Clock + Env + AllocGlobal> Progress<'a, R> {
         }
     }
 
-    /// Writes another line on standard error, in place of the progress.
+    /// Removes the progress, and writes another line on standard error.
     pub fn print_line<D: fmt::Display + Drop>(&self, line: D) {
         self.clear();
         // Nothing is left to do if standard error is closed.
@@ -110,7 +110,7 @@ impl fmt::Display for State {
     }
 }
 
-/// A reader that counts the bytes for the progress.
+/// A reader that counts the bytes that it reads, for the progress.
 #[derive(Drop)]
 pub struct CountingReader<'i, 'p, 'r, I, R> {
     pub input: &'i mut I,

@@ -16,7 +16,7 @@ pub struct Protected {
     pub input: Option<FileId>,
 }
 
-/// Which file of the system this is.
+/// The identity of a file of the system.
 #[derive(Clone, Copy)]
 pub enum FileId {
     /// The file with these numbers.

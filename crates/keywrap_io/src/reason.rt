@@ -15,10 +15,10 @@ pub enum Reason {
     /// The output file cannot have the owner, group and mode that it should, with the system's
     /// error, if there was one.
     OwnershipNotKept(Option<i32>),
-    /// The length in bytes is not legal. The text names the legal lengths, and the other one is a
-    /// hint.
+    /// The length in bytes is not legal. The first text names the legal lengths, and the second one
+    /// is a hint.
     Length(u64, &'static str, Option<&'static str>),
-    /// The length in bytes is more than this text and number allow.
+    /// The length in bytes is more than the last number. The text names what has this limit.
     TooLong(u64, &'static str, usize),
     /// More than this number of bytes.
     MoreThan(usize),

@@ -36,7 +36,7 @@ impl StreamKind {
 // The error of a descriptor that is not open.
 const EBADF: i32 = 9;
 
-/// Looks at a stream: a closed descriptor cannot be duplicated.
+/// Returns what a standard stream is. A closed descriptor cannot be duplicated.
 pub fn stream_kind<S: AsFd + IsTerminal>(stream: &S) -> StreamKind {
     if stream.is_terminal() {
         return StreamKind::Terminal;
@@ -111,7 +111,7 @@ impl<I> InputSource<I> {
     }
 }
 
-/// Opens a file to read it, or standard input without a name.
+/// Opens the file of this name to read it, or standard input if there is no name.
 pub fn open<R: Input + Files<File = File>>(
     rt: &R,
     name: Option<&str>,

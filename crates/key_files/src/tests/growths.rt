@@ -1,5 +1,5 @@
-//! Heaps of every size, so that each allocation in turn is the first that is refused: the answer is
-//! Memory, or the one that there is with ample memory.
+//! Heaps of every size, so that each allocation in turn is the first that is refused. The result is
+//! Memory, or the same as with ample memory.
 
 use super::is_answer;
 use crate::base64_text::decode_base64;
@@ -50,7 +50,8 @@ fn refuses_each_growth(rt: HostRuntime) -> Result<(), Fail> {
     Ok(())
 }
 
-// Says that these bytes are answered in a heap that can hold the digits, and Memory in a smaller.
+// Checks that the result is these bytes in a heap that can hold the digits, and Memory in a smaller
+// one.
 fn is_met<A: Allocator>(
     rt: &impl Abort,
     answer: Result<Vec<u8, A>, FileFault>,

@@ -29,8 +29,8 @@ fn read(
     }
 }
 
-// Says that a file of up to `size` bytes a read is read as wanted, to its end, or to one byte past
-// the limit.
+// Checks that a file, with reads of at most `size` bytes, is read as wanted: to its end, or to one
+// byte past the limit.
 pub(super) fn reads(
     rt: &impl Abort,
     alloc: Global,

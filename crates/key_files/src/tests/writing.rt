@@ -27,8 +27,8 @@ fn write(
     }
 }
 
-// Says that bytes go out as this file, or as its first `room` bytes, which the fault counts, and
-// that no write is made after it. The flush is left to the caller.
+// Checks that bytes are written as this file, or as its first `room` bytes, which the fault counts,
+// and that no write is made after the fault. The caller has to flush.
 pub(super) fn writes(
     rt: &impl Abort,
     alloc: Global,

@@ -23,7 +23,7 @@ const BASE64_TO_END: RunOptions = RunOptions {
     keep_going: true,
 };
 
-// Runs the job of the tests. Returns how many lines were answered, or the fault.
+// Runs the job of the tests. Returns the number of answered lines, or the fault.
 fn run<R: LineSource, W: Write>(
     alloc: Global,
     options: RunOptions,
@@ -35,7 +35,7 @@ fn run<R: LineSource, W: Write>(
     Ok(summary.lines)
 }
 
-// How many lines are answered, or the line at which the run stops, with its fault.
+// The number of answered lines, or the line at which the run stops, with its fault.
 type Wanted = Result<u64, (u64, LineFault<u8>)>;
 
 fn result_of(wanted: Wanted) -> Result<u64, RunFault<u8>> {
@@ -131,8 +131,8 @@ fn takes_blanks_at_the_ends_alone(rt: HostRuntime) -> Result<(), Fail> {
     Ok(())
 }
 
-// The text, what a run that goes on answers and writes, how many refusals it tells, and the last of
-// them: its line, and why.
+// The text; the summary and the output of a run that continues after refusals; the number of its
+// refusals; and the last one: its line, and its fault.
 static PASSED: [(&[u8], Wanted, &[u8], u64, Option<RefusedLine<u8>>); 4] = [
     (b"00\n01", Ok(2), b"00\n01\n", 0, None),
     (

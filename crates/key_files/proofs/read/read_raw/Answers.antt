@@ -18,8 +18,8 @@ returns-then-count-limit g c =
     let kept = c.loop-bytes.invariant in
     let read = c.in_ok-count.ensures in
     let held = c.loop-bytes.bytes.ok.0 in
-    let taken : List ℕ = c.loop-bytes.bytes.items ++ take c.in_ok-count.count c.read_some.new.buf in
-    let room : length c.read_some.new.buf ≤ c.min-room.result = rw (c.read_some.auto.buf, length-take) (omega arith) in
+    let taken : List ℕ = c.loop-bytes.bytes.items ++ take c.in_ok-count.count c.read_once.new.buf in
+    let room : length c.read_once.new.buf ≤ c.min-room.result = rw (c.read_once.auto.buf, length-take) (omega arith) in
     let past : length taken ≡ c.args.limit + 1 = simp (length-append, length-take) (omega arith) in
     ReadsAs-long taken (Consumes-trans _ _ _ _ _ kept.1 read.taken) past
 
@@ -29,6 +29,6 @@ returns-in_err-extend_from_slice g c =
     let read = c.in_ok-count.ensures in
     let held = c.loop-bytes.bytes.ok.0 in
     let answer = c.from_residual-in_err-extend_from_slice in
-    let taken : List ℕ = c.loop-bytes.bytes.items ++ take c.in_ok-count.count c.read_some.new.buf in
+    let taken : List ℕ = c.loop-bytes.bytes.items ++ take c.in_ok-count.count c.read_once.new.buf in
     let within : length taken ≤ c.args.limit = simp (length-append, length-take) (omega arith) in
     ReadsAs-memory taken answer.result answer.ensures.1 (Consumes-trans _ _ _ _ _ kept.1 read.taken) within
