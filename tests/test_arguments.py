@@ -90,6 +90,16 @@ class TestRefusals:
         assert message(keywrap, args)[1] == []
 
     @pytest.mark.parametrize(
+        "args",
+        ["--foo", "--versoin", "--hepl", "-k x", "wrapp", "--kek kek16.hex wrap"],
+    )
+    def test_usage_before_a_subcommand(self, keywrap, args):
+        """The usage has no option, not even one that is similar to the wrong one."""
+        text, _ = message(keywrap, args)
+        usage = "Usage: keywrap <COMMAND>\n\nFor more information, try '--help'.\n"
+        assert text.endswith(f"\n\n{usage}")
+
+    @pytest.mark.parametrize(
         "text",
         [
             "\x1b[31mred",

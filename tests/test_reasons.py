@@ -13,6 +13,7 @@ from vectors import (
     FULL,
     KEK,
     KEK16,
+    KEK_LENGTH,
     KEY16,
     NOT_OPENED,
     UNSENT,
@@ -180,13 +181,22 @@ class TestReasons:
 
     @pytest.mark.parametrize("kek", notations_of_a_kek())
     def test_kek_in_place_of_its_name_is_not_shown(self, keywrap, kek):
-        for args, file, name in [
-            (f"check --kek {kek}", "key file", "the KEK"),
-            (f"rewrap --kek kek16.hex --new-kek {kek}", "new key file", "the new KEK"),
+        for args, file, option in [
+            (f"check --kek {kek}", "key file", "--kek"),
+            (f"rewrap --kek kek16.hex --new-kek {kek}", "new key file", "--new-kek"),
         ]:
-            reason = f"(the name of {name} is not shown: it looks like a KEK)"
+            reason = (
+                f"{option} takes a file; the value looks like a KEK and is not shown"
+            )
             message = f"{file}: cannot be opened"
             explains(keywrap, args, 6, message, f"{reason}: {NO_FILE}")
+
+    def test_file_whose_name_looks_like_a_kek(self, keywrap):
+        """The file can be opened, so the second line does not ask for a file."""
+        pathlib.Path(KEK16).write_bytes(pathlib.Path("kek15.hex").read_bytes())
+        reason = "(the name of the KEK is not shown: it looks like a KEK)"
+        args = f"check --kek {KEK16}"
+        explains(keywrap, args, 3, KEK_LENGTH, f"{reason}: 15 bytes of KEK")
 
     @pytest.mark.parametrize(
         "flag, full",

@@ -231,6 +231,37 @@ fn wrapped_kind(form: Option<AgreedForm>) -> &'static str {
     }
 }
 
+/// Prints the second line of a refusal. Nothing is lost if standard error is closed.
+pub fn print_cause<R: Eprint>(rt: &R, run: &Run<'_>, fault: &ProgramFault, cause: Cause) {
+    let (role, reason) = cause;
+    let name = ShownName { run, role };
+    let _ = match typed_kek_hint(run, fault) {
+        Some(hint) => eprintln!(rt; "  {hint}{reason}"),
+        None => eprintln!(rt; "  {name}{reason}"),
+    };
+}
+
+// Returns the hint on a KEK file that cannot be opened, if its name looks like a KEK.
+fn typed_kek_hint(run: &Run<'_>, fault: &ProgramFault) -> Option<&'static str> {
+    match fault {
+        ProgramFault::KekOpen if is_kek_name(run, FileRole::Kek) => {
+            Some("--kek takes a file; the value looks like a KEK and is not shown")
+        }
+        ProgramFault::NewKekOpen if is_kek_name(run, FileRole::NewKek) => {
+            Some("--new-kek takes a file; the value looks like a KEK and is not shown")
+        }
+        _ => None,
+    }
+}
+
+// Returns whether the name of a file of a run looks like a KEK.
+fn is_kek_name(run: &Run<'_>, role: FileRole) -> bool {
+    match run.file_name(role) {
+        Some(name) => is_kek(name),
+        None => false,
+    }
+}
+
 /// The name of a file of a run, as a terminal may show it.
 #[derive(Clone, Copy)]
 pub struct ShownName<'a> {

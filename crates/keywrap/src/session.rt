@@ -7,7 +7,7 @@ ghost use Rattle.keywrap_io.specs.Places.{KeepsFiles, KeepsOthers, place};
 ghost use Rattle.keywrap.specs.Session.{AnswersRun, Begins, CannotCreateOutput, Commits, Ends, EndsRun, EndsWhole, IsDone, IsRefused, IsRefusedOperation, IsUnsaved, ReadsNew, WritesRawToTerminal, ending_of, fault_of, name_of, open_fault_of};
 
 use crate::command::Run;
-use crate::explain::{Cause, ShownName, fault_cause, open_fault, print_fault};
+use crate::explain::{Cause, fault_cause, open_fault, print_cause, print_fault};
 use crate::lines::{LineCommand, RunOutcome};
 use crate::prompt::prompt;
 use crate::system::System;
@@ -317,10 +317,8 @@ impl<'a, R: System> Session<'a, R> {
         ensures failed { result ≢ 0 }
     {
         let status = print_fault(self.rt, &refused.fault);
-        if let (true, Some((role, reason))) = (self.explains, refused.cause) {
-            let run = self.run;
-            let name = ShownName { run, role };
-            let _ = eprintln!(self.rt; "  {name}{reason}");
+        if let (true, Some(cause)) = (self.explains, refused.cause) {
+            print_cause(self.rt, self.run, &refused.fault, cause);
         }
         status
     }

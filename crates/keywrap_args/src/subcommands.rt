@@ -93,6 +93,8 @@ fn keywrap<'a>(alloc: Global) -> Result<Command<'a>, AllocError> {
         .version("1.3.0-dev")
         .propagate_version(true)
         .about("Wraps and unwraps keys by AES Key Wrap (RFC 3394 and RFC 5649)")
+        // After an unknown option clap's own usage would name an option that is similar.
+        .override_usage("keywrap <COMMAND>")
         .after_long_help(help::NOTES)
         .arg_required_else_help(true)
         .subcommand_required(true)
