@@ -6,6 +6,7 @@ import pathlib
 import re
 import shutil
 import subprocess
+import textwrap
 import zipfile
 
 import pytest
@@ -92,6 +93,25 @@ def test_module(module, env):
     names = re.findall(r"^func ((?:Test|Example)\w*)\(", sources, re.M)
     assert sorted(re.findall(r"^--- PASS: (\w+)", said, re.M)) == sorted(names)
     assert len(names) >= 10
+
+
+def test_calls_of_the_page(program, env):
+    """The first lines of GO.md compile as they are, in one function, and each result is used."""
+    page = (DIST / "GO.md").read_text()
+    block = re.search(r"^    import .*\n(?:    .*\n|\n)*", page, re.M)[0]
+    imported, *calls = textwrap.dedent(block).strip().splitlines()
+    results = {
+        name for line in calls for name in re.findall(r"\w+", line.partition(" := ")[0])
+    }
+    used = ", ".join(sorted(results - {"err"}))
+    directory = program()
+    (directory / "main.go").write_text(
+        f"package main\n\n{imported}\n\n"
+        "func calls(kek, newKEK, key []byte, list [][]byte) (any, error) {\n"
+        + "".join(f"\t{line}\n" for line in calls if line)
+        + f"\treturn []any{{{used}}}, err\n}}\n\nfunc main() {{}}\n"
+    )
+    run("go", "vet", "./...", cwd=directory, env=env)
 
 
 @pytest.mark.parametrize(
