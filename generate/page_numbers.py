@@ -134,6 +134,14 @@ def of_sources():
     yield "docs/ROTATION.md", "in steps of ([0-9,]+) rows", f"{rows:,}"
     yield "docs/ROTATION.md", r"in ranges of (\d+) blocks", blocks
 
+    checking = found("dist/Makefile", "^# Python and (.*): keywrap.wasm against")
+    page = "dist/check/all_inputs/README.md"
+    yield page, "the short list over keywrap.wasm, (.*)", checking
+    yield "README.md", r"check-all-inputs` \(python3, ([^)]*)\)", checking
+    proofs = found("theory/Makefile", "^# Checks the proofs: (.* processor)\\.")
+    yield "README.md", r"make -C theory` \(coq, ([^)]*)\)", proofs
+    yield "CONTRIBUTING.md", "the standards' theorems, in (.* processor)$", proofs
+
     length = found("tests/test_secrets.py", r"^LONGEST.* (\d+)$")
     yield "SECURITY.md", r"under qemu, with keys of up to (\d+) bytes", length
 
