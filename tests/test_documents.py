@@ -357,3 +357,84 @@ class TestRepeatedFacts:
             r"(?:^    [a-z0-9_]+:.*\n)+", page[page.index("    block_pair:") :], re.M
         )[0]
         assert sorted(line.strip() for line in shown.splitlines()) == sorted(crates)
+
+
+class TestFirstUse:
+    """What stopped or misled those who used a page for the first time."""
+
+    @pytest.mark.parametrize(
+        "page, words",
+        [
+            ("README.md", "It keeps the keys of your tenants in a table of a database"),
+            ("README.md", "Why not `openssl enc -id-aes256-wrap`?"),
+            ("SECURITY.md", "Ask the owner of the repository that you have this from"),
+            ("docs/RECIPES.md", "In units, cron jobs and CI set `KEYWRAP_VERBOSE=1`"),
+            ("docs/C_LIBRARY.md", "expands a KEK once, for many calls. It rarely pays"),
+            ("docs/C_LIBRARY.md", "# static, headers, files for find_package"),
+            ("docs/OPENSSL.md", "For macOS the line is written after documentation"),
+            ("dist/GO.md", "is one more secret to `Clear`: pass the KEK"),
+            ("dist/GO.md", "The wrapped keys of one call have one length"),
+            ("dist/GO.md", "Any other length is `ErrBadLength`"),
+            ("dist/GO.md", "musl as a static program"),
+            ("dist/RUST.md", "`rewrap_many` and `kind_many` take many keys"),
+            ("python/README.md", "half a minute of a processor, which compiles C"),
+            ("python/README.md", "another machine than that of the plot of lines"),
+            ("js/README.md", "With `nodenext` the file that imports is an `.mts`"),
+            ("java/README.md", "JNA looks for `keywrap.dll` and `libkeywrap.dylib`"),
+            ("java/README.md", "of the time of `SunJCE`"),
+        ],
+    )
+    def test_answers(self, page, words):
+        assert words in " ".join(text_of(page).split())
+
+    def test_packages_come_before_the_first_command(self):
+        page = text_of("README.md")
+        assert page.index("apt-get install ") < page.index("    $ ")
+
+    def test_kit_is_explained_where_it_is_first_named(self):
+        first = re.search(r"\bkit\b", text_of("README.md"))
+        after = text_of("README.md")[first.end() :]
+        assert after.startswith("\n\nThe kit has Rattle's prover and compilers. ")
+
+    def test_lines_that_need_the_kit_say_so(self):
+        """The lines of C_LIBRARY before its part on portable C."""
+        page = text_of("docs/C_LIBRARY.md").partition("## Step by step")[0]
+        of_kit = re.compile(r"make library|make install-library|out/library")
+        lines = [
+            line for line in re.findall("^    (.*)", page, re.M) if of_kit.search(line)
+        ]
+        assert len(lines) == 3
+        for line in lines:
+            assert "kit" in line.partition("#")[2], line
+
+    def test_results_for_many_keys_are_one_list(self):
+        """`new, refused = keywrap.rewrap_many(..)` reads as results and refusals, and is right for two keys only."""
+        called = re.findall(
+            r"^.*\bkeywrap\.\w*_many\(.*", text_of("python/README.md"), re.M
+        )
+        assert called
+        for line in called:
+            assert not re.search(r"\w+, \w+ = keywrap\.", line), line
+
+    def test_no_promise_for_other_systems(self):
+        """Nobody runs the program elsewhere than on Linux and Windows."""
+        page = text_of("docs/INSTALLING.md")
+        assert "any POSIX system" not in page
+        assert "other POSIX systems untried" in page
+
+    def test_pictures(self):
+        """What strangers build is drawn strongly, the translation is named, and a command that goes on has a `\\`."""
+
+        def texts_of(name):
+            drawing = ElementTree.parse(ROOT / f"docs/pictures/{name}.svg").getroot()
+            for text in drawing.iter("{http://www.w3.org/2000/svg}text"):
+                yield text.text, text.get("class").split()
+
+        drawn = {text for text, kinds in texts_of("wrap") if "strong" in kinds}
+        assert {"portable C", "portable C, AES inst."} <= drawn
+        layers = " ".join(text for text, _ in texts_of("layers"))
+        assert "Without the kit the proved boxes are translated to C" in layers
+        typed = [text for text, kinds in texts_of("rotation") if "shown" in kinds]
+        for line, following in zip(typed, typed[1:]):
+            goes_on = following.startswith("    ")
+            assert line.endswith("\\") == goes_on, line
