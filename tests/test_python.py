@@ -311,9 +311,15 @@ class TestSteps:
 
     @pytest.mark.needs("import PyKCS11", "softhsm2-util")
     def test_token(self, installed):
-        """The README's lines, over a KEK of RFC 3394 in a token, without and with padding."""
+        """The README's lines, over a KEK of RFC 3394 in a token, without and with padding. Then the same by ctypes, for
+        many keys, one of them refused."""
         page = (ROOT / "python/README.md").read_text()
-        lines = re.search(r"^    import PyKCS11.*?(?=\n\n[^ ])", page, re.M | re.S)[0]
+        blocks = {
+            name: textwrap.dedent(
+                re.search(rf"^    import {name}.*?(?=\n\n[^ ])", page, re.M | re.S)[0]
+            )
+            for name in ("PyKCS11", "ctypes")
+        }
         before = """
 import PyKCS11
 token = PyKCS11.PyKCS11Lib()
@@ -328,6 +334,12 @@ key = bytes(range(0, 256, 17))
         after = """
 print(wrapped.hex())
 print(keywrap.steps.unwrap_padded(decrypt, keywrap.steps.wrap_padded(encrypt, b"of any length")))
+"""
+        many = """
+many = keywrap.steps.wrap_many(encrypt, [key] * 1000)
+print(many[999].hex())
+results = keywrap.steps.rewrap_many(decrypt, encrypt, [bytes(24), *many])
+print(type(results[0]).__name__, results[1:] == many)
 """
         pathlib.Path("softhsm2.conf").write_text(
             f"directories.tokendir = {os.getcwd()}\n"
@@ -345,8 +357,11 @@ print(keywrap.steps.unwrap_padded(decrypt, keywrap.steps.wrap_padded(encrypt, b"
             "1234",
             env=env,
         )
-        said = run(installed, "-c", before + textwrap.dedent(lines) + after, env=env)
-        assert said == f"{WRAPPED32}\nb'of any length'\n"
+        program = before + blocks["PyKCS11"] + after + blocks["ctypes"] + many
+        said = run(installed, "-c", program, env=env)
+        assert said == (
+            f"{WRAPPED32}\nb'of any length'\n{WRAPPED32}\nIntegrityFailed True\n"
+        )
 
     @pytest.mark.needs("softhsm2-util", "pkcs11.h of p11-kit", "pkg-config")
     def test_many_keys_in_a_token(self, installed):
