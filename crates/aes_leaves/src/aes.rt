@@ -104,7 +104,7 @@ impl<'a> KeyInit for LeafAes<'a> {
 }
 
 // The length of the schedule of a key of `len` bytes.
-fn schedule_len(len: usize) -> Option<usize>
+pub(crate) fn schedule_len(len: usize) -> Option<usize>
     ensures some { IfSome result (λ n. IsKekLength len × (n ≡ 4 * len + 112)) }
     ensures none { IfNone result (¬ IsKekLength len) }
 {

@@ -8,7 +8,9 @@
 mod aes;
 mod key_room;
 mod leaves;
+mod owned;
 
 pub use aes::LeafAes;
 pub use key_room::KeyRoom;
 pub use leaves::available;
+pub use owned::OwnedAes;

@@ -10,7 +10,7 @@ use std::alloc::Global;
 use std::io::Read;
 
 /// The program's block cipher, named only here.
-pub use aes_vector::VectorAes as Aes;
+pub use aes_leaves::OwnedAes as Aes;
 
 /// The KEK files of an operation: their names, or open files.
 #[derive(Drop)]

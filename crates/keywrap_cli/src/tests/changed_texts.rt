@@ -6,7 +6,7 @@ use super::drills::WRAPPINGS;
 use crate::drilling::{DrillFault, drill};
 use crate::job::Direction;
 use crate::outcome::JobFault;
-use aes_vector::VectorAes;
+use aes_leaves::OwnedAes;
 use block_pair::{BlockPair, Meter, SwapHalves};
 use key_wrap_core::{
     Form, InPlaceFault, unwrap_in_place, unwrap_padded_in_place, wrap_in_place,
@@ -39,7 +39,7 @@ fn wraps_and_unwraps_in_place(
     form: Form,
     vector: &Vector,
 ) -> Result<(), Fail> {
-    let (aes, key, text) = (VectorAes::new(vector.key)?, vector.input, vector.output);
+    let (aes, key, text) = (OwnedAes::new(vector.key)?, vector.input, vector.output);
     let mut meter = Meter::new(&aes);
     let mut buf = buffer_with(alloc, key, 0xFF, text.len())?;
     let wraps = match form {
@@ -87,7 +87,7 @@ fn refuse_each_changed_bit(
             alloc,
             usize::MAX,
         );
-        unwraps_to(rt, alloc, own, &VectorAes::new(kek)?, text, None)?;
+        unwraps_to(rt, alloc, own, &OwnedAes::new(kek)?, text, None)?;
         change_bit(&mut bytes, bit);
     }
     Ok(())

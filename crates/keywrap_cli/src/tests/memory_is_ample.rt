@@ -7,7 +7,7 @@ use crate::drilling::drill;
 use crate::files::Notation;
 use crate::job::Direction;
 use crate::what::What;
-use aes_vector::VectorAes;
+use aes_leaves::OwnedAes;
 use key_wrap_core::{Form, MAX_KEY};
 use std::alloc::{AllocError, Global};
 use std::process::Abort;
@@ -74,7 +74,7 @@ fn run_each_length(rt: &impl Abort, alloc: Global, size: usize) -> Result<(), Fa
 
 // Runs each operation in each form that the key has: wraps, unwraps, checks, rewraps and drills.
 fn run_on_key(rt: &impl Abort, alloc: Global, key: &[u8], size: usize) -> Result<(), Fail> {
-    let (old, new) = (VectorAes::new(RAW_KEK)?, VectorAes::new(RAW_NEW_KEK)?);
+    let (old, new) = (OwnedAes::new(RAW_KEK)?, OwnedAes::new(RAW_NEW_KEK)?);
     for old_form in FORMS {
         if is_key_length(old_form, key.len()) {
             let text = wrapped(alloc, form(old_form), &old, key)?;

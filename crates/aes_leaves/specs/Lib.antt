@@ -1,0 +1,2 @@
+-- The modules of `aes_leaves`.
+pub mod Owned
