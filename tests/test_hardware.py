@@ -139,9 +139,14 @@ class TestLeaves:
         assert sorted(needed) == sorted(f"keywrap_aes_{name}" for name in LEAVES)
 
     @staticmethod
-    def substituted(leaves, triple="x86_64-unknown-linux-gnu", uncalled=None):
-        """How substitute.py ends for a module of LLVM with these leaves, and a caller of each other than `uncalled`."""
+    def substituted(
+        leaves, triple="x86_64-unknown-linux-gnu", uncalled=None, more=None
+    ):
+        """How substitute.py ends for a module of LLVM with these leaves, and a caller of each other than `uncalled`.
+        `more` is another line of the module."""
         lines = [f'target triple = "{triple}"']
+        if more is not None:
+            lines.append(more)
         for name, (result, parameters) in leaves.items():
             leaf = f'@"aes_leaves::leaves::{name}"'
             lines.append(f"define internal {result} {leaf}({parameters}) noinline {{")
@@ -182,6 +187,40 @@ class TestLeaves:
         ended = self.substituted({**LEAVES, name: another})
         assert ended.returncode == 1
         assert ended.stderr.startswith(f"substitute.py: {name}: another type: ")
+
+    @pytest.mark.parametrize(
+        "parameters",
+        [
+            "ptr byval([16 x i8]) %0, i64 %1, ptr %2",
+            "<2 x ptr> %0, i64 %1, ptr %2",
+            "ptr %0, i64 inreg %1, ptr %2",
+        ],
+    )
+    def test_leaf_that_takes_a_parameter_in_another_way_is_refused(self, parameters):
+        ended = self.substituted({**LEAVES, "encrypt": ("void", parameters)})
+        assert ended.returncode == 1
+        assert ended.stderr.startswith("substitute.py: encrypt: another type: ")
+
+    def test_leaf_of_another_calling_convention_is_refused(self):
+        _, parameters = LEAVES["encrypt"]
+        ended = self.substituted({**LEAVES, "encrypt": ("fastcc void", parameters)})
+        assert ended.returncode == 1
+        assert ended.stderr.startswith("substitute.py: encrypt: another type: fastcc")
+
+    @pytest.mark.parametrize(
+        "use",
+        [
+            "store ptr @{}, ptr %0",
+            "call fastcc void @{}(ptr %0, i64 %1, ptr %2)",
+            "call void @other(ptr @{})",
+        ],
+    )
+    def test_leaf_that_is_used_in_another_way_is_refused(self, use):
+        line = "  " + use.format('"aes_leaves::leaves::encrypt"')
+        ended = self.substituted(LEAVES, more=line)
+        assert ended.returncode == 1
+        said = f"substitute.py: encrypt: another use: {line.strip()}\n"
+        assert ended.stderr == said
 
     @pytest.mark.parametrize("name", LEAVES)
     def test_leaf_that_nothing_calls_is_refused(self, name):
