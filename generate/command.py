@@ -1,11 +1,12 @@
-"""Writes dist/command/program.c and program.h: the program's WebAssembly module translated to C. With the other files
-there everyone builds it without the kit. `make dist-sources` calls this script.
+"""Writes dist/command/program.c and program.h: the program's WebAssembly module translated to C, and aes.c. With the
+other files there everyone builds it without the kit. `make dist-sources` calls this script.
 
 Each function of the module becomes a function of C. A value of 32 or 64 bits is an unsigned number, and an address is
 a number, which the runtime in module.h turns into a pointer. Anything that this script does not know stops it.
 
 usage: command.py PROGRAM.WASM DIRECTORY      (binaryen's wasm-opt reads the module; WASM_OPT names another)
-       command.py --sources                   (prints the checksum of the sources, as it is named in program.c)"""
+       command.py --sources                   (prints the checksum of the sources, as it is named in program.c)
+       command.py --aes                       (prints aes.c, which main writes there, too: it is made of c/aes)"""
 
 import hashlib
 import os
@@ -67,6 +68,8 @@ FUNCTIONS = {
     for kind in ("i32", "i64")
     for name in ("rotl", "rotr", "div_u", "rem_u")
 }
+# The modules that functions are imported from, and how their names begin in C.
+IMPORTED = {'"env"': "host_", '"aes"': "host_aes_"}
 ACCESS = re.compile(
     r"(i32|i64|f64)\.(load|store)(8_u|8_s|16_u|16_s|32_u|32_s|8|16|32|)"
 )
@@ -410,12 +413,10 @@ class Module:
             stop("a constant lies below the stack's top")
         self.functions, self.signatures, self.imports = {}, {}, []
         for _, module, name, (what, inside, *rest) in parts["import"]:
-            if module != '"env"' or what != "func":
+            if module not in IMPORTED or what != "func":
                 stop(f"an import: {module} {name}")
-            (
-                self.functions[inside],
-                self.signatures[inside],
-            ) = f"host_{name[1:-1]}", signature_of(rest)
+            self.functions[inside] = IMPORTED[module] + name[1:-1]
+            self.signatures[inside] = signature_of(rest)
             self.imports.append(inside)
         self.exports = {
             part[2][1]: part[1][1:-1]
@@ -507,9 +508,21 @@ def sources():
     return digest.hexdigest()
 
 
+def aes():
+    """The file aes.c: the processor's AES behind the functions that the module imports."""
+    text = (ROOT / "c/command/aes.c.in").read_text()
+    for name, part in {
+        "WITH_AES": portable.with_aes(),
+        "AES": portable.processor_aes("c/command/leaves.c.in").rstrip(),
+    }.items():
+        text = text.replace(f"@{name}@", part)
+    return text
+
+
 def main(wasm, directory):
     directory = pathlib.Path(directory)
     directory.mkdir(parents=True, exist_ok=True)
+    (directory / "aes.c").write_text(aes())
     text = subprocess.run(
         [portable.WASM_OPT, *FEATURES, wasm, "-S", "-o", "-"],
         capture_output=True,
@@ -536,6 +549,8 @@ def main(wasm, directory):
 if __name__ == "__main__":
     if sys.argv[1:] == ["--sources"]:
         print(sources())
+    elif sys.argv[1:] == ["--aes"]:
+        print(aes(), end="")
     elif len(sys.argv) == 3:
         main(*sys.argv[1:])
     else:

@@ -1,5 +1,5 @@
-"""Changes the target of the program's LLVM module from x86-64 to WebAssembly with 64-bit memory, and calls the host for
-AES. command_module.sh calls it.
+"""Changes the target of the program's LLVM module from x86-64 to WebAssembly with 64-bit memory, and lets it import the
+leaves of AES: substitute.py. command_module.sh calls it.
 
 It stops unless the module means the same on both: it has no instruction of x86-64 and no type or function that is not
 listed here, each offset in memory is stated in bytes, and the types have the same sizes and alignments.
@@ -9,6 +9,8 @@ usage: command_module.py NATIVE.LL TARGET.LL MODULE.LL      (TARGET.LL is any mo
 import pathlib
 import re
 import sys
+
+import substitute
 
 INTRINSICS = re.compile(
     r"llvm\.(memset\.p0\.i64|memmove\.p0\.p0\.i64|trap|(ctlz|cttz)\.i(32|64)|"
@@ -61,13 +63,8 @@ DEFAULT = {
     "v128": 128,
 }
 OF_X86 = ' "probe-stack"="inline-asm" "stack-probe-size"="3072" "target-cpu"="x86-64"'
-# The functions of the program's block cipher in whose place the host's are called: a block is encrypted or decrypted,
-# and 16 bytes are looked up in a table of 16.
-AES = {
-    "aes_vector::cipher::VectorAesBlockPair::enc": "aes_encrypt",
-    "aes_vector::cipher::VectorAesBlockPair::dec": "aes_decrypt",
-    "aes_vector::lanes::look": "aes_look",
-}
+# The leaves that the program uses.
+LEAVES = ["available", "expand", "encrypt", "decrypt"]
 
 
 def stop(why):
@@ -145,31 +142,6 @@ def check(text):
                 stop(f"a structure of other types: {member}")
 
 
-def with_aes_of_host(text):
-    """The host's functions are called, and the proved ones are there for them to call."""
-    for name, ours in AES.items():
-        quoted = f'@"{name}"'
-        parameters = r"\((ptr [^()]*, ptr [^()]*, ptr [^()]*)\)"
-        head = the_one(
-            name,
-            rf"^define internal void {re.escape(quoted)}{parameters} #\d+ \{{$",
-            text,
-        )
-        text = re.sub(
-            rf"^define internal void {re.escape(quoted)}\(.*$",
-            f"define hidden void @{ours}_as_proved({head}) noinline nounwind noredzone {{",
-            text,
-            flags=re.M,
-        )
-        if quoted not in text:
-            stop(f"{name}: it is never called")
-        text = (
-            text.replace(quoted, f"@{ours}")
-            + f"\ndeclare void @{ours}(ptr, ptr, ptr) nounwind\n"
-        )
-    return text
-
-
 def main(native, target, module):
     text, target = pathlib.Path(native).read_text(), pathlib.Path(target).read_text()
     layouts = layout_of(text), layout_of(target)
@@ -183,7 +155,9 @@ def main(native, target, module):
     text = text.replace(OF_X86, " noredzone")
     if "x86" in without_constants(text):
         stop("something of x86-64 is left")
-    pathlib.Path(module).write_text(with_aes_of_host(text))
+    for leaf in LEAVES:
+        text = substitute.substituted(text, leaf)
+    pathlib.Path(module).write_text(text)
 
 
 main(*sys.argv[1:])

@@ -1,6 +1,6 @@
 #!/usr/bin/env bash
 # Builds the program as a WebAssembly module with 64-bit memory, which imports the functions of the system that the
-# program calls, and three functions of AES. `make dist-sources` calls it.
+# program calls, and the leaves of AES that it uses. `make dist-sources` calls it.
 #
 # The kit makes modules only of static libraries, and only gives `main` what opens files. So rattle proves the program
 # and builds it for x86-64 as always, but with a directory of tools whose clang keeps the module of LLVM and compiles
@@ -54,6 +54,5 @@ python3 generate/command_module.py "$workdir/native.ll" "$workdir/target.ll" "$w
     -ffunction-sections -fdata-sections -x ir -Os -Xclang -fmerge-functions \
     -c "$workdir/module.ll" -o "$workdir/module.o"
 ln -s "$tools/ld.lld" "$workdir/wasm-ld"
-"$workdir/wasm-ld" -mwasm64 --no-entry --allow-undefined --export=main --export=aes_encrypt_as_proved \
-    --export=aes_decrypt_as_proved --export=aes_look_as_proved --gc-sections -z stack-size=1048576 --stack-first \
+"$workdir/wasm-ld" -mwasm64 --no-entry --allow-undefined --export=main --gc-sections -z stack-size=1048576 --stack-first \
     -O2 "$workdir/module.o" -o "$file"

@@ -44,15 +44,9 @@ STEPS = {
     if call.header == "dist/keywrap_steps.h"
 }
 WHOLE_ONLY, WITH_AES = "#ifndef KEYWRAP_STEPS_ONLY\n", "#ifdef WITH_AES\n"
-# The processor's AES, in the order in which one file can have it, and over the module's memory.
-LEAVES = [
-    "c/aes/aes.h",
-    "c/aes/x86_64.c",
-    "c/aes/aarch64.c",
-    "c/aes/aes.c",
-    "c/portable/leaves.c.in",
-]
-# Headers that keywrap.c includes before.
+# The processor's AES, in the order in which one file can have it.
+AES = ["c/aes/aes.h", "c/aes/x86_64.c", "c/aes/aarch64.c", "c/aes/aes.c"]
+# Headers that a file with them includes before.
 INCLUDED = r"aes\.h|std(?:int|def)\.h|string\.h"
 
 
@@ -401,10 +395,16 @@ def translators(macro, header, of_many):
     return "\n".join(written)
 
 
-def leaves():
-    """AES by the processor's instructions as one part of the file, in which nothing has a name outside."""
+def with_aes():
+    """The lines that define WITH_AES if the compiler makes AES by the processor's instructions."""
+    return (ROOT / "c/aes/with_aes.h").read_text().rstrip()
+
+
+def processor_aes(leaves):
+    """AES by the processor's instructions as one part of a file, in which nothing of c/aes has a name outside. At its
+    end stands the file `leaves`, through which the module calls it."""
     parts = []
-    for name in LEAVES:
+    for name in [*AES, leaves]:
         text = (ROOT / name).read_text()
         text = re.sub(rf"^#include [\"<](?:{INCLUDED})[\">]\n", "", text, flags=re.M)
         if name.endswith(".h"):
@@ -471,13 +471,17 @@ def main(portable, wasm, directory):
     macros = "\n".join(f"#define {name} {value}" for name, value in numbers.items())
     whole, of_steps = map(array_of, constants)
     runtime = runtime_with(
-        HEAD=head(), NUMBERS=macros, CONSTANTS=whole, STEPS_CONSTANTS=of_steps
+        HEAD=head(),
+        WITH_AES=with_aes(),
+        NUMBERS=macros,
+        CONSTANTS=whole,
+        STEPS_CONSTANTS=of_steps,
     )
     for_one_key = translators("CALL", "dist/keywrap.h", of_many=False)
     calls = template("calls.c.in").replace("@CALLS@\n", for_one_key + "\n")
     each_step = translators("STEP", "dist/keywrap_steps.h", of_many=True)
     steps = template("steps.c.in").replace("@CALLS@\n", each_step)
-    aes = leaves()
+    aes = processor_aes("c/portable/leaves.c.in")
     (directory / "keywrap.c").write_text(
         f"{runtime}\n{WITH_AES}/*** AES by the processor's instructions ***/\n\n{aes}#endif\n\n"
         f"/*** The module, by wasm2c ***/\n\n{module}\n{WHOLE_ONLY}{calls}#endif\n\n{steps}"

@@ -107,6 +107,11 @@ def test_is_of_these_sources():
     assert computed.strip() == named
 
 
+def test_aes_is_of_these_sources():
+    printed = run(sys.executable, ROOT / "generate/command.py", "--aes")
+    assert printed == (DIST / "command/aes.c").read_text()
+
+
 def test_checksum_by_sh():
     """The launcher needs no Python: scripts/sources.sh prints the same checksum as generate/command.py."""
     printed = run(ROOT / "scripts/sources.sh", "--of-translation")
@@ -317,28 +322,41 @@ def assert_stops(command, message):
     assert message in ended.stderr, ended.stderr
 
 
-# As above, a module of LLVM.
-OF_AES = "".join(
-    f"""define internal void @"aes_vector::{name}"(ptr %0, ptr %1, ptr %2) #0 {{
-  ret void
-}}
-"""
-    for name in (
-        "cipher::VectorAesBlockPair::enc",
-        "cipher::VectorAesBlockPair::dec",
-        "lanes::look",
-    )
-)
+# As above, a module of LLVM. It has the leaves of AES and calls each.
+LEAVES = {
+    "available": ("i1", ""),
+    "expand": ("void", "ptr %0, i64 1, ptr %0, i64 1"),
+    "encrypt": ("void", "ptr %0, i64 1, ptr %0"),
+    "decrypt": ("void", "ptr %0, i64 1, ptr %0"),
+}
+
+
+def defined_leaf(name):
+    result, arguments = LEAVES[name]
+    parameters = [
+        f"{argument.split()[0]} %{i}"
+        for i, argument in enumerate(filter(None, arguments.split(", ")))
+    ]
+    value = "i1 false" if result == "i1" else "void"
+    head = f'{result} @"aes_leaves::leaves::{name}"({", ".join(parameters)})'
+    return f"define internal {head} #0 {{\n  ret {value}\n}}\n"
+
+
+def called_leaf(name):
+    result, arguments = LEAVES[name]
+    assigned = "%5 = " if result == "i1" else ""
+    return f'  {assigned}call {result} @"aes_leaves::leaves::{name}"({arguments})\n'
+
+
 LAYOUT = "e-m:e-p:64:64-i64:64-n32:64-S128"
 LL = f"""target datalayout = "{LAYOUT}"
 target triple = "x86_64"
-{OF_AES}
+{"".join(map(defined_leaf, LEAVES))}
 define i32 @main(ptr %0) {{
   %2 = alloca i64, align 8
   %3 = getelementptr i8, ptr %0, i64 1
   %4 = call i32 @close(i32 1)
-{"".join(f'  call void @"aes_vector::{name}"(ptr %0, ptr %0, ptr %0)' + chr(10) for name in (
-    "cipher::VectorAesBlockPair::enc", "cipher::VectorAesBlockPair::dec", "lanes::look"))}  ret i32 %4
+{"".join(map(called_leaf, LEAVES))}  ret i32 %4
 }}
 declare i32 @close(i32)
 """
@@ -364,14 +382,14 @@ UNKNOWN_LLVM = [
         "something of x86-64 is left",
     ),
     (
-        'call void @"aes_vector::lanes::look"',
+        'call void @"aes_leaves::leaves::expand"',
         "call void @other",
-        "lanes::look: it is never called",
+        "expand: nothing calls it",
     ),
     (
-        "aes_vector::lanes::look",
-        "aes_vector::lanes::see",
-        "aes_vector::lanes::look: found 0 times",
+        "aes_leaves::leaves::expand",
+        "aes_leaves::leaves::extend",
+        "expand: defined 0 times",
     ),
 ]
 
@@ -411,9 +429,9 @@ def works(program, keywrap):
 @pytest.mark.parametrize(
     "old, new",
     [
-        ("in_basis(&CIPHER, aes + PAIR * i)", "LOAD_BYTES(aes + PAIR * i)"),
-        ("in_basis(&INVERSE, aes + PAIR * i + BLOCK)", "LOAD_BYTES(aes + PAIR * i)"),
-        ("LOOK(LOAD_BYTES(table), LOAD_BYTES(at))", "LOAD_BYTES(table)"),
+        ("_mm_aesenclast_si128(state,", "_mm_aesenc_si128(state,"),
+        ("_mm_aesimc_si128(round_key(schedule, i))", "round_key(schedule, i)"),
+        ("_mm_set1_epi32(0x1b)", "_mm_set1_epi32(0x1d)"),
         ("i < rounds; i++) state = _mm", "i < rounds - rounds / 14; i++) state = _mm"),
     ],
 )
@@ -597,8 +615,8 @@ BUGS = [
     ("host.c", "put(to + 8, 8, (u64)time.tv_nsec);", "put(to + 8, 8, 0);", "terminal"),
     (
         "aes.c",
-        "return in_basis(&INVERSE, aes + PAIR * i + BLOCK);",
-        "return in_basis(&INVERSE, aes + PAIR * i);",
+        "_mm_aesdec_si128(state, _mm_aesimc_si128(round_key(schedule, i)))",
+        "_mm_aesdec_si128(state, round_key(schedule, i))",
         "answers",
     ),
 ]

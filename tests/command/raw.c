@@ -1,6 +1,6 @@
 /* raw.c: what the program in C needs of a system, over files in memory and without a C library, so that raw.py can run
  * whole commands for all inputs at once. Nothing fails here. AES is left to raw.py: a key schedule is the KEK itself,
- * with the number of rounds where the program keeps it. */
+ * followed by zeros. */
 
 #include <stddef.h>
 
@@ -9,7 +9,7 @@ int strncmp(const char *one, const char *other, size_t most);
 
 #include "host.h"
 
-enum { KEK_FILE = 3, ARENA = 1 << 23, NO_ENTRY = 2, ROUNDS_AT = 480 };
+enum { KEK_FILE = 3, ARENA = 1 << 23, NO_ENTRY = 2 };
 
 static ALIGNED u8 memory[SIZE];
 u8 *base = memory;
@@ -171,32 +171,29 @@ u64 host___sysv_signal(u32 number, u64 action) {
 /*** AES ***/
 
 /* raw.py computes it. clang has to make these calls. */
-__attribute__((noinline)) void ideal_aes(u8 *to, const u8 *key, u32 key_len, const u8 *block,
-                                         u32 inverse) {
-    __asm__ volatile("" : : "r"(to), "r"(key), "r"(key_len), "r"(block), "r"(inverse) : "memory");
+__attribute__((noinline)) void ideal_aes(u8 *block, const u8 *key, u32 key_len, u32 inverse) {
+    __asm__ volatile("" : : "r"(block), "r"(key), "r"(key_len), "r"(inverse) : "memory");
 }
 
-/* VectorAes::new: whether there is none, a key schedule, and the number of rounds. */
-void make_schedule(u64 result, u64 key, u64 len) {
-    u8 *to = AT(result);
-    memset(to, 0, ROUNDS_AT + 2);
-    to[0] = len != 16 && len != 24 && len != 32;
-    if (to[0]) return;
-    memcpy(to + 1, AT(key), (size_t)len);
-    to[1 + ROUNDS_AT] = (u8)(6 + len / 4);
+u32 host_aes_available(void) {
+    return 1;
 }
 
-static void by_ideal_aes(u64 to, u64 schedule, u64 block, u32 inverse) {
-    const u8 *key = AT(schedule);
-    ideal_aes(AT(to), key, 4 * (key[ROUNDS_AT] - 6u), AT(block), inverse);
+void host_aes_expand(u64 kek, u64 kek_len, u64 schedule, u64 len) {
+    memset(AT(schedule), 0, (size_t)len);
+    memcpy(AT(schedule), AT(kek), (size_t)kek_len);
 }
 
-void host_aes_encrypt(u64 to, u64 schedule, u64 block) {
-    by_ideal_aes(to, schedule, block, 0);
+static u32 key_len_of(u64 schedule_len) {
+    return ((u32)schedule_len - 112) / 4;
 }
 
-void host_aes_decrypt(u64 to, u64 schedule, u64 block) {
-    by_ideal_aes(to, schedule, block, 1);
+void host_aes_encrypt(u64 schedule, u64 len, u64 block) {
+    ideal_aes(AT(block), AT(schedule), key_len_of(len), 0);
+}
+
+void host_aes_decrypt(u64 schedule, u64 len, u64 block) {
+    ideal_aes(AT(block), AT(schedule), key_len_of(len), 1);
 }
 
 /*** What these commands never do ***/
@@ -220,7 +217,6 @@ NEVER(u32, host_clock_gettime, u32 a, u64 b)
 NEVER(u32, host___xpg_strerror_r, u32 a, u64 b, u64 c)
 NEVER(void, host___ashlti3, u64 a, u64 b, u64 c, u32 d)
 NEVER(void, host___lshrti3, u64 a, u64 b, u64 c, u32 d)
-NEVER(void, host_aes_look, u64 a, u64 b, u64 c)
 
 /*** Commands ***/
 

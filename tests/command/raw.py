@@ -27,7 +27,6 @@ from terms import Known, Refused, input_byte  # noqa: E402
 from wasm import signed  # noqa: E402
 
 NO_LIBRARY = ROOT / "tests/all_inputs/without_a_library"
-NEW_AES = "/* aes_vector::owned::VectorAes::new */\n"
 ROOM = 4096
 WRONG = b"keywrap: integrity check failed\n"
 INTEGRITY = 5
@@ -37,25 +36,14 @@ INTEGRITY = 5
 
 
 def build(output, program):
-    """Compiles the program for wasm32. The function that makes a key schedule is raw.c's."""
-    text = (program / "program.c").read_text()
-    at = text.index("{\n", text.index(NEW_AES)) + 2
-    names = re.findall(r"u64 (l\d)", text[text.index(NEW_AES) : at])
-    call = f"make_schedule({', '.join(names)});\nreturn;\n"
-    declaration = "void make_schedule(u64, u64, u64);\n"
-    text = text[:at] + call + text[at:]
-    text = text.replace(
-        '#include "module.h"\n', f'#include "module.h"\n{declaration}', 1
-    )
+    """Compiles the program for wasm32."""
     compile_ = (
         "clang --target=wasm32 -Os -mbulk-memory -mmutable-globals -ffreestanding -w"
     )
     includes = [f"-I{NO_LIBRARY}", f"-I{program}"]
     with tempfile.TemporaryDirectory() as directory:
-        source = pathlib.Path(directory, "program.c")
-        source.write_text(text)
         objects = []
-        for path in source, HERE / "raw.c", NO_LIBRARY / "memory.c":
+        for path in program / "program.c", HERE / "raw.c", NO_LIBRARY / "memory.c":
             objects.append(pathlib.Path(directory, f"{len(objects)}.o"))
             words = [*compile_.split(), *includes, "-c", path, "-o", objects[-1]]
             subprocess.run(words, check=True)
@@ -192,13 +180,13 @@ class Run(wasm.Run):
         if index != self.aes:
             super().enter(path, index, args)
             return
-        to, key, key_len, block, inverse = args
+        block, key, key_len, inverse = args
         kek = tuple(self.bytes(path, key, key_len))
         if kek not in self.schedules:
             self.schedules[kek] = standard.key_expansion(list(kek))
         cipher = standard.inv_cipher if inverse else standard.cipher
         made = cipher(self.schedules[kek], self.bytes(path, block, 16))
-        self.store(path, to, list(map(cell_of, made)))
+        self.store(path, block, list(map(cell_of, made)))
         super().enter(path, index, args)
 
 
