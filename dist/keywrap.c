@@ -31,6 +31,7 @@
 #else
 #define MODULE_ORDER(value, len) (value)
 #endif
+/* Whether the compiler makes AES by the processor's instructions. */
 #if defined(__aarch64__) && !defined(__AARCH64EB__) \
     && (defined(__linux__) || defined(__ARM_FEATURE_AES))
 #define AARCH64_WITH_AES
@@ -1192,7 +1193,7 @@ static inline void write_zeros(uint8_t *memory, size_t len) {
 }
 
 void keywrap_aes_clear(uint8_t room[SCHEDULE]) {
-    uint8_t cover[512];
+    uint8_t cover[256];
     write_zeros(room, SCHEDULE);
     write_zeros(cover, sizeof cover);
 }
