@@ -1193,7 +1193,7 @@ static inline void write_zeros(uint8_t *memory, size_t len) {
 }
 
 void keywrap_aes_clear(uint8_t room[SCHEDULE]) {
-    uint8_t cover[256];
+    uint8_t cover[384];
     write_zeros(room, SCHEDULE);
     write_zeros(cover, sizeof cover);
 }
