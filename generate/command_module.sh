@@ -54,5 +54,5 @@ python3 generate/command_module.py "$workdir/native.ll" "$workdir/target.ll" "$w
     -ffunction-sections -fdata-sections -x ir -Os -Xclang -fmerge-functions \
     -c "$workdir/module.ll" -o "$workdir/module.o"
 ln -s "$tools/ld.lld" "$workdir/wasm-ld"
-"$workdir/wasm-ld" -mwasm64 --no-entry --allow-undefined --export=main --gc-sections -z stack-size=1048576 --stack-first \
-    -O2 "$workdir/module.o" -o "$file"
+"$workdir/wasm-ld" -mwasm64 --no-entry --allow-undefined --export=main --gc-sections -z stack-size=1048576 \
+    --stack-first -O2 "$workdir/module.o" -o "$file"

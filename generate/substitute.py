@@ -32,7 +32,7 @@ def without_attributes(words):
 
 
 def types_of(parameters):
-    """The types of the parameters of a definition. A word that is not known, such as another attribute, stays there."""
+    """The types of the parameters of a definition. A word that is not known, such as an attribute, stays there."""
     types = []
     for parameter in parameters.split(", ") if parameters else []:
         *words, name = without_attributes(parameter)

@@ -12,8 +12,9 @@
     && (defined(__linux__) || defined(__ARM_FEATURE_AES))
 #define AARCH64_WITH_AES
 #endif
-#if (defined(__GNUC__) || defined(__clang__)) && (defined(__x86_64__) || defined(AARCH64_WITH_AES)) \
-    && !defined(KEYWRAP_NO_AES_INSTRUCTIONS) && !defined(KEYWRAP_STEPS_ONLY)
+#if (defined(__GNUC__) || defined(__clang__))                                                      \
+    && (defined(__x86_64__) || defined(AARCH64_WITH_AES)) && !defined(KEYWRAP_NO_AES_INSTRUCTIONS) \
+    && !defined(KEYWRAP_STEPS_ONLY)
 #define WITH_AES
 #endif
 
