@@ -12,6 +12,7 @@ import re
 import subprocess
 import sys
 import tempfile
+from typing import NamedTuple
 
 import linear
 import second
@@ -45,84 +46,97 @@ def at(numbers):
     def atom(a):
         if a not in known:
             kind, v = ATOMS[a]
-            known[a] = (
-                TABLES[kind][value(v, atom)] if kind in TABLES else numbers[kind, v]
-            )
+            if kind in TABLES:
+                known[a] = TABLES[kind][value(v, atom)]
+            else:
+                known[a] = numbers[kind, v]
         return known[a]
 
     return atom
 
 
+def random_point(inputs):
+    """The values of all atoms, for random bytes of the input x."""
+    return at({("x", i): random.randrange(256) for i in range(inputs)})
+
+
+OPERATIONS = [
+    "xor",
+    "and",
+    "or",
+    "shl",
+    "shr",
+    "add",
+    "sub",
+    "mul",
+    "nz",
+    "eqz",
+    "ltu",
+    "ite",
+    "rotl",
+]
+
+
+def operands(op, a, b, c, shift):
+    """The operands of an operation on 64 bits, of those that it may have."""
+    if op in ("shl", "shr", "rotl"):
+        return a, shift, 64
+    if op in ("add", "sub", "mul"):
+        return a, b, 64
+    if op in ("nz", "eqz"):
+        return (a,)
+    if op == "ite":
+        return terms.nz(c), a, b
+    return a, b
+
+
 def operations(count):
+    """An operation on values gives the value that it gives for numbers, and its bits are known as they are."""
     random.seed(1)
     for _ in range(count):
         terms.forget()
-        pool = [fresh("x", i) for i in range(4)] + [
-            random.getrandbits(64),
-            255,
-            0xFF00,
-            1,
-            8,
-            0,
-        ]
+        pool = [fresh("x", i) for i in range(4)]
+        pool += [random.getrandbits(64), 255, 0xFF00, 1, 8, 0]
         for _ in range(30):
-            op = random.choice(
-                [
-                    "xor",
-                    "and",
-                    "or",
-                    "shl",
-                    "shr",
-                    "add",
-                    "sub",
-                    "mul",
-                    "nz",
-                    "eqz",
-                    "ltu",
-                    "ite",
-                    "rotl",
-                    "sbox",
-                ]
-            )
+            op = random.choice([*OPERATIONS, "sbox"])
             a, b, c = (random.choice(pool) for _ in range(3))
-            k = random.randrange(64)
-            width = 64
-            points = [
-                at({("x", i): random.randrange(256) for i in range(4)})
-                for _ in range(3)
-            ]
+            shift = random.randrange(64)
+            points = [random_point(4) for _ in range(3)]
             if op == "sbox":
-                a = terms.and_(a, 255)
-                if isinstance(a, N):
+                byte = terms.and_(a, 255)
+                if isinstance(byte, N):
                     continue
                 kind = random.choice("ST")
-                got = terms.substituted(kind, a)
-                want = [TABLES[kind][value(a, p)] for p in points]
+                result = terms.substituted(kind, byte)
+                expected = [TABLES[kind][value(byte, point)] for point in points]
             else:
-                args = {
-                    "xor": (a, b),
-                    "and": (a, b),
-                    "or": (a, b),
-                    "shl": (a, k, width),
-                    "shr": (a, k, width),
-                    "add": (a, b, width),
-                    "sub": (a, b, width),
-                    "mul": (a, b, width),
-                    "nz": (a,),
-                    "eqz": (a,),
-                    "ltu": (a, b),
-                    "ite": (terms.nz(c), a, b),
-                    "rotl": (a, k, width),
-                }[op]
                 function = terms.rotl if op == "rotl" else terms.OPS[op]
-                got = function(*args)
-                want = [function(*(value(v, p) for v in args)) for p in points]
-            assert [value(got, p) for p in points] == want, (op, a, b, k)
-            for p in points:
-                assert value(got, p) & ~terms.bits(got) == 0 and value(
-                    got, p
-                ) & terms.least(got) == terms.least(got)
-            pool.append(got)
+                given = operands(op, a, b, c, shift)
+                result = function(*given)
+                expected = []
+                for point in points:
+                    numbers = [value(v, point) for v in given]
+                    expected.append(function(*numbers))
+            numbers = [value(result, point) for point in points]
+            assert numbers == expected, (op, a, b, shift)
+            for number in numbers:
+                assert number & ~terms.bits(result) == 0
+                assert number & terms.least(result) == terms.least(result)
+            pool.append(result)
+
+
+def random_byte(pool):
+    """A byte made of others by one operation."""
+    a = random.choice(pool)
+    b = random.choice(pool)
+    made = [
+        terms.xor(a, b),
+        terms.xor(a, random.randrange(256)),
+        terms.substituted(random.choice("ST"), a),
+        terms.and_(terms.shr(a, 1, 8), 0x7F),
+        terms.shl(a, 1, 8),
+    ]
+    return random.choice(made)
 
 
 def systems(count):
@@ -132,75 +146,94 @@ def systems(count):
         terms.forget()
         pool = [fresh("x", i) for i in range(2)]
         for _ in range(8):
-            a = random.choice(pool)
-            b = random.choice(pool)
-            pool.append(
-                random.choice(
-                    [
-                        terms.xor(a, b),
-                        terms.xor(a, random.randrange(256)),
-                        terms.substituted(random.choice("ST"), a),
-                        terms.and_(terms.shr(a, 1, 8), 0x7F),
-                        terms.shl(a, 1, 8),
-                    ]
-                )
-            )
+            pool.append(random_byte(pool))
+        points = []
+        for x, y in itertools.product(range(0, 256, 5), range(0, 256, 3)):
+            points.append(at({("x", 0): x, ("x", 1): y}))
         known = terms.Known()
-        zeros = []
         for _ in range(2):
             zero = terms.and_(random.choice(pool), random.choice([1, 3, 0x81]))
-            more = known.with_zero(zero)
-            zeros.append(zero)
-            holds = [
-                p
-                for p in (
-                    at({("x", 0): x, ("x", 1): y})
-                    for x in range(0, 256, 5)
-                    for y in range(0, 256, 3)
-                )
-                if all(value(z, p) == 0 for z in zeros)
-            ]
-            if more is None:
-                assert not holds
+            points = [point for point in points if value(zero, point) == 0]
+            known = known.with_zero(zero)
+            if known is None:
+                assert not points
                 break
-            known = more
-            Known.now = known
-            some = holds[::25]
-            for v in pool:
-                assert all(
-                    value(w, p) == value(v, p)
-                    for w in (known.reduced(v), known.rewritten(v))
-                    for p in some
-                )
-            Known.now = Known()
+            same_where_it_holds(known, pool, points[::25])
+
+
+def same_where_it_holds(known, values, points):
+    """Values are the same at these points after they are reduced or rewritten under equations that hold there."""
+    Known.now = known
+    for v in values:
+        for same in known.reduced(v), known.rewritten(v):
+            for point in points:
+                assert value(same, point) == value(v, point)
+    Known.now = Known()
 
 
 def vectors():
+    """The standard gives the published vectors."""
     h = lambda text: list(bytes.fromhex(text))
     block = h("00112233445566778899aabbccddeeff")
-    for n, text in (
+    for kek_len, expected in (
         (16, "69c4e0d86a7b0430d8cdb78070b4c55a"),
         (24, "dda97ca4864cdfe06eaf70a0ec0d7191"),
         (32, "8ea2b7ca516745bfeafc49904b496089"),
     ):
-        w = standard.key_expansion(list(range(n)))
-        assert (
-            standard.cipher(w, block) == h(text)
-            and standard.inv_cipher(w, h(text)) == block
-        )
+        words = standard.key_expansion(list(range(kek_len)))
+        assert standard.cipher(words, block) == h(expected)
+        assert standard.inv_cipher(words, h(expected)) == block
+    kek = list(range(32))
     key = h("00112233445566778899AABBCCDDEEFF000102030405060708090A0B0C0D0E0F")
     text = h(
         "28C9F404C4B810F4CBCCB35CFB87F8263F5786E2D80ED326CBC7F0E71A99F43BFB988B9B7A02DD21"
     )
-    assert standard.wrapped(list(range(32)), key) == text
-    assert standard.unwrap_process(list(range(32)), text) == (standard.DEFAULT_IV, key)
+    assert standard.wrapped(kek, key) == text
+    assert standard.unwrap_process(kek, text) == (standard.DEFAULT_IV, key)
     kek = h("5840df6e29b02af1ab493b705bf16ea1ae8338f4dcc176a8")
-    assert standard.wrapped_padded(
-        kek, h("c37b7e6492584340bed12207808941155068f738")
-    ) == h("138bdeaa9b8fa7fc61f97742e72248ee5ae6ae5360d1ae6a5f54f373fa543b6a")
-    assert standard.wrapped_padded(kek, h("466f7250617369")) == h(
-        "afbeb0f07dfbf5419200f2ccb50bb24f"
+    for key, expected in (
+        (
+            "c37b7e6492584340bed12207808941155068f738",
+            "138bdeaa9b8fa7fc61f97742e72248ee5ae6ae5360d1ae6a5f54f373fa543b6a",
+        ),
+        ("466f7250617369", "afbeb0f07dfbf5419200f2ccb50bb24f"),
+    ):
+        assert standard.wrapped_padded(kek, h(key)) == h(expected)
+
+
+def random_number(pool):
+    """A number made of others by one operation of a decision."""
+    a = random.choice(pool)
+    b = random.choice(pool)
+    k = random.choice([0, 1, 7, 8, 255, 256, 2**32 - 8])
+    w = random.choice([32, 64])
+    make = random.choice(
+        [
+            lambda: terms.sub(k, a, w),
+            lambda: terms.add(a, k, w),
+            lambda: terms.or_(a, b),
+            lambda: terms.nz(a),
+            lambda: terms.eqz(a),
+            lambda: terms.and_(a, b),
+            lambda: terms.xor(a, k),
+            lambda: terms.shr(a, 3, w),
+            lambda: terms.ltu(a, k),
+            lambda: terms.shl(a, 8, w),
+            lambda: terms.sub(a, b, w),
+        ]
     )
+    return make()
+
+
+def holds_at(case, point):
+    """Whether the equations of a case hold for these values of the atoms."""
+    for pivot, (others, constant) in case.rows.items():
+        total = 0
+        for atom, bit in (pivot, *others):
+            total ^= point(atom) >> bit & 1
+        if total != constant:
+            return False
+    return True
 
 
 def decisions(count):
@@ -213,45 +246,19 @@ def decisions(count):
         y = fresh("y")
         wide = terms.or_(x, terms.shl(y, 8, 64))
         pool = [x, y, wide, terms.xor(x, y), terms.substituted("S", x)]
+        made = len(pool)
         for _ in range(4):
-            a = random.choice(pool)
-            b = random.choice(pool)
-            k = random.choice([0, 1, 7, 8, 255, 256, 2**32 - 8])
-            w = random.choice([32, 64])
-            pool.append(
-                random.choice(
-                    [
-                        lambda: terms.sub(k, a, w),
-                        lambda: terms.add(a, k, w),
-                        lambda: terms.or_(a, b),
-                        lambda: terms.nz(a),
-                        lambda: terms.eqz(a),
-                        lambda: terms.and_(a, b),
-                        lambda: terms.xor(a, k),
-                        lambda: terms.shr(a, 3, w),
-                        lambda: terms.ltu(a, k),
-                        lambda: terms.shl(a, 8, w),
-                        lambda: terms.sub(a, b, w),
-                    ]
-                )()
-            )
-        for v in pool[5:]:
+            pool.append(random_number(pool))
+        for v in pool[made:]:
             try:
                 cases = terms.zero_cases(v, Known())
             except Refused:
                 continue
             decided += 1
             for i, j in itertools.product(range(0, 256, 15), range(0, 256, 17)):
-                p = at({("x", 0): i, ("y", 0): j})
-                holds = any(
-                    all(
-                        sum(p(atom) >> bit & 1 for atom, bit in (pivot, *others)) % 2
-                        == c
-                        for pivot, (others, c) in case.rows.items()
-                    )
-                    for case in cases
-                )
-                assert holds == (value(v, p) == 0), (v, i, j)
+                point = at({("x", 0): i, ("y", 0): j})
+                holds = any(holds_at(case, point) for case in cases)
+                assert holds == (value(v, point) == 0), (v, i, j)
     assert decided > count
 
 
@@ -259,21 +266,19 @@ def two_standards():
     """standard.py and second.py are equal for bytes of any value."""
     for kek_len, n in itertools.product((16, 24, 32), (1, 7, 8, 9, 16, 24)):
         terms.forget()
-        kek, key, iv, text = (
-            any_bytes(name, k)
-            for name, k in zip(
-                ("kek", "key", "iv", "text"), (kek_len, n, 8, -(-n // 8) * 8 + 8)
-            )
-        )
+        kek = any_bytes("kek", kek_len)
+        key = any_bytes("key", n)
+        iv = any_bytes("iv", 8)
+        text = any_bytes("text", -(-n // 8) * 8 + 8)
         assert standard.wrapped_padded(kek, key) == second.wrap_padded(kek, key)
         if n % 8:
             continue
-        a, padded = opened = standard.unwrap_process(kek, text)
+        opened = standard.unwrap_process(kek, text)
         assert opened == second.unwrap_padded(kek, text)
+        a, padded = opened
         asked = []
-        standard.padded_length(
-            a, padded, asked.append
-        )  # None is returned, so it asks for every length
+        # append returns None, so that the next length is asked for, too.
+        standard.padded_length(a, padded, asked.append)
         assert asked == list(second.accepted(a, padded).values())
         if n > 8:
             assert standard.wrapped(kek, key, iv) == second.wrap(kek, iv, key)
@@ -298,53 +303,57 @@ def older_atoms():
     before = made_of(x)
     Known.now = Known().with_zero(terms.xor(x, equal_to_x))
     after = made_of(equal_to_x)
-    assert (
-        Known.now.reduced(before)
-        != after
-        == Known.now.rewritten(before)
-        == Known.now.rewritten(after)
-    )
-    p = at({("x", 0): 1 ^ 7, ("y", 0): 2, ("z", 0): 1})
-    assert value(before, p) == value(after, p)
-    assert Known.now.rewritten(terms.xor(before, x)) == terms.xor(
-        after, Known.now.reduced(x)
-    )
-    # If T(x + 5) = z + 3, then S(z + 3) = x + 5.
+    assert Known.now.reduced(before) != after
+    assert Known.now.rewritten(before) == after
+    assert Known.now.rewritten(after) == after
+    point = at({("x", 0): 1 ^ 7, ("y", 0): 2, ("z", 0): 1})
+    assert value(before, point) == value(after, point)
+    with_x = terms.xor(before, x)
+    assert Known.now.rewritten(with_x) == terms.xor(after, Known.now.reduced(x))
     Known.now = Known()
-    before = terms.substituted(
-        "T", terms.xor(terms.substituted("S", terms.xor(z, 3)), y)
-    )
-    Known.now = Known().with_zero(
-        terms.xor(terms.substituted("T", terms.xor(x, 5)), terms.xor(z, 3))
-    )
-    assert Known.now.rewritten(before) == terms.substituted(
-        "T", terms.xor(terms.xor(x, 5), y)
-    )
+
+
+def inverse_of_a_known_s_box():
+    """If T(x + 5) = z + 3, then S(z + 3) = x + 5."""
+    terms.forget()
+    x, y, z = (fresh(name) for name in "xyz")
+    x_and_5 = terms.xor(x, 5)
+    z_and_3 = terms.xor(z, 3)
+    before = terms.substituted("T", terms.xor(terms.substituted("S", z_and_3), y))
+    equation = terms.xor(terms.substituted("T", x_and_5), z_and_3)
+    Known.now = Known().with_zero(equation)
+    after = terms.substituted("T", terms.xor(x_and_5, y))
+    assert Known.now.rewritten(before) == after
     Known.now = Known()
-    # Two equations imply each of them, and one does not imply both.
+
+
+def implications():
+    """Two equations imply each of them, and one does not imply both."""
+    terms.forget()
+    x, y = (fresh(name) for name in "xy")
     one = Known().with_zero(x)
     both = Known().with_zero(terms.or_(x, terms.shl(y, 8, 64)))
     assert both.implies(one) and not one.implies(both)
 
 
 def inequalities(count):
-    """What follows from inequalities is true for all small numbers for which they hold, and little more is."""
+    """A contradiction that is found holds for all small numbers, and most contradictions are found."""
     rng = random.Random(6)
     found = 0
     possible = 0
     for _ in range(count):
-        sums = [
-            linear.settled(
-                rng.randint(-6, 6), {name: rng.randint(-3, 3) for name in "xyz"}
-            )
-            for _ in range(rng.randint(1, 5))
-        ]
-        sums += [linear.unknown(name) + 3 for name in "xyz"]
-        sums += [3 - linear.unknown(name) for name in "xyz"]
-        holds = any(
-            all(number_of(total, dict(zip("xyz", point))) >= 0 for total in sums)
-            for point in itertools.product(range(-3, 4), repeat=3)
-        )
+        sums = []
+        for _ in range(rng.randint(1, 5)):
+            constant = rng.randint(-6, 6)
+            factors = {name: rng.randint(-3, 3) for name in "xyz"}
+            sums.append(linear.settled(constant, factors))
+        for name in "xyz":
+            sums.append(linear.unknown(name) + 3)
+            sums.append(3 - linear.unknown(name))
+        holds = False
+        for point in itertools.product(range(-3, 4), repeat=3):
+            numbers = dict(zip("xyz", point))
+            holds |= all(number_of(total, numbers) >= 0 for total in sums)
         contradict = linear.contradict(sums)
         assert not (holds and contradict), sums
         found += contradict
@@ -406,136 +415,145 @@ def stub(i, lines):
 
 def aimed(operand, state, middle):
     """Sets registers so that the operand is in the middle of the room. Returns False if this is not possible."""
-    base, index = ([*operand.parts, None, None])[:2]
-    if (
-        base is None
-        or base[1] != 1
-        or index
-        and index[0] == base[0]
-        or abs(operand.offset) > 1 << 40
-    ):
+    base, index = [*operand.parts, None, None][:2]
+    if base is None or abs(operand.offset) > 1 << 40:
+        return False
+    base_name, base_scale = base
+    if base_scale != 1 or index and index[0] == base_name:
         return False
     inside = 0
     if index:
-        state.general[GENERAL.index(index[0])] &= 7
-        inside = (state.general[GENERAL.index(index[0])]) * index[1]
-    state.general[GENERAL.index(base[0])] = (
-        middle - inside - operand.offset & (1 << 64) - 1
-    )
+        index_name, index_scale = index
+        number = GENERAL.index(index_name)
+        state.general[number] &= 7
+        inside = state.general[number] * index_scale
+    address = middle - inside - operand.offset
+    state.general[GENERAL.index(base_name)] = address & (1 << 64) - 1
     return True
+
+
+class Tried(NamedTuple):
+    """An instruction of the object: its text, its name, its operands and its bytes."""
+
+    text: str
+    op: str
+    operands: list
+    code: bytes
+
+
+def instructions_of(module, file):
+    """Each distinct instruction that uses only registers and memory at registers."""
+    objdump = ["objdump", "-d", "-w", "-M", "intel", "--no-show-raw-insn", file]
+    ended = subprocess.run(objdump, capture_output=True, text=True, check=True)
+    found = {}
+    for line in ended.stdout.splitlines():
+        if ":\t" not in line:
+            continue
+        place, text = line.split(":\t", 1)
+        op, operands, following, start = module.code[module.base + int(place, 16)]
+        is_computation = op != "nop" and op in x86.SCALAR | x86.VECTOR
+        is_elsewhere = re.search(r"rip|[er]?sp\b|spl\b|rep|push|pop|cpuid", text)
+        if (is_computation or USES_FLAGS.match(op)) and not is_elsewhere:
+            code = bytes(module.constants[i] for i in range(start, following))
+            found[text] = Tried(text, op, operands, code)
+    return list(found.values())
+
+
+def library_of(tried, directory):
+    """A library whose function f0, f1, .. runs the instruction of this number. Flags are set by a comparison before."""
+    source = ".intel_syntax noprefix\n"
+    for number, it in enumerate(tried):
+        lines = [".byte " + ",".join(map(str, it.code))]
+        if USES_FLAGS.match(it.op):
+            lines.insert(0, "cmp rax,rcx")
+        source += stub(number, lines)
+    text, made, library = (f"{directory}/test.{kind}" for kind in ("s", "o", "so"))
+    with open(text, "w", encoding="ascii") as file:
+        file.write(source)
+    subprocess.run(["as", "-o", made, text], check=True)
+    subprocess.run(["ld", "-shared", "-o", library, made], check=True)
+    return ctypes.CDLL(library)
+
+
+def random_state(rng, tried):
+    """Random registers. A divisor is not 0, and the quotient fits."""
+    state = State()
+    small = tried.op == "div" or rng.random() < 0.3
+    sizes = [3, 8, 16, 31] if small else [8, 32, 63, 64]
+    state.general[:] = [rng.getrandbits(rng.choice(sizes)) for _ in GENERAL]
+    if tried.op == "div":
+        state.general[GENERAL.index("rdx")] = 0
+        state.general[GENERAL.index(tried.operands[0].name)] |= 1
+    xmm = []
+    for _ in range(256):
+        is_small = rng.random() < 0.2
+        xmm.append(rng.getrandbits(4 if is_small else 8))
+    state.xmm[:] = xmm
+    return state
+
+
+def path_of(state, room):
+    """A path of the checker with these registers and this memory."""
+    memory = dict(enumerate(room, ctypes.addressof(room)))
+    general = dict(zip(GENERAL, state.general))
+    xmm = {k: list(state.xmm[16 * k : 16 * k + 16]) for k in range(16)}
+    return Path(memory, x86.State(general, xmm))
+
+
+def compare(text, run, path, state, room):
+    """The path ends with the registers, the memory and the defined flags that the processor has."""
+    general = [run.register(path, name, 64) for name in GENERAL]
+    assert general == list(state.general), (
+        text,
+        [hex(v) for v in general],
+        [hex(v) for v in state.general],
+    )
+    assert bytes(byte_of(cell) for cell in path.memory.values()) == bytes(room), text
+    xmm = sum((path.state.xmm[k] for k in range(16)), [])
+    assert xmm == list(state.xmm), text
+    if not path.state.flags:
+        return
+    for name, bit in FLAGS.items():
+        try:
+            flag = x86.CONDITIONS[name](path.state.flags)
+        except (Refused, KeyError):
+            continue
+        is_set = state.flags & bit != 0
+        assert flag == int(is_set), (text, name, path.state.flags)
 
 
 def instructions(module, file, directory):
     """Compares each distinct instruction that uses only registers and memory at registers, with random numbers."""
-    texts = {}
-    for line in subprocess.run(
-        ["objdump", "-d", "-w", "-M", "intel", "--no-show-raw-insn", file],
-        capture_output=True,
-        text=True,
-        check=True,
-    ).stdout.splitlines():
-        if ":\t" in line:
-            op, operands, following, place = module.code[
-                module.base + int(line.split(":")[0], 16)
-            ]
-            text = line.split("\t", 1)[1]
-            if op != "nop" and op in x86.SCALAR | x86.VECTOR or USES_FLAGS.match(op):
-                if not re.search(r"rip|[er]?sp\b|spl\b|rep|push|pop|cpuid", text):
-                    texts[text] = (
-                        op,
-                        operands,
-                        bytes(module.constants[i] for i in range(place, following)),
-                    )
-    cases = [(text, *what) for text, what in texts.items()]
+    tried = instructions_of(module, file)
+    library = library_of(tried, directory)
     first = [x86.Operand(name, 0) for name in ("rax", "rcx")]
-    with open(f"{directory}/test.s", "w") as file:
-        file.write(
-            ".intel_syntax noprefix\n"
-            + "".join(
-                stub(
-                    i,
-                    ["cmp rax,rcx"] * bool(USES_FLAGS.match(op))
-                    + [".byte " + ",".join(map(str, code))],
-                )
-                for i, (_, op, _, code) in enumerate(cases)
-            )
-        )
-    subprocess.run(
-        ["as", "-o", f"{directory}/test.o", f"{directory}/test.s"], check=True
-    )
-    subprocess.run(
-        ["ld", "-shared", "-o", f"{directory}/test.so", f"{directory}/test.o"],
-        check=True,
-    )
-    library = ctypes.CDLL(f"{directory}/test.so")
     rng = random.Random(5)
-    done = set()
+    kinds = set()
     refused = 0
     room = (ctypes.c_uint8 * 512)()
     middle = ctypes.addressof(room) // 64 * 64 + 256
-    for i, (text, op, operands, _) in enumerate(cases):
-        for _ in range(8):
-            state = State()
-            small = op == "div" or rng.random() < 0.3
-            sizes = [3, 8, 16, 31] if small else [8, 32, 63, 64]
-            state.general[:] = [rng.getrandbits(rng.choice(sizes)) for _ in GENERAL]
-            if op == "div":
-                state.general[2] = 0
-                state.general[GENERAL.index(operands[0].name)] |= 1
-            state.xmm[:] = [
-                rng.getrandbits(4 if rng.random() < 0.2 else 8) for _ in range(256)
-            ]
-            if not all(
-                aimed(operand, state, middle)
-                for operand in operands
-                if operand.kind == "m"
-            ):
+    for (number, it), _ in itertools.product(enumerate(tried), range(8)):
+        state = random_state(rng, it)
+        in_memory = [operand for operand in it.operands if operand.kind == "m"]
+        if not all(aimed(operand, state, middle) for operand in in_memory):
+            continue
+        room[:] = rng.randbytes(512)
+        path = path_of(state, room)
+        run = x86.Run(module, {}, 0)
+        if USES_FLAGS.match(it.op):
+            run.one(path, "cmp", first)
+        try:
+            run.one(path, it.op, it.operands)
+        except Refused as why:
+            refused += 1
+            assert re.search("secret|flag|trap", str(why)), (it.text, why)
+            if "trap" in str(why):
                 continue
-            room[:] = rng.randbytes(512)
-            path = Path(
-                dict(enumerate(room, ctypes.addressof(room))),
-                x86.State(
-                    dict(zip(GENERAL, state.general)),
-                    {k: list(state.xmm[16 * k : 16 * k + 16]) for k in range(16)},
-                ),
-            )
-            run = x86.Run(module, {}, 0)
-            if USES_FLAGS.match(op):
-                run.one(path, "cmp", first)
-            try:
-                run.one(path, op, operands)
-            except Refused as why:
-                refused += 1
-                assert (
-                    "secret" in str(why) or "flag" in str(why) or "trap" in str(why)
-                ), (text, why)
-                if "trap" in str(why):
-                    continue
-            getattr(library, f"f{i}")(ctypes.byref(state))
-            got = [run.register(path, name, 64) for name in GENERAL]
-            assert got == list(state.general), (
-                text,
-                [hex(v) for v in got],
-                [hex(v) for v in state.general],
-            )
-            assert bytes(byte_of(c) for c in path.memory.values()) == bytes(room), text
-            assert sum((path.state.xmm[k] for k in range(16)), []) == list(
-                state.xmm
-            ), text
-            if path.state.flags:
-                for name, bit in FLAGS.items():
-                    try:
-                        flag = x86.CONDITIONS[name](path.state.flags)
-                    except (Refused, KeyError):
-                        continue
-                    assert flag == int(state.flags & bit != 0), (
-                        text,
-                        name,
-                        path.state.flags,
-                    )
-            done.add(op)
+        getattr(library, f"f{number}")(ctypes.byref(state))
+        compare(it.text, run, path, state, room)
+        kinds.add(it.op)
     print(
-        f"{len(cases)} instructions of {len(done)} kinds: as the processor has them; {refused} runs refused"
+        f"{len(tried)} instructions of {len(kinds)} kinds: as the processor has them; {refused} runs refused"
     )
 
 
@@ -599,6 +617,8 @@ def main(file):
     systems(100)
     decisions(150)
     older_atoms()
+    inverse_of_a_known_s_box()
+    implications()
     inequalities(300)
     vectors()
     two_standards()
