@@ -4,7 +4,9 @@ import itertools
 
 from calls import LONGEST, is_plain_key
 
-KEKS, KEPT = (16, 24, 32), (184, 216, 248)
+# The lengths of KEKs, and of kept KEKs.
+KEKS = (16, 24, 32)
+KEPT = (184, 216, 248)
 SHORT = """
 kek_init 16 184,kek_init 24 216,kek_init 32 248,kek_init 17 184,kek_init 16 183
 kek_clear 184,kek_clear 216,kek_clear 248,unmarked 184
@@ -125,13 +127,14 @@ def lengths_list(keks, most, most_in_place):
             if n % 8 == 0:
                 yield "unwrap_padded_in_place", kek, n
             if is_plain_key(n):
-                yield from parsed(f"wrap_in_place {kek} {n},unwrap_in_place {kek} {n}")
+                yield "wrap_in_place", kek, n
+                yield "unwrap_in_place", kek, n
 
 
 def kept_list():
-    for kek, kept in itertools.product(
-        (0, 8, 15, *KEKS, 33, *KEPT), (0, 183, 185, *KEPT, 384)
-    ):
+    lengths_of_kek = (0, 8, 15, *KEKS, 33, *KEPT)
+    lengths_of_kept = (0, 183, 185, *KEPT, 384)
+    for kek, kept in itertools.product(lengths_of_kek, lengths_of_kept):
         yield "kek_init", kek, kept
     for n in 0, 1, 16, 183, *KEPT, 1000:
         yield "kek_clear", n
@@ -158,13 +161,17 @@ def middle_list():
 
 
 def many_list(keks, slots, places):
+    """Calls for one key and for two, and for as many as there are slots, of which one is refused: at each place."""
     for kek, count in itertools.product(keks, (1, 2)):
-        yield from parsed(
-            f"wrap_many {kek} 16 0 {count},wrap_many {kek} 11 2 {count},wrap_many {kek} 5 2 {count},"
-            f"unwrap_many {kek} 24 0 {count},unwrap_many {kek} 16 1 {count},kind_many {kek} 16 {count},"
-            f"kind_many {kek} 24 {count},rewrap_many {kek} 24 16 11 {count},"
-            f"rewrap_many {kek} 24 24 0 {count}"
-        )
+        yield "wrap_many", kek, 16, 0, count
+        yield "wrap_many", kek, 11, 2, count
+        yield "wrap_many", kek, 5, 2, count
+        yield "unwrap_many", kek, 24, 0, count
+        yield "unwrap_many", kek, 16, 1, count
+        yield "kind_many", kek, 16, count
+        yield "kind_many", kek, 24, count
+        yield "rewrap_many", kek, 24, 16, 11, count
+        yield "rewrap_many", kek, 24, 24, 0, count
     for flags in FLAGS:
         yield "rewrap_many", 184, 216, 24, flags, 1
     yield from parsed(
@@ -177,98 +184,128 @@ def many_list(keks, slots, places):
         yield "rewrap_many", 16, 32, 24, 12, slots, only
     for only in 0, slots - 1:
         yield "unwrap_many", 32, 24, 1, slots, only
-        yield from parsed(
-            f"rewrap_many 16 32 24 8 {slots} {only},rewrap_many 16 32 24 9 {slots} {only}"
-        )
+        yield "rewrap_many", 16, 32, 24, 8, slots, only
+        yield "rewrap_many", 16, 32, 24, 9, slots, only
 
 
 def steps_list(most):
+    """The calls of keywrap_steps.h, for keys of up to this length: each step, and one too far."""
     for n in range(most + 2):
+        steps = 6 * n // 8
         for iv in 0, 7, 8, 9:
             yield "begin_wrap", n, iv
-        yield from parsed(f"begin_unwrap {n} 0,begin_unwrap {n} 1")
-        for left, name in itertools.product(
-            (0, 1), ("end_unwrap", "end_unwrap_padded", "end_unwrap_any")
-        ):
-            yield name, n, left
+        yield "begin_unwrap", n, 0
+        yield "begin_unwrap", n, 1
+        for left in 0, 1:
+            yield "end_unwrap", n, left
+            yield "end_unwrap_padded", n, left
+            yield "end_unwrap_any", n, left
         for key in range(n + 2):
             yield "begin_wrap_padded", key, n
-        for done in range(6 * n // 8 + 2):
-            for name in "step_wrap", "step_unwrap", "end_wrap":
-                yield name, n, done
+        for done in range(steps + 2):
+            yield "step_wrap", n, done
+            yield "step_unwrap", n, done
+            yield "end_wrap", n, done
     for n, count, lanes in itertools.product((8, 16, 17, 24), (1, 2), (1, 2)):
-        yield from parsed(
-            f"begin_wrap_many {n} {count} {lanes},begin_unwrap_many {n} {count} {lanes}"
-        )
-        for number in range(6 * n // 8 + 2):
-            for name in (
-                "step_wrap_many",
-                "step_unwrap_many",
-                "end_wrap_many",
-                "end_unwrap_many",
-            ):
-                yield name, n, number, count, lanes
+        steps = 6 * n // 8
+        yield "begin_wrap_many", n, count, lanes
+        yield "begin_unwrap_many", n, count, lanes
+        for number in range(steps + 2):
+            yield "step_wrap_many", n, number, count, lanes
+            yield "step_unwrap_many", n, number, count, lanes
+            yield "end_wrap_many", n, number, count, lanes
+            yield "end_unwrap_many", n, number, count, lanes
 
 
-def refusals_list():
-    """Lengths that are refused, and their neighbours."""
+def refused_lengths_list():
+    """Lengths of a KEK, a key or a wrapped key and a result, and of the initial value."""
     for kek, n in itertools.product((0, 15, 16, 17, 24, 32, 33), (0, 1, 8, 15, 16, 17)):
         for out, name in itertools.product((0, 8, 16, 23, 24, 25), FOR_ONE_KEY):
             if name not in IN_PLACE and "with" not in name:
                 yield name, kek, n, out
         for name in IN_PLACE:
             yield name, kek, n
-        # In a rewrap n is the length of the new KEK.
-        new_kek = n
-        has_one_bad_kek = (kek, new_kek) in ((17, 16), (16, 17))
-        for text, flags in itertools.product((0, 8, 15, 16, 23), (0, 1, 4, 5, 8, 16)):
-            is_bad_text = new_kek == 16 and text != 16
-            if has_one_bad_kek or is_bad_text:
-                lengths = f"{kek} {new_kek} {text} {flags}"
-                yield from parsed(f"rewrap {lengths},rewrap_in_place {lengths}")
+        yield from refused_rewraps_list(kek, n)
     for kek, n, name in itertools.product(KEKS, range(34), FOR_ONE_KEY):
         if n % 8 and not name.startswith("wrap_padded"):
             yield name, kek, n
     for name, iv in itertools.product(("wrap_with", "unwrap_with"), (0, 7, 9)):
         yield name, 16, 16, iv
-    for name, kek, n, flags in itertools.product(
-        ("wrap_many", "unwrap_many"), (16, 17), (0, 8, 23, 24), (0, 1, 2, 4)
-    ):
-        if (kek, n) != (16, 24) and (name, flags) != ("unwrap_many", 1) or flags == 4:
-            yield name, kek, n, flags, 2
-    yield from parsed(TOO_LONG)
+
+
+def refused_rewraps_list(old_kek, new_kek):
+    """Rewraps with one KEK that is refused, or with a wrapped key that is."""
+    has_one_bad_kek = (old_kek, new_kek) in ((17, 16), (16, 17))
+    for text, flags in itertools.product((0, 8, 15, 16, 23), (0, 1, 4, 5, 8, 16)):
+        is_bad_text = new_kek == 16 and text != 16
+        if has_one_bad_kek or is_bad_text:
+            yield "rewrap", old_kek, new_kek, text, flags
+            yield "rewrap_in_place", old_kek, new_kek, text, flags
+
+
+def refused_keks_list():
+    """KEKs that are refused, in every call that has one."""
     for kek in 8, 20, 28, 40, 176, 208, 272:
         for name in FOR_ONE_KEY:
             yield name, kek, 16
-        for pair in f"{kek} 16", f"16 {kek}":
-            yield from parsed(
-                f"rewrap {pair} 24 0,rewrap_in_place {pair} 24 0,rewrap_many {pair} 24 0 2"
-            )
-        yield from parsed(
-            f"wrap_many {kek} 16 0 2,unwrap_many {kek} 24 0 2,kind_many {kek} 24 2"
-        )
+        for old, new in (kek, 16), (16, kek):
+            yield "rewrap", old, new, 24, 0
+            yield "rewrap_in_place", old, new, 24, 0
+            yield "rewrap_many", old, new, 24, 0, 2
+        yield "wrap_many", kek, 16, 0, 2
+        yield "unwrap_many", kek, 24, 0, 2
+        yield "kind_many", kek, 24, 2
+
+
+def refused_slots_list():
+    """Buffers for many keys that are not as many slots as the others have, or have no length."""
     for n, count in (0, 0), (48, 0), (0, 2), (47, 2), (49, 2), (24, 2), (48, 3):
-        yield from parsed(
-            f"uneven_wrap_many {n} {count},uneven_rewrap_many {n} {count},"
-            f"uneven_unwrap_many {n} {count} {count},uneven_kind_many {n} {count} {count} {count}"
-        )
+        yield "uneven_wrap_many", n, count
+        yield "uneven_rewrap_many", n, count
+        yield "uneven_unwrap_many", n, count, count
+        yield "uneven_kind_many", n, count, count, count
     for n in 0, 1, 3:
-        yield from parsed(
-            f"uneven_unwrap_many 48 {n} 2,uneven_kind_many 48 {n} 2 2,uneven_kind_many 48 2 {n} 2"
-        )
-    for flags in NO_FLAGS:
-        yield from parsed(
-            f"rewrap 16 24 24 {flags},rewrap_steps 16 24 24 {flags},rewrap_many 16 24 24 {flags} 2"
-        )
-    for flags in *NO_FLAGS, 4, 8, 12:
-        yield from parsed(
-            f"rewrap_in_place 16 24 24 {flags},wrap_many 16 16 {flags ^ 1} 2,"
-            f"unwrap_many 16 24 {flags ^ 2} 2"
-        )
+        yield "uneven_unwrap_many", 48, n, 2
+        yield "uneven_kind_many", 48, n, 2, 2
+        yield "uneven_kind_many", 48, 2, n, 2
     for kek, n in (17, 24), (16, 0), (16, 23):
-        yield from parsed(
-            f"kind_many {kek} {n} 2,rewrap_many {kek} 16 {n} 0 2,rewrap_many 16 {kek} {n} 12 2"
-        )
+        yield "kind_many", kek, n, 2
+        yield "rewrap_many", kek, 16, n, 0, 2
+        yield "rewrap_many", 16, kek, n, 12, 2
+
+
+def refused_flags_list():
+    """Flags that no call has, and those that another call has."""
+    for flags in NO_FLAGS:
+        yield "rewrap", 16, 24, 24, flags
+        yield "rewrap_steps", 16, 24, 24, flags
+        yield "rewrap_many", 16, 24, 24, flags, 2
+    for flags in *NO_FLAGS, 4, 8, 12:
+        yield "rewrap_in_place", 16, 24, 24, flags
+        yield "wrap_many", 16, 16, flags ^ 1, 2
+        yield "unwrap_many", 16, 24, flags ^ 2, 2
+
+
+def refused_many_list():
+    """Calls for many keys with a KEK, a length or a flag that is refused."""
+    for name, kek, n, flags in itertools.product(
+        ("wrap_many", "unwrap_many"), (16, 17), (0, 8, 23, 24), (0, 1, 2, 4)
+    ):
+        is_refused_flag = flags == 4
+        has_right_lengths = (kek, n) == (16, 24)
+        is_padded_unwrap = (name, flags) == ("unwrap_many", 1)
+        if is_refused_flag or not has_right_lengths and not is_padded_unwrap:
+            yield name, kek, n, flags, 2
+
+
+def refusals_list():
+    """Lengths, KEKs and flags that are refused, and their neighbours."""
+    yield from refused_lengths_list()
+    yield from refused_many_list()
+    yield from parsed(TOO_LONG)
+    yield from refused_keks_list()
+    yield from refused_slots_list()
+    yield from refused_flags_list()
 
 
 def long_list():
