@@ -18,7 +18,8 @@ def multiply(a, b):
 
 def s_box(a):
     """FIPS 197, 5.1.1: the inverse, and then the affine transformation."""
-    b = next((c for c in range(256) if multiply(a, c) == 1), 0)
+    inverses = [c for c in range(256) if multiply(a, c) == 1]
+    b = inverses[0] if inverses else 0
     result = 0
     for i in range(8):
         bit = (
@@ -84,40 +85,54 @@ def mix(state, coefficients):
     for r in range(4):
         for c in range(4):
             for k in range(4):
-                mixed[r][c] = xor(
-                    mixed[r][c], MULTIPLES[coefficients[(k - r) % 4]].of(state[k][c])
-                )
+                multiple = MULTIPLES[coefficients[(k - r) % 4]]
+                mixed[r][c] = xor(mixed[r][c], multiple.of(state[k][c]))
     return mixed
+
+
+def state_of(block):
+    return [[block[r + 4 * c] for c in range(4)] for r in range(4)]
+
+
+def block_of(state):
+    return [state[i % 4][i // 4] for i in range(16)]
+
+
+def substitute(state, table):
+    return [[table.of(a) for a in row] for row in state]
+
+
+def shift_rows(state, way):
+    """5.1.2 and 5.3.1: row r is shifted by r places, to the left if `way` is 1."""
+    return [[state[r][(c + way * r) % 4] for c in range(4)] for r in range(4)]
 
 
 def cipher(key, block):
     """5.1, algorithm 1."""
     words = key_expansion(key)
     rounds = len(words) // 4 - 1
-    state = [[block[r + 4 * c] for c in range(4)] for r in range(4)]
-    state = add_round_key(state, words[:4])
-    for turn in range(1, rounds + 1):
-        state = [[S_BOX.of(a) for a in row] for row in state]
-        state = [[state[r][(c + r) % 4] for c in range(4)] for r in range(4)]
-        if turn < rounds:
+    state = add_round_key(state_of(block), words[:4])
+    for number in range(1, rounds + 1):
+        state = substitute(state, S_BOX)
+        state = shift_rows(state, 1)
+        if number < rounds:
             state = mix(state, (2, 3, 1, 1))
-        state = add_round_key(state, words[4 * turn : 4 * turn + 4])
-    return [state[i % 4][i // 4] for i in range(16)]
+        state = add_round_key(state, words[4 * number : 4 * number + 4])
+    return block_of(state)
 
 
 def inverse_cipher(key, block):
     """5.3, algorithm 3."""
     words = key_expansion(key)
     rounds = len(words) // 4 - 1
-    state = [[block[r + 4 * c] for c in range(4)] for r in range(4)]
-    state = add_round_key(state, words[4 * rounds :])
-    for turn in range(rounds - 1, -1, -1):
-        state = [[state[r][(c - r) % 4] for c in range(4)] for r in range(4)]
-        state = [[INVERSE_S_BOX.of(a) for a in row] for row in state]
-        state = add_round_key(state, words[4 * turn : 4 * turn + 4])
-        if turn:
+    state = add_round_key(state_of(block), words[4 * rounds :])
+    for number in range(rounds - 1, -1, -1):
+        state = shift_rows(state, -1)
+        state = substitute(state, INVERSE_S_BOX)
+        state = add_round_key(state, words[4 * number : 4 * number + 4])
+        if number > 0:
             state = mix(state, (14, 11, 13, 9))
-    return [state[i % 4][i // 4] for i in range(16)]
+    return block_of(state)
 
 
 # RFC 3394: the first of the two descriptions, where the registers are shifted
@@ -140,7 +155,8 @@ def unwrap(kek, text):
     registers = [list(text[i : i + 8]) for i in range(8, len(text), 8)]
     for t in range(6 * len(registers), 0, -1):
         block = inverse_cipher(kek, xor_all(a, number(t, 8)) + registers[-1])
-        a, registers = block[:8], [block[8:]] + registers[:-1]
+        a = block[:8]
+        registers = [block[8:]] + registers[:-1]
     return a, sum(registers, [])
 
 
