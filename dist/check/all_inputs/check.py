@@ -236,12 +236,12 @@ def all_todo(module, which, numbers):
         settings.append((Setting.FIRST, first))
     if getattr(module, "uses_cpuid", False):
         settings.append((Setting.WITHOUT_AES, first))
-    return [
-        Todo(name, tuple(numbers), setting)
-        for setting, listed in settings
-        for name, *numbers in listed
-        if is_made(module, name, numbers)
-    ]
+    todo = []
+    for setting, listed in settings:
+        for name, *numbers in listed:
+            if is_made(module, name, numbers):
+                todo.append(Todo(name, tuple(numbers), setting))
+    return todo
 
 
 # The output

@@ -15,6 +15,7 @@ from terms import (
     bits,
     flips,
     input_byte,
+    is_sum_with_number,
     or_,
     picked,
     shl,
@@ -28,7 +29,8 @@ def byte_of(cell):
     if isinstance(cell, int):
         return cell
     v, k = cell
-    if not isinstance(v, (V, N)) or k == 0 and bits(v) < 256:
+    is_one_byte = not isinstance(v, (V, N)) or k == 0 and bits(v) < 256
+    if is_one_byte:
         return v
     if type(v) is V:
         return picked(v, 255 << 8 * k, 8 * k)
@@ -41,11 +43,9 @@ def cell_of(v):
 
 def cells_of(v, n):
     """Returns the lowest n bytes of a value."""
-    return (
-        [v >> 8 * i & 255 for i in range(n)]
-        if isinstance(v, int)
-        else [(v, i) for i in range(n)]
-    )
+    if isinstance(v, int):
+        return [v >> 8 * i & 255 for i in range(n)]
+    return [(v, i) for i in range(n)]
 
 
 def joined(cells):
@@ -55,45 +55,54 @@ def joined(cells):
             return int.from_bytes(cells, "little")
         except TypeError:  # not all of them are numbers
             pass
-    parts, i = [], 0
+    parts = []
+    i = 0
     while i < len(cells):
-        cell = cells[i]
-        n = 1
-        if isinstance(cell, int):
-            part = cell
-        else:
-            v, k = cell
-            if not isinstance(v, (V, N)):
-                raise Refused(
-                    "a byte that is not an affine map of a byte, its S-box or its inverse S-box"
-                )
-            while (
-                i + n < len(cells)
-                and isinstance(cell := cells[i + n], tuple)
-                and cell[0] is v
-                and cell[1] == k + n
-            ):
-                n += 1
-            part = (
-                v
-                if k == 0 and bits(v) >> 8 * n == 0
-                else and_(shr(v, 8 * k, 64), (1 << 8 * n) - 1)
-            )
-        parts.append((part, 8 * i))
+        n = neighbours(cells, i)
+        parts.append((part_of(cells[i], n), 8 * i))
         i += n
-    if i == n:
-        return part
+    if len(parts) == 1:
+        return parts[0][0]
     if any(isinstance(part, N) for part, _ in parts):
         return reduce(or_, [shl(part, k, 64) for part, k in parts])
-    c, t = 0, {}
+    c = 0
+    t = {}
     for part, k in parts:
         if isinstance(part, int):
             c |= part << k
             continue
         c |= part.c << k
         for atom, x in part.t.items():
-            t[atom] = t[atom] | x << k if atom in t else x << k
+            t[atom] = t.get(atom, 0) | x << k
     return V(c, t) if t else c
+
+
+def neighbours(cells, start):
+    """Returns how many cells from there on are bytes of one value, in their order."""
+    if isinstance(cells[start], int):
+        return 1
+    v, k = cells[start]
+    n = 1
+    for cell in cells[start + 1 :]:
+        if not isinstance(cell, tuple) or cell[0] is not v or cell[1] != k + n:
+            break
+        n += 1
+    return n
+
+
+def part_of(cell, n):
+    """Returns the value of n bytes that begin with this cell."""
+    if isinstance(cell, int):
+        return cell
+    v, k = cell
+    if not isinstance(v, (V, N)):
+        raise Refused(
+            "a byte that is not an affine map of a byte, its S-box or its inverse S-box"
+        )
+    is_whole = k == 0 and bits(v) >> 8 * n == 0
+    if is_whole:
+        return v
+    return and_(shr(v, 8 * k, 64), (1 << 8 * n) - 1)
 
 
 class Path:
@@ -105,15 +114,15 @@ class Path:
         self.memory = memory
         self.state = state
         self.stopped = None
-        self.known, self.excluded, self.forks = (
-            (before.known, before.excluded, before.forks)
-            if before
-            else (Known(), [], [])
-        )
+        self.known = before.known if before else Known()
+        self.excluded = before.excluded if before else []
+        self.forks = before.forks if before else []
 
     def fork(self, known, excluded, place):
         other = Path(dict(self.memory), self.state.copy())
-        other.known, other.excluded, other.forks = known, excluded, [*self.forks, place]
+        other.known = known
+        other.excluded = excluded
+        other.forks = [*self.forks, place]
         return other
 
     def is_zero(self, values):
@@ -131,26 +140,35 @@ class Path:
 
     def cases(self, v):
         """Returns (what is known, what is excluded, whether v is not 0) for each way to go on."""
-        wanted = True
-        while isinstance(v, N) and (
-            v.op == "nz"
-            or v.op == "eqz"
-            and not (isinstance(v.args[0], N) and v.args[0].op == "ltu")
-        ):
-            wanted ^= v.op == "eqz"
-            v = v.args[0]
-        zeros = [
-            case
-            for case in zero_cases(v, self.known)
-            if not any(case.implies(other) for other in self.excluded)
-        ]
+        inner, is_negated = without_tests(v)
+        zeros = []
+        for case in zero_cases(inner, self.known):
+            if not any(case.implies(other) for other in self.excluded):
+                zeros.append(case)
+        if_zero = is_negated
+        if_not_zero = not is_negated
         if not zeros:
-            return [(self.known, self.excluded, wanted)]
+            return [(self.known, self.excluded, if_not_zero)]
         if any(case is self.known for case in zeros):
-            return [(self.known, self.excluded, not wanted)]
-        return [(self.known, self.excluded + zeros, wanted)] + [
-            (case.closed(), self.excluded, not wanted) for case in reversed(zeros)
-        ]
+            return [(self.known, self.excluded, if_zero)]
+        ways = [(self.known, self.excluded + zeros, if_not_zero)]
+        for case in reversed(zeros):
+            ways.append((case.closed(), self.excluded, if_zero))
+        return ways
+
+
+def without_tests(v):
+    """Returns the value that a test for zero, or a test of a test, is about; and whether the test holds for 0."""
+    is_negated = False
+    while isinstance(v, N) and v.op in ("nz", "eqz"):
+        inner = v.args[0]
+        is_not_less = v.op == "eqz" and isinstance(inner, N) and inner.op == "ltu"
+        # zero_cases decides a >= b as a whole.
+        if is_not_less:
+            break
+        is_negated ^= v.op == "eqz"
+        v = inner
+    return v, is_negated
 
 
 class Machine:
@@ -169,13 +187,12 @@ class Machine:
         constants = self.module.constants
         stack = self.stack
         variables = self.module.variables
-        places = [
-            *self.unwritten,
-            *(at for at in memory if at not in stack and at not in variables),
-        ]
-        if len({*places}) != len(places) or any(
-            at in constants or at in stack for at in places
-        ):
+        places = list(self.unwritten)
+        for at in memory:
+            if at not in stack and at not in variables:
+                places.append(at)
+        is_twice = len({*places}) != len(places)
+        if is_twice or any(at in constants or at in stack for at in places):
             raise Refused("places with two meanings")
 
     def cells(self, path, at, n):
@@ -207,45 +224,47 @@ class Machine:
 
     def lookup(self, address, offset, n):
         """Returns what is loaded from a table of constants at an index of any value, or None if it is not that."""
-        more, w = 0, 64
-        if (
-            isinstance(address, N)
-            and address.op == "add"
-            and isinstance(address.args[1], int)
-        ):
+        more = 0
+        w = 64
+        if is_sum_with_number(address):
             address, more, w = address.args
         if not isinstance(address, V):
             return None
+        # The bits of the index are `free`, and the address without them begins the table.
         free = flips(address)
         shift = (free & -free).bit_length() - 1
-        base = (address.c & ~free) + more
-        if base >> w != (address.c | free) + more >> w:
+        lowest = (address.c & ~free) + more
+        highest = (address.c | free) + more
+        is_index_of_a_byte = (free >> shift).bit_length() <= 8
+        if lowest >> w != highest >> w or not is_index_of_a_byte:
             return None
-        base = offset + (base & 2**w - 1)
-        if (free >> shift).bit_length() > 8:
+        table = self.table_at(offset + (lowest & 2**w - 1), shift, n)
+        if table is None:
             return None
-        entries = self.tables.get((base, shift, n))
-        if entries is None:
-            constants = self.module.constants
-            places = [base + (x << shift) for x in range(256)]
-            if not all(at + i in constants for at in places for i in range(n)):
-                return None
-            entries = self.tables[base, shift, n] = table_of(
-                tuple(
-                    sum(constants[at + i] << 8 * i for i in range(n)) for at in places
-                )
-            )
         self.lookups += 1
-        return entries.of(picked(address, 255 << shift & free, shift))
+        return table.of(picked(address, 255 << shift & free, shift))
+
+    def table_at(self, base, shift, n):
+        """Returns the table of 256 constants of n bytes that begins there, or None."""
+        table = self.tables.get((base, shift, n))
+        if table is None:
+            constants = self.module.constants
+            entries = []
+            for x in range(256):
+                at = base + (x << shift)
+                cells = [constants.get(at + i) for i in range(n)]
+                if None in cells:
+                    return None
+                entries.append(int.from_bytes(cells, "little"))
+            table = self.tables[base, shift, n] = table_of(tuple(entries))
+        return table
 
     def store(self, path, at, cells):
         memory = path.memory
+        stack = self.stack
+        variables = self.module.variables
         for i, cell in enumerate(cells, at):
-            if (
-                i not in memory
-                and i not in self.stack
-                and i not in self.module.variables
-            ):
+            if i not in memory and i not in stack and i not in variables:
                 raise Refused(f"a store at {i:#x}")
             memory[i] = cell
 
@@ -268,6 +287,6 @@ class Machine:
 
     def reached(self, path):
         """Returns the bytes of the stack that the path wrote."""
-        return self.stack.stop - min(
-            (at for at in path.memory if at in self.stack), default=self.stack.stop
-        )
+        end = self.stack.stop
+        written = (at for at in path.memory if at in self.stack)
+        return end - min(written, default=end)

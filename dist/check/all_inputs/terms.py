@@ -24,11 +24,9 @@ class V:
     __slots__ = ("c", "t", "s")
 
     def __init__(self, c, t, s=None):
-        self.c, self.t, self.s = (
-            c,
-            t,
-            s,
-        )  # s: flips(self), or None if this was not computed
+        self.c = c
+        self.t = t
+        self.s = s  # flips(self), or None if this was not computed
 
     def __eq__(self, other):
         return isinstance(other, V) and self.c == other.c and self.t == other.t
@@ -49,12 +47,11 @@ class N:
         self.h = None
 
     def __eq__(self, other):
-        return (
-            self is other
-            or isinstance(other, N)
-            and hash(self) == hash(other)
-            and (self.op == other.op and self.args == other.args)
-        )
+        if self is other:
+            return True
+        if not isinstance(other, N) or hash(self) != hash(other):
+            return False
+        return self.op == other.op and self.args == other.args
 
     def __hash__(self):
         if self.h is None:
@@ -68,7 +65,9 @@ class N:
 def show(v):
     if isinstance(v, int):
         return hex(v)
-    return f"<{len(v.t)} atoms>" if isinstance(v, V) else repr(v)
+    if isinstance(v, V):
+        return f"<{len(v.t)} atoms>"
+    return repr(v)
 
 
 def form(c, t, s=None):
@@ -90,15 +89,22 @@ def flips(v):
 def bits(v):
     """Returns the bits that can be 1."""
     if isinstance(v, V):
-        return (flips(v) if v.s is None else v.s) | v.c
-    return v if isinstance(v, int) else (1 << v.top.bit_length()) - 1
+        return flips(v) | v.c
+    if isinstance(v, int):
+        return v
+    return (1 << v.top.bit_length()) - 1
 
 
 def least(v):
     """Returns bits that are always 1."""
-    if isinstance(v, N):
-        return least(v.args[0]) | least(v.args[1]) if v.op == "or" else 0
-    return v if isinstance(v, int) else v.c & ~flips(v)
+    if isinstance(v, int):
+        return v
+    if isinstance(v, V):
+        return v.c & ~flips(v)
+    if v.op == "or":
+        one, other = v.args
+        return least(one) | least(other)
+    return 0
 
 
 # Atoms
@@ -144,44 +150,63 @@ def forget_between(first, end):
 
 
 def _field_inverse():
-    exp, x = [], 1
+    """The inverse of each element of AES's field, and 0 of 0."""
+    # The powers of the generator 3.
+    powers = []
+    x = 1
     for _ in range(255):
-        exp.append(x)
-        x ^= x << 1 ^ (0x11B if x & 0x80 else 0)
-    log = {x: i for i, x in enumerate(exp)}
-    return [0] + [exp[-log[x] % 255] for x in range(1, 256)]
+        powers.append(x)
+        doubled = x << 1
+        if x & 0x80:
+            doubled ^= 0x11B
+        x ^= doubled
+    inverses = [0] * 256
+    for exponent, x in enumerate(powers):
+        inverses[x] = powers[-exponent % 255]
+    return inverses
 
 
 def _affine(x):
-    return (
-        0x63
-        ^ x
-        ^ (x << 1 | x >> 7) & 255
-        ^ (x << 2 | x >> 6) & 255
-        ^ (x << 3 | x >> 5) & 255
-        ^ (x << 4 | x >> 4) & 255
-    )
+    """The affine transformation of the S-box."""
+    result = 0x63
+    for k in range(5):
+        result ^= (x << k | x >> 8 - k) & 255
+    return result
 
 
 S = [_affine(x) for x in _field_inverse()]
 T = [S.index(x) for x in range(256)]
 TABLES = {"S": S, "T": T}
+INVERSE = {"S": "T", "T": "S"}
+
+
+def argument_of(kind, v):
+    """Returns x if the form v is the atom of S(x) or T(x), or None."""
+    if v.c == 0 and len(v.t) == 1:
+        ((atom, matrix),) = v.t.items()
+        made_by, argument = ATOMS.get(atom, (None, None))
+        if matrix == IDENTITY and made_by == kind:
+            return argument
+    return None
 
 
 def substituted(kind, v):
     """Returns S or T of a byte."""
-    known = Known.now
-    for v in (v, known.reduced(v)) if known.rows else (v,):
-        if isinstance(v, int):
-            return TABLES[kind][v]
-        if v.c == 0 and len(v.t) == 1:
-            ((atom, x),) = v.t.items()
-            other, argument = ATOMS.get(atom, (None, None))
-            if x == IDENTITY and other == ("T" if kind == "S" else "S"):
-                return argument
-    argument = known.argument(kind, v) if known.rows else None
+    if isinstance(v, int):
+        return TABLES[kind][v]
+    argument = argument_of(INVERSE[kind], v)
     if argument is not None:
         return argument
+    known = Known.now
+    if known.rows:
+        v = known.reduced(v)
+        if isinstance(v, int):
+            return TABLES[kind][v]
+        argument = argument_of(INVERSE[kind], v)
+        if argument is None:
+            argument = known.argument(kind, v)
+        if argument is not None:
+            return argument
     made = _made[kind].get(v)
     if made is None and turns:
         turns.wait()
@@ -200,14 +225,10 @@ class Table:
     def __init__(self, entries, kinds=(("", range(256)), ("S", T), ("T", S))):
         self.entries = entries
         for self.kind, order in kinds:
-            f = [entries[x] for x in order]
-            self.c = f[0]
-            columns = [f[1 << i] ^ f[0] for i in range(8)]
-            self.linear = [0] * 256
-            for x in range(1, 256):
-                low = x & -x
-                self.linear[x] = self.linear[x ^ low] ^ columns[low.bit_length() - 1]
-            if all(f[x] == self.linear[x] ^ self.c for x in range(256)):
+            after = [entries[x] for x in order]
+            self.c = after[0]
+            self.linear = linear_map(after)
+            if all(after[x] == self.linear[x] ^ self.c for x in range(256)):
                 self.image = cache(self.image_of)
                 return
         raise Refused(
@@ -221,12 +242,20 @@ class Table:
         if isinstance(v, int):
             return self.c ^ self.linear[v]
         image = self.image
-        return form(
-            self.c ^ self.linear[v.c], {a: y for a, x in v.t.items() if (y := image(x))}
-        )
+        matrices = {atom: y for atom, x in v.t.items() if (y := image(x))}
+        return form(self.c ^ self.linear[v.c], matrices)
 
     def image_of(self, matrix):
         return sum(self.linear[matrix >> 64 * i & 255] << 64 * i for i in range(8))
+
+
+def linear_map(entries):
+    """Returns the linear map of a byte that is, on single bits, what a table is but for its constant."""
+    linear = [0] * 256
+    for x in range(1, 256):
+        low = x & -x
+        linear[x] = linear[x ^ low] ^ entries[low] ^ entries[0]
+    return linear
 
 
 table_of = cache(Table)
@@ -251,7 +280,8 @@ def xor(a, b):
             return a
         if b == 1 and a.top == 1:
             return eqz(a)
-        return N("xor", a, b, top=(1 << (bits(a) | bits(b)).bit_length()) - 1)
+        width = (bits(a) | bits(b)).bit_length()
+        return N("xor", a, b, top=(1 << width) - 1)
     return V(a.c ^ b, a.t, a.s)
 
 
@@ -280,46 +310,63 @@ def total(values):
 
 
 def and_(a, b):
-    a, b = (b, a) if isinstance(a, int) else (a, b)
+    if isinstance(a, int):
+        a, b = b, a
     if isinstance(b, int):
-        if type(a) is V:
-            return a if a.s is not None and (a.s | a.c) & ~b == 0 else picked(a, b, 0)
-        if isinstance(a, int):
-            return a & b
-        if bits(a) & ~b == 0:
-            return a
-        if bits(a) & b == 0:
-            return 0
-        if a.op == "and" and isinstance(a.args[1], int):
-            return and_(a.args[0], a.args[1] & b)
-        if a.op == "xor" and isinstance(a.args[1], int) and b == 1:
-            return xor(and_(a.args[0], 1), a.args[1] & 1)
-        if a.op == "or" and (
-            0 in (parts := [and_(part, b) for part in a.args]) or b == 1
-        ):
-            return or_(*parts)
-    elif bits(a) == 1 < bits(b) or bits(b) == 1 < bits(a):
+        return masked(a, b)
+    if bits(a) == 1 < bits(b) or bits(b) == 1 < bits(a):
         # Of the other value only bit 0 counts.
         return and_(and_(a, 1), and_(b, 1))
     return a if a == b else N("and", a, b, top=min(bits(a), bits(b)))
 
 
+def masked(a, mask):
+    """Returns the bits of a value that a number has."""
+    if type(a) is V:
+        has_no_others = a.s is not None and (a.s | a.c) & ~mask == 0
+        return a if has_no_others else picked(a, mask, 0)
+    if isinstance(a, int):
+        return a & mask
+    if bits(a) & ~mask == 0:
+        return a
+    if bits(a) & mask == 0:
+        return 0
+    has_number = isinstance(a.args[-1], int)
+    if a.op == "and" and has_number:
+        inner, other_mask = a.args
+        return and_(inner, other_mask & mask)
+    if a.op == "xor" and has_number and mask == 1:
+        inner, number = a.args
+        return xor(and_(inner, 1), number & 1)
+    if a.op == "or":
+        parts = [and_(part, mask) for part in a.args]
+        if 0 in parts or mask == 1:
+            return or_(*parts)
+    return N("and", a, mask, top=min(bits(a), mask))
+
+
 def picked(v, wanted, k):
     """Returns these bits of an affine form, k bits lower. They have none of the lowest k bits."""
-    mask = MASKS.get((wanted, k)) or MASKS.setdefault((wanted, k), wanted * EACH >> k)
+    mask = MASKS.get((wanted, k))
+    if mask is None:
+        mask = MASKS[wanted, k] = wanted * EACH >> k
     t = {atom: y for atom, x in v.t.items() if (y := x >> k & mask)}
     c = (v.c & wanted) >> k
     if not t:
         return c
-    return V(c, t, None if v.s is None else (v.s & wanted) >> k)
+    s = None if v.s is None else (v.s & wanted) >> k
+    return V(c, t, s)
 
 
 def or_(a, b):
     if isinstance(a, int) and isinstance(b, int):
         return a | b
-    if a == 0 or b == 0:
-        return b if a == 0 else a
-    if not isinstance(a, N) and not isinstance(b, N) and bits(a) & bits(b) == 0:
+    if a == 0:
+        return b
+    if b == 0:
+        return a
+    are_forms = not isinstance(a, N) and not isinstance(b, N)
+    if are_forms and bits(a) & bits(b) == 0:
         both = xor(a, b)
         if isinstance(a, V) and isinstance(b, V):
             both.s = flips(a) | flips(b)
@@ -337,15 +384,15 @@ def shl(a, k, w):
     if isinstance(a, int):
         return a << k & 2**w - 1
     a = and_(a, (1 << w - k) - 1)
+    if k == 0:
+        return a
+    if isinstance(a, int):
+        return a << k
     if isinstance(a, N):
-        return a if k == 0 else N("shl", a, k, w, top=a.top << k)
-    if k == 0 or isinstance(a, int):
-        return a << k if k else a
-    return V(
-        a.c << k,
-        {atom: x << k for atom, x in a.t.items()},
-        None if a.s is None else a.s << k,
-    )
+        return N("shl", a, k, w, top=a.top << k)
+    t = {atom: x << k for atom, x in a.t.items()}
+    s = None if a.s is None else a.s << k
+    return V(a.c << k, t, s)
 
 
 def shr(a, k, w):
@@ -355,13 +402,17 @@ def shr(a, k, w):
     if isinstance(a, int):
         return a >> k
     if isinstance(a, N):
-        if a.op == "or" and 0 in (parts := [shr(part, k, w) for part in a.args]):
-            return or_(*parts)
+        if a.op == "or":
+            parts = [shr(part, k, w) for part in a.args]
+            if 0 in parts:
+                return or_(*parts)
         top = a.top >> k
         if top == 0:
             return 0
         return N("shr", a, k, w, top=top) if k else a
-    return picked(a, (1 << w) - (1 << k), k) if k else and_(a, (1 << w) - 1)
+    if k == 0:
+        return and_(a, (1 << w) - 1)
+    return picked(a, (1 << w) - (1 << k), k)
 
 
 def rotl(a, k, w):
@@ -392,32 +443,33 @@ def bswap(a, w):
             return a.args[0]
         if a.op == "or":
             return or_(*(bswap(part, w) for part in a.args))
-        if (
-            a.op == "shl"
-            and isinstance(k := a.args[1], int)
-            and k % 8 == 0
-            and bits(a.args[0]) >> w - k == 0
-        ):
-            return bswap(a.args[0], w - k)
+        if a.op == "shl":
+            shifted, k, _ = a.args
+            is_by_bytes = isinstance(k, int) and k % 8 == 0
+            if is_by_bytes and bits(shifted) >> w - k == 0:
+                return bswap(shifted, w - k)
         return N("bswap", a, w, top=2**w - 1)
     total = 0
     for k in range(0, w, 8):
-        total = or_(total, shl(and_(shr(a, k, 64), 255), w - 8 - k, 64))
+        byte = and_(shr(a, k, 64), 255)
+        total = or_(total, shl(byte, w - 8 - k, 64))
     return total
+
+
+def is_sum_with_number(v):
+    """Whether it is an addition of a number."""
+    return isinstance(v, N) and v.op == "add" and isinstance(v.args[1], int)
 
 
 def add(a, b, w):
     if isinstance(a, int) and isinstance(b, int):
         return a + b & 2**w - 1
-    a, b = (b, a) if isinstance(a, int) else (a, b)
-    if (
-        isinstance(b, int)
-        and isinstance(a, N)
-        and a.op == "add"
-        and isinstance(a.args[1], int)
-    ):
-        inner, c, v = a.args
-        if v == w or bits(inner) + c < 2**v:
+    if isinstance(a, int):
+        a, b = b, a
+    if isinstance(b, int) and is_sum_with_number(a):
+        inner, c, inner_width = a.args
+        is_exact = bits(inner) + c < 2**inner_width
+        if inner_width == w or is_exact:
             return add(inner, b + c & 2**w - 1, w)
     if bits(a) & bits(b) == 0:
         return or_(a, b)
@@ -504,9 +556,8 @@ class Known:
     """Solved linear equations over the bits of atoms: each pivot bit is a sum of other bits, none of them a pivot."""
 
     def __init__(self, rows=()):
-        self.rows = dict(
-            rows
-        )  # pivot: (frozenset of other bits, constant); a bit is (atom, number)
+        # pivot: (frozenset of other bits, constant); a bit is (atom, number)
+        self.rows = dict(rows)
         self.pivots = {}
         for atom, i in self.rows:
             self.pivots.setdefault(atom, []).append(i)
@@ -532,10 +583,8 @@ class Known:
             for atom in self.pivots:
                 other, x = ATOMS.get(atom, (None, None))
                 if other in TABLES:
-                    self.arguments[
-                        "T" if other == "S" else "S",
-                        self.reduced(V(0, {atom: IDENTITY})),
-                    ] = x
+                    result = self.reduced(V(0, {atom: IDENTITY}))
+                    self.arguments[INVERSE[other], result] = x
         return self.arguments.get((kind, v)) if self.arguments else None
 
     def reduced(self, v):
@@ -581,16 +630,15 @@ class Known:
 
     def replaced(self, v):
         """Returns the value with the images of its atoms."""
-        changed = (
-            [atom for atom in v.t if self.images[atom] is not None]
-            if isinstance(v, V)
-            else ()
-        )
-        for atom in changed:
-            v = xor(
-                v, xor(V(0, {atom: v.t[atom]}), product(v.t[atom], self.images[atom]))
-            )
-        return v
+        if not isinstance(v, V):
+            return v
+        replaced = v
+        for atom, matrix in v.t.items():
+            image = self.images[atom]
+            if image is not None:
+                change = xor(V(0, {atom: matrix}), product(matrix, image))
+                replaced = xor(replaced, change)
+        return replaced
 
     def with_zero(self, v):
         """Returns the equations with v == 0, or None if that is a contradiction."""
@@ -598,14 +646,7 @@ class Known:
         if isinstance(v, int):
             return self if v == 0 else None
         rows = dict(self.rows)
-        ones_at = {}
-        for atom, x in v.t.items():
-            for i in range(8):
-                column = x >> 64 * i & M64
-                while column:
-                    low = column & -column
-                    ones_at.setdefault(low, set()).add((atom, i))
-                    column ^= low
+        ones_at = flipping(v)
         if v.c & ~sum(ones_at):
             return None
         for b, ones in ones_at.items():
@@ -626,13 +667,27 @@ class Known:
         return Known(rows)
 
     def implies(self, other):
-        return all(
-            self.reduced(V(c, _columns([pivot, *others]))) == 0
-            for pivot, (others, c) in other.rows.items()
-        )
+        for pivot, (others, c) in other.rows.items():
+            total = V(c, _columns([pivot, *others]))
+            if self.reduced(total) != 0:
+                return False
+        return True
 
 
 Known.now = Known()  # what is known on the path that is followed now
+
+
+def flipping(v):
+    """Returns the bits of atoms that flip each bit of a V, by this bit."""
+    ones_at = {}
+    for atom, x in v.t.items():
+        for i in range(8):
+            column = x >> 64 * i & M64
+            while column:
+                low = column & -column
+                ones_at.setdefault(low, set()).add((atom, i))
+                column ^= low
+    return ones_at
 
 
 def product(matrix, v):
@@ -641,16 +696,18 @@ def product(matrix, v):
     def times(byte):
         total = 0
         for i in range(8):
-            total ^= matrix >> 64 * i & M64 if byte >> i & 1 else 0
+            if byte >> i & 1:
+                total ^= matrix >> 64 * i & M64
         return total
 
     if isinstance(v, int):
         return times(v)
-    columns = {
-        atom: sum(times(x >> 64 * i & 255) << 64 * i for i in range(8))
-        for atom, x in v.t.items()
-    }
-    return form(times(v.c), {atom: y for atom, y in columns.items() if y})
+    t = {}
+    for atom, x in v.t.items():
+        image = sum(times(x >> 64 * i & 255) << 64 * i for i in range(8))
+        if image:
+            t[atom] = image
+    return form(times(v.c), t)
 
 
 def _columns(ones):
@@ -675,42 +732,39 @@ def zero_cases(v, known):
     if isinstance(v, V):
         more = known.with_zero(v)
         return [more] if more else []
-    a, *rest = v.args
-    if (
-        v.op == "nz" or v.op == "shl" and isinstance(rest[0], int)
-    ):  # no bit is shifted out
+    a = v.args[0]
+    b = v.args[1] if len(v.args) > 1 else None
+    has_number = isinstance(b, int)
+    # No bit is shifted out.
+    if v.op == "nz" or v.op == "shl" and has_number:
         return zero_cases(a, known)
     if v.op == "eqz" and isinstance(a, N) and a.op == "ltu":
         return less_cases(*a.args, known)
     if v.op == "or":
         try:
-            return [
-                two for one in zero_cases(a, known) for two in zero_cases(rest[0], one)
-            ]
+            return both_zero_cases(a, b, known)
         except Refused:
-            return [
-                two for one in zero_cases(rest[0], known) for two in zero_cases(a, one)
-            ]
-    if (
-        v.op == "xor"
-        and isinstance(rest[0], int)
-        and isinstance(a, N)
-        and a.op == "add"
-        and isinstance(a.args[1], int)
-    ):
+            return both_zero_cases(b, a, known)
+    if v.op == "xor" and has_number and is_sum_with_number(a):
         x, c, w = a.args
-        return (
-            zero_cases(xor(fits(x, w), rest[0] - c & 2**w - 1), known)
-            if rest[0] >> w == 0
-            else []
-        )
-    if v.op == "and" and bits(a) | bits(rest[0]) == 1:
-        return zero_cases(a, known) + zero_cases(rest[0], known)
-    if v.op == "shr" and isinstance(rest[0], int) and rest[0] < 8:
-        return less_cases(a, 1 << rest[0], known)
+        if b >> w:
+            return []
+        return zero_cases(xor(fits(x, w), b - c & 2**w - 1), known)
+    if v.op == "and" and bits(a) | bits(b) == 1:
+        return zero_cases(a, known) + zero_cases(b, known)
+    if v.op == "shr" and has_number and b < 8:
+        return less_cases(a, 1 << b, known)
     if v.op in ("add", "sub"):
         return less_cases(v, 1, known)
     raise Refused(f"a decision over {show(v)[:200]}")
+
+
+def both_zero_cases(a, b, known):
+    """Returns the cases in which both values are 0. The first one is decided first."""
+    cases = []
+    for case in zero_cases(a, known):
+        cases += zero_cases(b, case)
+    return cases
 
 
 def less_by(a, i, w):
