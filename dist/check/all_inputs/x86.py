@@ -118,52 +118,48 @@ class Module:
         self.imports = image.imports
         self.constants = image.constants
         self.variables = image.variables
-        self.returned, self.stack_top, self.heap = (
-            place(*CALLERS),
-            place(*STACKS, 16),
-            place(*HEAPS),
-        )
+        self.returned = place(*CALLERS)
+        self.stack_top = place(*STACKS, 16)
+        self.heap = place(*HEAPS)
         self.cpuid = mask(32)
-        self.code, self.names = {}, {at: name for name, at in self.exports.items()}
+        self.code = {}
+        self.names = {at: name for name, at in self.exports.items()}
         self.read_code(path, image)
         for at in image.starts:
             self.start(at)
 
     def read_code(self, path, image):
-        lines = subprocess.run(
-            ["objdump", "-d", "-z", "-w", "-M", "intel", path],
-            capture_output=True,
-            text=True,
-            check=True,
-        ).stdout.splitlines()
-        for line in lines:
+        """Reads the labels and the instructions that objdump prints."""
+        objdump = ["objdump", "-d", "-z", "-w", "-M", "intel", path]
+        ended = subprocess.run(objdump, capture_output=True, text=True, check=True)
+        for line in ended.stdout.splitlines():
             if label := re.fullmatch(r"([0-9a-f]{16}) <(.*)>:", line):
-                self.names.setdefault(self.base + int(label[1], 16), label[2])
+                at = self.base + int(label[1], 16)
+                self.names.setdefault(at, label[2])
             elif found := LINE.fullmatch(line):
-                at = self.base + int(found[1], 16)
-                content = bytes.fromhex(found[2])
-                for i, b in enumerate(content, at):
-                    if image.constants.get(i) != b or not image.is_code(i):
-                        raise Refused(
-                            f"code at {found[1]} that is not what the loader puts there"
-                        )
-                self.code[at] = [
-                    *instruction(found[3], self.base, found[4]),
-                    at + len(content),
-                    at,
-                ]
+                self.read_instruction(*found.groups(), image)
             elif ":\t" in line:
                 raise Refused(f"a line of objdump: {line}")
         self.uses_cpuid = any(name == "cpuid" for name, *_ in self.code.values())
+
+    def read_instruction(self, place, digits, text, note, image):
+        """Keeps an instruction, whose bytes the loader has to put there as code."""
+        at = self.base + int(place, 16)
+        content = bytes.fromhex(digits)
+        for i, b in enumerate(content, at):
+            if image.constants.get(i) != b or not image.is_code(i):
+                raise Refused(f"code at {place} that is not what the loader puts there")
+        name, operands = instruction(text, self.base, note)
+        self.code[at] = [name, operands, at + len(content), at]
 
     def start(self, at):
         """Runs a function that the loader calls. It may write variables."""
         before = self.variables
         ended = [path for path, _ in Run(self, {}, 4096).call_at(at, [], {})]
-        self.variables = {i: ended[0].memory.get(i, v) for i, v in before.items()}
-        if len(ended) != 1 or not all(
-            isinstance(v, int) for v in self.variables.values()
-        ):
+        memory = ended[0].memory
+        self.variables = {i: memory.get(i, v) for i, v in before.items()}
+        are_numbers = all(isinstance(v, int) for v in self.variables.values())
+        if len(ended) != 1 or not are_numbers:
             raise Refused(
                 "a function that runs before the first call, and depends on what is not known"
             )
@@ -186,11 +182,10 @@ def instruction(text, base, note):
     target = re.fullmatch("([0-9a-f]+)(?: <.*>)?", rest.strip())
     if JUMP.fullmatch(name) and target:
         return name, [base + int(target[1], 16)]
+    noted = base + int(note or "0", 16)
+    parts = re.findall("[^,]+", rest.strip())
     try:
-        return name, [
-            Operand(part, base + int(note or "0", 16))
-            for part in re.findall("[^,]+", rest.strip())
-        ]
+        return name, [Operand(part, noted) for part in parts]
     except (KeyError, ValueError, AttributeError):
         return text, []
 
@@ -207,11 +202,8 @@ class State:
         self.flags = None
 
     def copy(self):
-        other = State(
-            dict(self.registers),
-            {n: list(cells) for n, cells in self.xmm.items()},
-            self.at,
-        )
+        xmm = {name: list(cells) for name, cells in self.xmm.items()}
+        other = State(dict(self.registers), xmm, self.at)
         other.flags = self.flags
         return other
 
@@ -245,65 +237,87 @@ def carry(flags):
         return ltu(a, b)
     if op == "add":
         return number(a, "a carry") + number(b, "a carry") >> w
-    return b if op in ("product", "bit") else not_defined(op)
+    if op in ("product", "bit"):
+        return b
+    return not_defined(op)
 
 
 def zero(flags):
     op, a, b, r, w, _ = flags
     if op == "sub":
         return eq(a, b)
-    return not_defined(op) if op in ("product", "bit") else eqz(r)
+    if op in ("product", "bit"):
+        return not_defined(op)
+    return eqz(r)
 
 
 def sign(flags):
-    return (
-        not_defined(flags[0])
-        if flags[0] in ("product", "bit", "ptest")
-        else shr(flags[3], flags[4] - 1, 64)
-    )
+    op, _, _, r, w, _ = flags
+    if op in ("product", "bit", "ptest"):
+        return not_defined(op)
+    return shr(r, w - 1, 64)
 
 
 def overflow(flags):
     op, a, b, r, w, _ = flags
-    if op in ("product", "logic"):
-        return b if op == "product" else 0
+    if op == "product":
+        return b
+    if op == "logic":
+        return 0
     if op in ("bit", "shift", "ptest"):
         return not_defined(op)
-    a, b = (signed(number(x, "an overflow"), w) for x in (a, b))
-    total = a + b if op in ("add", "inc") else a - b
-    return int(not -(1 << w - 1) <= total < 1 << w - 1)
+    x = signed(number(a, "an overflow"), w)
+    y = signed(number(b, "an overflow"), w)
+    total = x + y if op in ("add", "inc") else x - y
+    fits = -(1 << w - 1) <= total < 1 << w - 1
+    return int(not fits)
 
 
 def not_defined(op):
     raise Refused(f"a flag that {op} does not define")
 
 
+def below_or_equal(flags):
+    op, a, b, *_ = flags
+    if op == "sub":
+        return eqz(ltu(b, a))
+    return or_(carry(flags), zero(flags))
+
+
+def less(flags):
+    return xor(sign(flags), overflow(flags))
+
+
+def less_or_equal(flags):
+    return or_(zero(flags), less(flags))
+
+
+def not_(condition):
+    return lambda flags: eqz(condition(flags))
+
+
 CONDITIONS = {
     "e": zero,
+    "ne": not_(zero),
     "b": carry,
+    "ae": not_(carry),
     "s": sign,
+    "ns": not_(sign),
     "o": overflow,
-    "be": lambda f: or_(carry(f), zero(f)) if f[0] != "sub" else eqz(ltu(f[2], f[1])),
-    "l": lambda f: xor(sign(f), overflow(f)),
-    "le": lambda f: or_(zero(f), xor(sign(f), overflow(f))),
+    "no": not_(overflow),
+    "be": below_or_equal,
+    "a": not_(below_or_equal),
+    "l": less,
+    "ge": not_(less),
+    "le": less_or_equal,
+    "g": not_(less_or_equal),
 }
-for name, other in (
-    ("ne", "e"),
-    ("ae", "b"),
-    ("ns", "s"),
-    ("no", "o"),
-    ("a", "be"),
-    ("ge", "l"),
-    ("g", "le"),
-):
-    CONDITIONS[name] = lambda f, other=CONDITIONS[other]: eqz(other(f))
 
 
 class Run(Machine):
     def __init__(self, module, inputs, stack):
-        super().__init__(
-            module, inputs, range(module.stack_top - stack, module.stack_top)
-        )
+        top = module.stack_top
+        super().__init__(module, inputs, range(top - stack, top))
 
     # Operands
 
@@ -314,20 +328,21 @@ class Run(Machine):
             if type(total) is int and type(v) is int:
                 total = total + v * scale & M64
             else:
-                total = add(total, mul(self.register(path, name, 64), scale, 64), 64)
+                scaled = mul(self.register(path, name, 64), scale, 64)
+                total = add(total, scaled, 64)
         return total
 
     def register(self, path, name, w):
         """Returns the lowest w bits of a register, by its name of 64 bits. Makes its value if it has none yet."""
         v = path.state.registers[name]
         if v is None:
-            v = path.state.registers[name] = joined(
-                [(fresh("register"), 0) for _ in range(8)]
-            )
+            cells = [(fresh("register"), 0) for _ in range(8)]
+            v = path.state.registers[name] = joined(cells)
         if isinstance(v, tuple):
+            others, lowest = v
             if w == 8:
-                return v[1]
-            v = or_(v[0], v[1])
+                return lowest
+            v = or_(others, lowest)
         return v if w == 64 else and_(v, mask(w))
 
     def get(self, path, operand, w):
@@ -341,48 +356,51 @@ class Run(Machine):
 
     def put(self, path, operand, v, w):
         if operand.kind == "m":
-            self.store(
-                path, self.place(path, self.address(path, operand)), cells_of(v, w // 8)
-            )
-        elif w == 8 and operand.kind == "r":
-            old = path.state.registers[operand.name]
-            old = (
-                old[0]
-                if isinstance(old, tuple)
-                else and_(self.register(path, operand.name, 64), mask(64) - 255)
-            )
-            are_known = isinstance(v, int) and isinstance(old, int)
-            path.state.registers[operand.name] = old | v if are_known else (old, v)
-        elif w == 16 and operand.kind == "r":
-            path.state.registers[operand.name] = or_(
-                and_(self.register(path, operand.name, 64), M64 - mask(16)), v
-            )
+            at = self.place(path, self.address(path, operand))
+            self.store(path, at, cells_of(v, w // 8))
         elif operand.kind == "h":
             raise Refused("a part of a register is written")
+        elif w == 8 and operand.kind == "r":
+            self.put_lowest_byte(path, operand.name, v)
+        elif w == 16 and operand.kind == "r":
+            others = and_(self.register(path, operand.name, 64), M64 - mask(16))
+            path.state.registers[operand.name] = or_(others, v)
         else:
             path.state.registers[operand.name] = v
+
+    def put_lowest_byte(self, path, name, v):
+        old = path.state.registers[name]
+        if isinstance(old, tuple):
+            others = old[0]
+        else:
+            others = and_(self.register(path, name, 64), M64 - mask(8))
+        are_numbers = isinstance(v, int) and isinstance(others, int)
+        path.state.registers[name] = others | v if are_numbers else (others, v)
 
     def vector(self, path, operand, n=16, aligned=True):
         """The first n bytes of a register, or n of memory."""
         if operand.kind == "x":
-            if operand.name not in path.state.xmm:
-                path.state.xmm[operand.name] = [
-                    (fresh("register"), 0) for _ in range(16)
-                ]
-            return path.state.xmm[operand.name][:n]
+            xmm = path.state.xmm
+            if operand.name not in xmm:
+                xmm[operand.name] = [(fresh("register"), 0) for _ in range(16)]
+            return xmm[operand.name][:n]
+        return self.cells(path, self.place_of_vector(path, operand, n, aligned), n)
+
+    def put_vector(self, path, operand, cells, aligned=True):
+        """Writes to memory, or to a register and zeros after them."""
+        n = len(cells)
+        if operand.kind == "x":
+            path.state.xmm[operand.name] = cells + [0] * (16 - n)
+        else:
+            at = self.place_of_vector(path, operand, n, aligned)
+            self.store(path, at, cells)
+
+    def place_of_vector(self, path, operand, n, aligned):
+        """Returns the place of n bytes of memory, which are refused if 16 bytes have to be aligned and are not."""
         at = self.place(path, self.address(path, operand))
         if aligned and n == 16 and at % 16:
             raise Refused(f"an access at {at:#x}, which is not aligned")
-        return self.cells(path, at, n)
-
-    def put_vector(self, path, operand, cells, aligned=True):
-        if operand.kind == "x":
-            path.state.xmm[operand.name] = cells + [0] * (16 - len(cells))
-        else:
-            at = self.place(path, self.address(path, operand))
-            if aligned and len(cells) == 16 and at % 16:
-                raise Refused(f"an access at {at:#x}, which is not aligned")
-            self.store(path, at, cells)
+        return at
 
     def push(self, path, v):
         path.state.registers["rsp"] -= 8
@@ -400,22 +418,18 @@ class Run(Machine):
         return self.call_at(self.module.exports[name], args, memory, before)
 
     def call_at(self, at, args, memory, before=None):
-        path = Path(
-            dict(memory),
-            State({name: None for name in [*ARGUMENTS, *OTHERS, *PRESERVED]}, {}),
-            before,
-        )
-        path.state.registers |= dict(zip(ARGUMENTS, args))
+        registers = dict.fromkeys([*ARGUMENTS, *OTHERS, *PRESERVED])
+        registers |= dict(zip(ARGUMENTS, args))
+        path = Path(dict(memory), State(registers, {}), before)
         # This makes the values that the call has to restore.
         for name in PRESERVED:
             self.register(path, name, 64)
         on_stack = args[len(ARGUMENTS) :]
-        path.state.registers["rsp"] = self.stack.stop - 16 * -(-len(on_stack) // 2)
+        pairs = -(-len(on_stack) // 2)
+        rsp = registers["rsp"] = self.stack.stop - 16 * pairs
         for i, v in enumerate(on_stack):
-            self.store(path, path.state.registers["rsp"] + 8 * i, cells_of(v, 8))
-        begun_with = {
-            register: path.state.registers[register] for register in PRESERVED
-        }
+            self.store(path, rsp + 8 * i, cells_of(v, 8))
+        begun_with = {name: registers[name] for name in PRESERVED}
         self.push(path, self.module.returned)
         path.state.at = at
         for path in self.paths(path):
@@ -431,10 +445,11 @@ class Run(Machine):
         rsp = path.state.registers["rsp"]
         if rsp % 16 != 8:
             raise Refused("a call with a stack that is not aligned")
-        to, source, n = (
+        first, source, third = (
             self.register(path, register, 64) for register in ARGUMENTS[:3]
         )
-        to, n = self.place(path, to), self.place(path, n)
+        to = self.place(path, first)
+        n = self.place(path, third)
         if name == "memset":
             self.store(path, to, [cell_of(and_(source, 255))] * n)
         else:
@@ -442,9 +457,8 @@ class Run(Machine):
             if name == "memcpy" and abs(to - source) < n:
                 raise Refused("memcpy of bytes that overlap")
             self.store(path, to, self.cells(path, source, n))
-        path.state.registers |= {name: None for name in [*ARGUMENTS, *OTHERS]} | {
-            "rax": to
-        }
+        path.state.registers |= dict.fromkeys([*ARGUMENTS, *OTHERS])
+        path.state.registers["rax"] = to
         path.state.xmm = {}
         path.state.flags = None
         for at in path.memory:
@@ -478,9 +492,8 @@ class Run(Machine):
             elif op == "jmp":
                 path.state.at = self.target(path, operands[0])
             elif op[0] == "j" and operands:
-                if not self.branch(
-                    path, self.condition(path, op[1:]), operands[0], following, waiting
-                ):
+                v = self.condition(path, op[1:])
+                if not self.branch(path, v, operands[0], following, waiting):
                     return False
             else:
                 path.state.at = following
@@ -494,11 +507,9 @@ class Run(Machine):
 
     def target(self, path, operand):
         """Returns where a jump leads."""
-        return (
-            operand
-            if isinstance(operand, int)
-            else self.place(path, self.get(path, operand, 64))
-        )
+        if isinstance(operand, int):
+            return operand
+        return self.place(path, self.get(path, operand, 64))
 
     def condition(self, path, name):
         if path.state.flags is None:
@@ -509,7 +520,8 @@ class Run(Machine):
         """Jumps if v is not 0. If the path does not decide this, several paths wait."""
         cases = path.cases(v)
         if len(cases) == 1:
-            path.state.at = target if cases[0][2] else following
+            _, _, jumps = cases[0]
+            path.state.at = target if jumps else following
             return True
         for known, excluded, jumps in cases:
             other = path.fork(known, excluded, self.module.place_of(path.state.at))
@@ -521,18 +533,18 @@ class Run(Machine):
         if op in VECTOR:
             VECTOR[op](self, path, *operands)
         elif op in SCALAR:
-            w = operands[0].w or operands[-1].w if operands else 0
+            w = 0
+            if operands:
+                w = operands[0].w or operands[-1].w
             SCALAR[op](self, path, *operands, w=w)
         elif op.startswith("set"):
             self.put(path, operands[0], self.condition(path, op[3:]), 8)
         elif op.startswith("cmov"):
             to, source = operands
-            v = ite(
-                self.condition(path, op[4:]),
-                self.get(path, source, to.w),
-                self.get(path, to, to.w),
-            )
-            self.put(path, to, v, to.w)
+            condition = self.condition(path, op[4:])
+            new = self.get(path, source, to.w)
+            old = self.get(path, to, to.w)
+            self.put(path, to, ite(condition, new, old), to.w)
         elif op != "nop":
             raise Refused(f"an instruction {op}")
 
@@ -544,19 +556,17 @@ LIBRARY = "memcpy", "memmove", "memset"
 
 
 def arithmetic(kind, function, keeps=True):
+    """An instruction of two operands. With `keeps` it writes the result."""
+
     def do(run, path, to, source, w):
-        if (
-            to.kind == "r"
-            and source.kind == "r"
-            and to.text == source.text
-            and kind == "logic"
-            and function is xor
-        ):
+        is_same_register = to.kind == source.kind == "r" and to.text == source.text
+        # A register xor itself is 0, even if its value was never made.
+        if function is xor and is_same_register:
             a = b = 0
         else:
             a = run.get(path, to, w)
             b = run.get(path, source, w)
-        r = function(a, b, w) if kind != "logic" else function(a, b)
+        r = function(a, b) if kind == "logic" else function(a, b, w)
         path.state.flags = kind, a, b, r, w, None
         if keeps:
             run.put(path, to, r, w)
@@ -684,9 +694,9 @@ def imul(run, path, to, a, b=None, w=0):
 
 def div(run, path, source, w):
     b = number(run.get(path, source, w), "a division")
-    a = number(run.register(path, "rdx", w), "a division") << w | number(
-        run.register(path, "rax", w), "a division"
-    )
+    high = number(run.register(path, "rdx", w), "a division")
+    low = number(run.register(path, "rax", w), "a division")
+    a = high << w | low
     if b == 0 or a // b >> w:
         raise Refused("a division that traps")
     path.state.registers |= {"rax": a // b, "rdx": a % b}
@@ -697,25 +707,19 @@ def bt(run, path, a, b, w):
     k = number(run.get(path, b, w), "a place")
     if a.kind == "m" and k >= w:
         raise Refused("a bit of other memory")
-    k %= w
-    path.state.flags = (
-        "bit",
-        None,
-        number(run.get(path, a, w), "a bit") >> k & 1,
-        None,
-        w,
-        None,
-    )
+    value = number(run.get(path, a, w), "a bit")
+    bit = value >> k % w & 1
+    path.state.flags = "bit", None, bit, None, w, None
 
 
-def repeated(run, path, w):
+def repeated(run, path, name):
     """rep movs or rep stos of 8 bytes, in the order of the processor."""
-    count, to = (
-        run.place(path, run.register(path, name, 64)) for name in ("rcx", "rdi")
-    )
+    count = run.place(path, run.register(path, "rcx", 64))
+    to = run.place(path, run.register(path, "rdi", 64))
     for at in range(to, to + 8 * count, 8):
-        if w == "movs":
-            cells = run.cells(path, run.place(path, path.state.registers["rsi"]), 8)
+        if name == "movs":
+            source = run.place(path, path.state.registers["rsi"])
+            cells = run.cells(path, source, 8)
             path.state.registers["rsi"] += 8
         else:
             cells = cells_of(run.register(path, "rax", 64), 8)
@@ -723,17 +727,38 @@ def repeated(run, path, w):
     path.state.registers |= {"rcx": 0, "rdi": to + 8 * count}
 
 
+def repeated_movs(run, path, w):
+    repeated(run, path, "movs")
+
+
+def repeated_stos(run, path, w):
+    repeated(run, path, "stos")
+
+
 def cpuid(run, path, w):
-    path.state.registers |= dict.fromkeys(
-        ("rax", "rbx", "rcx", "rdx"), run.module.cpuid
-    )
+    names = ("rax", "rbx", "rcx", "rdx")
+    path.state.registers |= dict.fromkeys(names, run.module.cpuid)
+
+
+def invert(run, path, to, w):
+    run.put(path, to, xor(run.get(path, to, w), mask(w)), w)
+
+
+def swap_bytes(run, path, to, w):
+    run.put(path, to, bswap(run.get(path, to, w), w), w)
+
+
+def push(run, path, source, w):
+    run.push(path, run.get(path, source, 64))
+
+
+def pop(run, path, to, w):
+    run.put(path, to, run.pop(path), 64)
 
 
 SCALAR = {
-    "rep movs QWORD PTR es:[rdi],QWORD PTR ds:[rsi]": lambda run, path, w: repeated(
-        run, path, "movs"
-    ),
-    "rep stos QWORD PTR es:[rdi],rax": lambda run, path, w: repeated(run, path, "stos"),
+    "rep movs QWORD PTR es:[rdi],QWORD PTR ds:[rsi]": repeated_movs,
+    "rep stos QWORD PTR es:[rdi],rax": repeated_stos,
     "cpuid": cpuid,
     "mov": mov,
     "movabs": mov,
@@ -764,14 +789,10 @@ SCALAR = {
     "neg": neg,
     "rol": shift(rotl),
     "ror": shift(rotr),
-    "not": lambda run, path, to, w: run.put(
-        path, to, xor(run.get(path, to, w), mask(w)), w
-    ),
-    "bswap": lambda run, path, to, w: run.put(
-        path, to, bswap(run.get(path, to, w), w), w
-    ),
-    "push": lambda run, path, source, w: run.push(path, run.get(path, source, 64)),
-    "pop": lambda run, path, to, w: run.put(path, to, run.pop(path), 64),
+    "not": invert,
+    "bswap": swap_bytes,
+    "push": push,
+    "pop": pop,
 }
 
 
@@ -779,24 +800,22 @@ SCALAR = {
 
 
 def move(n, aligned=True):
-    """Of n bytes; to a register also zeros."""
-    return lambda run, path, to, source: run.put_vector(
-        path, to, run.vector(path, source, n, aligned), aligned
-    )
+    """Moves n bytes. A register is filled with zeros after them."""
+
+    def do(run, path, to, source):
+        cells = run.vector(path, source, n, aligned)
+        run.put_vector(path, to, cells, aligned)
+
+    return do
 
 
 def movq(n):
-    """Between a register and the lowest bytes of xmm, or of memory and xmm."""
+    """Moves n bytes between a register and the lowest bytes of xmm, or between memory and xmm."""
 
     def do(run, path, to, source):
-        if to.kind == "x":
-            run.put_vector(
-                path,
-                to,
-                cells_of(run.get(path, source, 8 * n), n)
-                if source.kind == "r"
-                else run.vector(path, source, n),
-            )
+        if to.kind == "x" and source.kind == "r":
+            cells = cells_of(run.get(path, source, 8 * n), n)
+            run.put_vector(path, to, cells)
         elif to.kind == "r":
             run.put(path, to, joined(run.vector(path, source, n)), 8 * n)
         else:
@@ -806,13 +825,12 @@ def movq(n):
 
 
 def scalar(n):
-    """Between two registers it keeps the other bytes."""
+    """Moves n bytes as movq does, but between two registers of xmm it keeps the other bytes."""
 
     def do(run, path, to, source):
         if to.kind == source.kind == "x":
-            path.state.xmm[to.name] = (
-                run.vector(path, source, n) + run.vector(path, to)[n:]
-            )
+            lowest = run.vector(path, source, n)
+            path.state.xmm[to.name] = lowest + run.vector(path, to)[n:]
         else:
             movq(n)(run, path, to, source)
 
@@ -820,7 +838,7 @@ def scalar(n):
 
 
 def each(function, of_numbers):
-    """Of each two bytes. The other function is the same one, and is fast where all bytes are numbers."""
+    """An instruction on each two bytes. The second function is the first one for numbers, where it is faster."""
 
     def do(run, path, to, source):
         if function is xor_bytes and to.text == source.text:
@@ -829,11 +847,11 @@ def each(function, of_numbers):
         a = run.vector(path, to)
         b = run.vector(path, source)
         try:
-            path.state.xmm[to.name] = list(map(of_numbers, a, b))
-        except TypeError:
-            path.state.xmm[to.name] = [
-                cell_of(function(byte_of(x), byte_of(y))) for x, y in zip(a, b)
-            ]
+            made = list(map(of_numbers, a, b))
+        except TypeError:  # not all of them are numbers
+            results = [function(byte_of(x), byte_of(y)) for x, y in zip(a, b)]
+            made = list(map(cell_of, results))
+        path.state.xmm[to.name] = made
 
     return do
 
@@ -874,7 +892,7 @@ def pshufb(run, path, to, source):
 
 def psrlw(run, path, to, count):
     k = count.value
-    a = [affine(byte_of(c)) for c in run.vector(path, to)]
+    a = affine_bytes(run.vector(path, to))
     made = []
     if not 0 < k < 8:
         raise Refused("a shift of words by so much")
@@ -923,7 +941,8 @@ def pinsrd(run, path, to, source, at):
 
 def movhps(run, path, to, source):
     if to.kind == "x":
-        path.state.xmm[to.name] = run.vector(path, to)[:8] + run.vector(path, source, 8)
+        lowest = run.vector(path, to)[:8]
+        path.state.xmm[to.name] = lowest + run.vector(path, source, 8)
     else:
         run.put_vector(path, to, run.vector(path, source)[8:])
 
@@ -941,11 +960,11 @@ def each_word(function):
         if count.value > 31:
             raise Refused("a shift of words by so much")
         a = run.vector(path, to)
-        path.state.xmm[to.name] = [
-            c
-            for i in range(0, 16, 4)
-            for c in cells_of(function(joined(a[i : i + 4]), count.value, 32), 4)
-        ]
+        made = []
+        for i in range(0, 16, 4):
+            word = joined(a[i : i + 4])
+            made += cells_of(function(word, count.value, 32), 4)
+        path.state.xmm[to.name] = made
 
     return do
 
@@ -958,7 +977,8 @@ def paddd(run, path, to, source):
     for i in range(0, 16, 4):
         x = joined(a[i : i + 4])
         y = joined(b[i : i + 4])
-        made += cells_of(shl(x, 1, 32) if x == y else add(x, y, 32), 4)
+        total = shl(x, 1, 32) if x == y else add(x, y, 32)
+        made += cells_of(total, 4)
     path.state.xmm[to.name] = made
 
 
@@ -968,8 +988,9 @@ def aes(kind, mix):
     def made(state, key):
         if kind is None:
             return mix_columns(key, mix)
-        turn = 4 if kind == "S" else -4
-        shifted = [state[(i + turn * (i % 4)) % 16] for i in range(16)]
+        # Byte i has row i % 4. A row is shifted by its number of columns, back if the round is undone.
+        column = 4 if kind == "S" else -4
+        shifted = [state[(i + column * (i % 4)) % 16] for i in range(16)]
         after = [substituted(kind, v) for v in shifted]
         if mix:
             after = mix_columns(after, mix)
@@ -978,16 +999,19 @@ def aes(kind, mix):
     made_of_numbers = lru_cache(1 << 16)(made)
 
     def do(run, path, to, source):
-        cells = run.vector(path, to if kind else source), run.vector(path, source)
+        state = run.vector(path, to if kind else source)
+        key = run.vector(path, source)
         try:
-            path.state.xmm[to.name] = list(made_of_numbers(*map(bytes, cells)))
+            after = list(made_of_numbers(bytes(state), bytes(key)))
         except TypeError:  # not all of them are numbers
-            path.state.xmm[to.name] = [
-                cell_of(v)
-                for v in made(*([affine(byte_of(c)) for c in a] for a in cells))
-            ]
+            after = map(cell_of, made(affine_bytes(state), affine_bytes(key)))
+        path.state.xmm[to.name] = list(after)
 
     return do
+
+
+def affine_bytes(cells):
+    return [affine(byte_of(cell)) for cell in cells]
 
 
 def ptest(run, path, a, b):
@@ -998,15 +1022,10 @@ def ptest(run, path, a, b):
 
 
 def pmovmskb(run, path, to, source):
-    run.put(
-        path,
-        to,
-        sum(
-            number(byte_of(c), "a sign") >> 7 << i
-            for i, c in enumerate(run.vector(path, source))
-        ),
-        32,
-    )
+    signs = 0
+    for i, cell in enumerate(run.vector(path, source)):
+        signs |= number(byte_of(cell), "a sign") >> 7 << i
+    run.put(path, to, signs, 32)
 
 
 VECTOR = {
