@@ -48,44 +48,45 @@ def noted(kind, what, met):
 class Sweep:
     def __init__(self, path):
         self.module = check.load(path, seed=0).module
-        self.bodies = (
-            [body for _, body in self.module.code]
-            if isinstance(self.module, wasm.Module)
-            else None
-        )
-        self.users = {}  # (how, place): the calls that use it, the quickest first
+        self.bodies = None
+        if isinstance(self.module, wasm.Module):
+            self.bodies = [body for _, body in self.module.code]
         self.steps = 0
-        found = [
-            self.followed(call)
-            for call in lists.parsed(lists.SHORT)
-            if check.is_made(self.module, call[0])
-        ]
-        for _, call, met in sorted(found, key=lambda one: one[0]):
+        followed = []
+        for call in lists.parsed(lists.SHORT):
+            if check.is_made(self.module, call[0], call[1:]):
+                followed.append(self.followed(call))
+        followed.sort(key=lambda result: result[0])
+        # (how, place): the calls that use it, the quickest first
+        self.users = {}
+        for _, call, met in followed:
             for use in met:
                 self.users.setdefault(use, []).append(call)
-        self.changes = list(self.possible())
+        self.changes = [*self.flips(), *self.omissions()]
 
     def followed(self, call):
         """Returns the seconds of a call, the call, and the instructions and constants that it uses."""
         module = self.module
         met = set()
         cells = Machine.cells
-        code, constants = module.code, module.constants
+        code = module.code
+        constants = module.constants
 
         def noting(run, path, at, n):
-            met.update(("flipped", i) for i in range(at, at + n) if i in constants)
+            for place in range(at, at + n):
+                if place in constants:
+                    met.add(("flipped", place))
             return cells(run, path, at, n)
 
         Machine.cells = noting
         module.constants = noted(dict, lambda at: ("flipped", at), met)(constants)
-        module.code = (
-            [
-                (count, noted(list, lambda pc, f=f: ("left out", (f, pc)), met)(body))
-                for f, (count, body) in enumerate(code)
-            ]
-            if self.bodies
-            else noted(dict, lambda at: ("left out", at), met)(code)
-        )
+        if self.bodies:
+            module.code = []
+            for function, (count, body) in enumerate(code):
+                use = lambda pc, function=function: ("left out", (function, pc))
+                module.code.append((count, noted(list, use, met)(body)))
+        else:
+            module.code = noted(dict, lambda at: ("left out", at), met)(code)
         begun = time.process_time()
         try:
             self.steps = max(self.steps, calls.perform(module, call[0], call[1:]).steps)
@@ -99,62 +100,57 @@ class Sweep:
         """Returns the list or dictionary of this place, and its key there."""
         if how == "flipped":
             return self.module.constants, place
-        return (
-            (self.bodies[place[0]], place[1])
-            if self.bodies
-            else (self.module.code, place)
-        )
+        if self.bodies:
+            function, number = place
+            return self.bodies[function], number
+        return self.module.code, place
 
-    def possible(self):
-        """Yields (how, place, what is there instead, a text)."""
-        for how, place in sorted(self.users, key=repr):
-            where, key = self.place(how, place)
-            before = where[key]
+    # Each change is (how, place, the new content, a text).
+
+    def flips(self):
+        """Yields the changes of one bit of a constant that a call reads."""
+        for how, at in sorted(self.users, key=repr):
             if how == "flipped":
-                yield from (
-                    (how, place, before ^ 1 << bit, f"{how}: bit {bit} of {place:#x}")
-                    for bit in range(8)
-                )
-            elif self.bodies and before[0] in INSTEAD:
-                yield how, place, INSTEAD[
-                    before[0]
-                ], f"{how}: function {place[0]}, {place[1]}: {before[0]:#x}"
-            elif not self.bodies and before[0] != "nop":
-                text = " ".join(
-                    [
-                        before[0],
-                        ",".join(
-                            getattr(operand, "text", str(operand))
-                            for operand in before[1]
-                        ),
-                    ]
-                )
-                yield how, place, [
-                    "nop",
-                    [],
-                    *before[2:],
-                ], f"{how}: {self.module.place_of(place)}: {text}"
+                byte = self.module.constants[at]
+                for bit in range(8):
+                    yield how, at, byte ^ 1 << bit, f"{how}: bit {bit} of {at:#x}"
+
+    def omissions(self):
+        """Yields the changes that leave out an instruction that a call runs."""
+        for how, place in sorted(self.users, key=repr):
+            if how == "flipped":
+                continue
+            where, key = self.place(how, place)
+            old = where[key]
+            if self.bodies and old[0] in INSTEAD:
+                text = f"function {place[0]}, {place[1]}: {old[0]:#x}"
+                yield how, place, INSTEAD[old[0]], f"{how}: {text}"
+            elif not self.bodies and old[0] != "nop":
+                name, operands, *following = old
+                words = [getattr(operand, "text", str(operand)) for operand in operands]
+                text = f"{self.module.place_of(place)}: {name} {','.join(words)}"
+                yield how, place, ["nop", [], *following], f"{how}: {text}"
 
     def verdict(self, i):
-        """What the calls that use change i do: "refused", "no result differs", or "MISSED". A fault of the checker ends
-        a list, too."""
+        """Returns what the calls that use change i do: "refused", "no result differs", or "MISSED". An exception of the
+        checker refuses the change, too."""
         how, place, instead, _ = self.changes[i]
         where, key = self.place(how, place)
-        before, where[key] = where[key], instead
-        said = "refused"
+        before = where[key]
+        where[key] = instead
+        verdict = "refused"
         try:
             for call in self.users[how, place]:
                 calls.perform(self.module, call[0], call[1:])
-            said = "MISSED"
+            verdict = "MISSED"
             for seed, call in itertools.product(range(3), self.users[how, place]):
                 given = Numbers(seed)
-                with mock.patch.multiple(
-                    calls, any_bytes=given.any_bytes, any_kek=given.any_kek
-                ):
+                numbers = {"any_bytes": given.any_bytes, "any_kek": given.any_kek}
+                with mock.patch.multiple(calls, **numbers):
                     calls.perform(self.module, call[0], call[1:])
             return "no result differs"
         except Exception:
-            return said
+            return verdict
         finally:
             where[key] = before
 
@@ -169,11 +165,10 @@ class Numbers:
         self.iv = standard.DEFAULT_IV
 
     def any_kek(self, name, n):
-        kek = (
-            calls.MARK + self.any_bytes(name, n - 8)
-            if n in calls.KEPT_KEKS
-            else self.any_bytes(name, n)
-        )
+        if n in calls.KEPT_KEKS:
+            kek = calls.MARK + self.any_bytes(name, n - 8)
+        else:
+            kek = self.any_bytes(name, n)
         self.kek = self.kek or kek
         return kek
 
@@ -181,41 +176,36 @@ class Numbers:
         made = list(self.random.randbytes(n))
         if name == "iv" and n == 8:
             self.iv = made
-        if (
-            self.seed < 2
-            and name == "text"
-            and calls.is_kek(len(self.kek or []))
-            and n % 8 == 0
-            and 16 <= n < 400
-        ):
-            made = (
-                standard.wrapped_padded(self.kek, made[8:-1])
-                if self.seed or n == 16
-                else standard.wrapped(self.kek, made[8:], self.iv)
-            )
+        has_kek = calls.is_kek(len(self.kek or []))
+        is_legal = n % 8 == 0 and 16 <= n < 400
+        if name == "text" and self.seed < 2 and has_kek and is_legal:
+            made = self.wrapped(made[8:])
         if self.seed == 0 and name == "block":
             made[:8] = self.iv
         return made
+
+    def wrapped(self, key):
+        """Returns a wrapped key. The plain form has none of one register."""
+        if self.seed == 0 and len(key) > 8:
+            return standard.wrapped(self.kek, key, self.iv)
+        return standard.wrapped_padded(self.kek, key[:-1])
 
 
 def main(path, one_of=1, seed=0, processes=os.cpu_count()):
     global sweep
     sweep = Sweep(path)
     wasm.STEPS = x86.STEPS = 4 * sweep.steps
-    chosen = random.Random(seed).sample(
-        range(len(sweep.changes)), -(-len(sweep.changes) // one_of)
-    )
+    total = len(sweep.changes)
+    chosen = random.Random(seed).sample(range(total), -(-total // one_of))
     counts = collections.Counter()
     with multiprocessing.get_context("fork").Pool(processes) as pool:
-        for n, (i, verdict) in enumerate(zip(chosen, pool.imap(tried, chosen)), 1):
+        for i, verdict in zip(chosen, pool.imap(tried, chosen)):
             counts[verdict] += 1
-            print(
-                "MISSED" if verdict == "MISSED" else f"[{n}/{len(chosen)}] {verdict}",
-                sweep.changes[i][3],
-                sep=": ",
-                flush=True,
-            )
-    print(f"{len(chosen)} of {len(sweep.changes)} changes: {dict(counts)}")
+            number = f"[{counts.total()}/{len(chosen)}] "
+            _, _, _, text = sweep.changes[i]
+            before = "" if verdict == "MISSED" else number
+            print(f"{before}{verdict}: {text}", flush=True)
+    print(f"{len(chosen)} of {total} changes: {dict(counts)}")
     return int(counts["MISSED"] > 0)
 
 
