@@ -1,9 +1,9 @@
 """Puts functions of C in the place of the leaves of the crate aes_leaves, in a module of LLVM: toolchain.sh calls it.
 
 Each call of a leaf becomes a call of the function keywrap_aes_NAME of C, which c/aes/ has. Nothing calls the proved
-leaf then, and the compiler drops it. This script stops if the module lacks a leaf, never calls it, uses it in
-another way than by a call, or has it with another result, other parameters or another calling convention than C. A module of WebAssembly does not ask whether the leaves are available: the C
-around it does.
+leaf then, and the compiler drops it. This script stops if the module lacks a leaf, never calls it, uses it in another
+way than by a call, or has it with another result, other parameters or another calling convention than C. A module of
+WebAssembly does not ask whether the leaves are available: the C around it does.
 
 usage: substitute.py MODULE.LL RESULT.LL"""
 
