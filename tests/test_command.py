@@ -299,12 +299,12 @@ UNKNOWN_WASM = [
 
 
 @pytest.mark.needs("rt", "wasm-opt")
-@pytest.mark.parametrize("old, new, said", UNKNOWN_WASM)
-def test_unknown_part_of_a_module(old, new, said):
+@pytest.mark.parametrize("old, new, message", UNKNOWN_WASM)
+def test_unknown_part_of_a_module(old, new, message):
     """command.py stops at it."""
     write_edited("module.wat", WAT, old, new)
     generator = ROOT / "generate/command.py"
-    assert_stops([generator, "module.wat", "out"], said)
+    assert_stops([generator, "module.wat", "out"], message)
 
 
 def write_edited(file, text, old, new):
@@ -394,14 +394,14 @@ UNKNOWN_LLVM = [
 ]
 
 
-@pytest.mark.parametrize("old, new, said", UNKNOWN_LLVM)
-def test_unknown_part_of_a_module_of_llvm(old, new, said):
+@pytest.mark.parametrize("old, new, message", UNKNOWN_LLVM)
+def test_unknown_part_of_a_module_of_llvm(old, new, message):
     """command_module.py stops at it."""
     write_edited("native.ll", LL, old, new)
     target = f'target datalayout = "{LAYOUT}"\ntarget triple = "wasm64"\n'
     pathlib.Path("target.ll").write_text(target)
     generator = ROOT / "generate/command_module.py"
-    assert_stops([generator, "native.ll", "target.ll", "module.ll"], said)
+    assert_stops([generator, "native.ll", "target.ll", "module.ll"], message)
 
 
 def works(program, keywrap):

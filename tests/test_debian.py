@@ -80,8 +80,8 @@ def test_python_of_debian(debs):
 @pytest.mark.needs("lintian")
 def test_lintian(debs):
     """Its only error is that no licence has been given."""
-    said = run("lintian", "--fail-on", "none", *debs.glob("*.changes"))
-    assert {line for line in said.splitlines() if line.startswith("E: ")} == {
+    output = run("lintian", "--fail-on", "none", *debs.glob("*.changes"))
+    assert {line for line in output.splitlines() if line.startswith("E: ")} == {
         f"E: {name}: no-copyright-file" for name in PACKAGES
     }
 

@@ -12,7 +12,7 @@ from program import evidence, slow
 from tools import need
 
 HERE = ROOT / "tests/command"
-# By its path: other tests put generate/ on Python's path, where command.py is another module.
+# It is loaded by its path: other tests put generate/ on Python's path, where command.py is another module.
 SPEC = importlib.util.spec_from_file_location("planted", HERE / "planted.py")
 planted = importlib.util.module_from_spec(SPEC)
 SPEC.loader.exec_module(planted)
@@ -64,9 +64,9 @@ def exhaustive_with_bugs(once):
 )
 def test_no_command_is_wrong(exhaustive, words, least):
     """Each command writes what is due, on both streams, and ends with the right status."""
-    said = run(exhaustive, *words)
+    output = run(exhaustive, *words)
     totals = r"(\d+) commands are right; (\d+) freed blocks had the KEK"
-    commands, freed = re.match(totals, said).groups()
+    commands, freed = re.match(totals, output).groups()
     assert int(commands) >= least
     # SECURITY.md says how many. Faults are not counted.
     assert words == ["faults"] or freed == commands

@@ -88,10 +88,10 @@ def test_module(module, env):
         ["go", "vet", "./..."], cwd=module, env=env, capture_output=True, text=True
     )
     assert (vetted.returncode, vetted.stdout, vetted.stderr) == (0, "", "")
-    said = run("go", "test", "-v", "./...", cwd=module, env=env)
+    output = run("go", "test", "-v", "./...", cwd=module, env=env)
     sources = "".join(path.read_text() for path in module.glob("*_test.go"))
     names = re.findall(r"^func ((?:Test|Example)\w*)\(", sources, re.M)
-    assert sorted(re.findall(r"^--- PASS: (\w+)", said, re.M)) == sorted(names)
+    assert sorted(re.findall(r"^--- PASS: (\w+)", output, re.M)) == sorted(names)
     assert len(names) >= 10
 
 
@@ -225,10 +225,10 @@ class TestReadme:
             "KEYWRAP": DIST,
             "REPOSITORY": f"{os.getcwd()}/repository",
         }
-        said = run(*alone(lines, **given), cwd=directory)
-        assert re.search(r"^ok\s+example\.org/program\s", said, re.M)
+        output = run(*alone(lines, **given), cwd=directory)
+        assert re.search(r"^ok\s+example\.org/program\s", output, re.M)
         if lines is self.PACKED:
-            assert re.search(rf"^ok\s+{re.escape(MODULE)}\s", said, re.M)
+            assert re.search(rf"^ok\s+{re.escape(MODULE)}\s", output, re.M)
             assert f"{MODULE} {VERSION}\n" in run(
                 *alone(["go list -m all"], **given), cwd=directory
             )
@@ -284,10 +284,10 @@ def test_go_jose(env, package):
     variables = {**env, "GO111MODULE": "off", "GOPATH": str(there.parent)}
     # In ./cipher, TestInvalidPaddingOpen, of AES-CBC, fails with some of the random bytes that it draws.
     only = ["-run", "KeyWrap|TestZ"] * (package == "./cipher")
-    said = run("go", "test", "-v", *only, package, cwd=jose, env=variables)
-    assert int(re.search(r"calls: (\d+)", said)[1]) >= 9
+    output = run("go", "test", "-v", *only, package, cwd=jose, env=variables)
+    assert int(re.search(r"calls: (\d+)", output)[1]) >= 9
     assert (
         "--- PASS: "
         + ("TestAesKeyWrapInvalid" if package == "./cipher" else "TestRoundtripsJWE")
-        in said
+        in output
     )

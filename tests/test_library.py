@@ -268,9 +268,9 @@ class TestInstalled:
     def test_c_example(self, flags):
         """It names a refused value."""
         run("cc", *STRICT, EXAMPLE, *flags, "-o", "example")
-        said = run("./example")
-        assert WRAPPED24 in said
-        assert "reserved value: initial value is not 8 bytes" in said
+        output = run("./example")
+        assert WRAPPED24 in output
+        assert "reserved value: initial value is not 8 bytes" in output
 
     @pytest.mark.parametrize("compiler", ["g++", "clang++"])
     def test_cpp(self, flags, compiler):

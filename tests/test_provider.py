@@ -226,17 +226,17 @@ class TestOpenssl:
     def test_listed_by_the_page(self, over_portable_c):
         """The lines that build it without the kit end with it in the list."""
         (line,) = re.findall(r"^    (openssl list .*)", PAGE, re.M)
-        said = run("bash", "-ec", line, cwd=over_portable_c)
-        assert "keywrap: AES Key Wrap, proved" in said
-        assert f"version: {NAMES['VERSION']}" in said
+        output = run("bash", "-ec", line, cwd=over_portable_c)
+        assert "keywrap: AES Key Wrap, proved" in output
+        assert f"version: {NAMES['VERSION']}" in output
 
     def test_descriptions(self, modules):
         """OpenSSL lists six ciphers, with these descriptions."""
         given = "-provider-path", modules, "-provider", "keywrap"
-        said = run("openssl", "list", "-verbose", "-cipher-algorithms", *given)
+        output = run("openssl", "list", "-verbose", "-cipher-algorithms", *given)
         found = [
             re.search("description: (.*)", part)
-            for part in said.split("@ keywrap\n")[1:]
+            for part in output.split("@ keywrap\n")[1:]
         ]
         assert sorted(match[1] if match else "" for match in found) == [
             *["AES Key Wrap (RFC 3394), proved"] * 3,
@@ -368,9 +368,9 @@ def test_script(ours, command):
     one."""
     program, script = command.split()
     need(program)
-    said = run(program, OWN / script, "a6" * 8, env=ours)
-    assert WRAPPED32 in said
-    assert KEY16 in said
+    output = run(program, OWN / script, "a6" * 8, env=ours)
+    assert WRAPPED32 in output
+    assert KEY16 in output
     refuses(RESERVED, program, OWN / script, "a65959a600000010", env=ours)
     assert KEY16 in run(program, OWN / script, "a65959a600000010")
 

@@ -358,8 +358,8 @@ print(type(results[0]).__name__, results[1:] == many)
             env=env,
         )
         program = before + blocks["PyKCS11"] + after + blocks["ctypes"] + many
-        said = run(installed, "-c", program, env=env)
-        assert said == (
+        output = run(installed, "-c", program, env=env)
+        assert output == (
             f"{WRAPPED32}\nb'of any length'\n{WRAPPED32}\nIntegrityFailed True\n"
         )
 

@@ -43,12 +43,12 @@ def test_definitions_are_paired():
 
 @pytest.fixture
 def proved(once):
-    """A directory: `out` is what make -C theory has built, and `said` what it printed."""
+    """A directory: `out` is what make -C theory has built, and `output` what it printed."""
 
     def build(directory):
         before = sorted(THEORY.iterdir())
-        said = run("make", "-s", "-C", THEORY, f"OUT={directory}/out")
-        (directory / "said").write_text(said)
+        output = run("make", "-s", "-C", THEORY, f"OUT={directory}/out")
+        (directory / "output").write_text(output)
         assert sorted(THEORY.iterdir()) == before
 
     return once("theory", build)
@@ -58,8 +58,8 @@ def proved(once):
 @needs_coq
 def test_proofs(proved):
     """Coq proves every theorem of Statement.v and every vector, without an axiom. No file is written to the sources."""
-    said = (proved / "said").read_text()
-    assert said == "19 theorems and 12 vectors, without an axiom\n"
+    output = (proved / "output").read_text()
+    assert output == "19 theorems and 12 vectors, without an axiom\n"
 
 
 @slow

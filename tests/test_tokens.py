@@ -22,9 +22,9 @@ def test_c():
     flags = run("pkg-config", "--cflags", "p11-kit-1").split()
     sources = ROOT / "c/examples/c/token.c", DIST / "keywrap.c"
     run("cc", "-O2", "-I", DIST, *flags, *sources, "-ldl", "-o", "token")
-    said = run("./token", tokens.MODULE, tokens.PIN, "5000", env=env)
-    assert "many: 4999 keys rewrapped in 48 calls of the token, 1 refused\n" in said
-    (rate,) = re.findall("^([0-9]+) keys a second of the processor$", said, re.M)
+    output = run("./token", tokens.MODULE, tokens.PIN, "5000", env=env)
+    assert "many: 4999 keys rewrapped in 48 calls of the token, 1 refused\n" in output
+    (rate,) = re.findall("^([0-9]+) keys a second of the processor$", output, re.M)
     assert int(rate) > tokens.LEAST
 
 

@@ -30,7 +30,7 @@ def ended(module, name, *given):
         return "TypeError"
 
 
-def said(module, name, *given):
+def message_of(module, name, *given):
     """The message of the exception that a call raises, or None."""
     try:
         getattr(module, name)(*given)
@@ -66,10 +66,10 @@ def test_messages_contain_theirs(name):
     for kek_length in (0, 6, 16, 24, 32, 33):
         for length in (0, 1, 8, 15, 16, 17, 20, 23, 24, 27, 32):
             given = (bytes(kek_length), bytes(length))
-            words = said(theirs, name, *given)
+            words = message_of(theirs, name, *given)
             if words is not None and not is_ours_alone(name, given[1]):
                 refused.add(words)
-                assert words in said(ours, name, *given), (kek_length, length)
+                assert words in message_of(ours, name, *given), (kek_length, length)
     # A wrapping key's length, and of the plain form two lengths of key, of the padded one of a wrapped key.
     assert len(refused - {""}) == {
         "aes_key_wrap_with_padding": 1,

@@ -218,8 +218,8 @@ class TestAcvp(Files):
         inverse = '"kwCipher": "inverse"'
         request = self.REQUEST.replace(cipher, inverse, 1)
         refusal = "KWP with kwCipher inverse is not offered"
-        said = f"keywrap.vectors: request: {refusal}\n"
-        assert self.command(request=request) == (2, "", said)
+        message = f"keywrap.vectors: request: {refusal}\n"
+        assert self.command(request=request) == (2, "", message)
 
 
 class TestWycheproof(Files):

@@ -47,8 +47,8 @@ class Text:
     """The text of a module. Each function is one line of instructions."""
 
     def __init__(self, file):
-        said = subprocess.run(["wasm2wat", file], capture_output=True, check=True)
-        self.text = said.stdout.decode()
+        ended = subprocess.run(["wasm2wat", file], capture_output=True, check=True)
+        self.text = ended.stdout.decode()
         self.functions = {}
         self.exports = {}
         for number, body in FUNCTION.findall(self.text):

@@ -27,9 +27,9 @@ def main():
         done = subprocess.run(
             ["rt", "ci"], cwd=tree, capture_output=True, text=True, check=False
         )
-    said = "\n".join((done.stdout + done.stderr).splitlines()[-2:])
-    print(said)
-    return 1 if done.returncode or " bad" in said else 0
+    output = "\n".join((done.stdout + done.stderr).splitlines()[-2:])
+    print(output)
+    return 1 if done.returncode or " bad" in output else 0
 
 
 sys.exit(main())

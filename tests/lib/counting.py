@@ -5,11 +5,11 @@ import re
 from program import ALL, SLOW
 
 
-def of_script(said, status):
+def of_script(output, status):
     """How many rows of a script passed and failed, and the reasons of what it skipped. The last line of its output has
     its counts, with which its status must agree."""
-    reasons = re.findall("^SKIPPED: (.*)", said, re.M)
-    counts = re.search(r"^(\d+) passed, (\d+) failed, \d+ skipped\n\Z", said, re.M)
+    reasons = re.findall("^SKIPPED: (.*)", output, re.M)
+    counts = re.search(r"^(\d+) passed, (\d+) failed, \d+ skipped\n\Z", output, re.M)
     if not counts:
         return 0, 1, reasons
     passed, failed = map(int, counts.groups())

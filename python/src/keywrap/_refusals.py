@@ -19,8 +19,8 @@ def _text(status: int) -> str:
     """Returns the library's text of a status."""
     text = ffi.new("char[]", 80)
     lib.keywrap_status_text(status, text, len(text))
-    said: bytes = ffi.string(text)
-    return said.decode("ascii")
+    words: bytes = ffi.string(text)
+    return words.decode("ascii")
 
 
 _BAD_LENGTH = _text(lib.KEYWRAP_BAD_LENGTH)
