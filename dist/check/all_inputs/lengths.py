@@ -111,9 +111,10 @@ def modulo(v, w):
     """Returns a sum as a number of w bits: it overflows always in the same way."""
     if isinstance(v, int):
         return v % 2**w
-    for turn in (0, 1, -1):
-        if Facts.now.is_between(v + turn * 2**w, 0, 2**w - 1):
-            return v + turn * 2**w
+    for wraps in (0, 1, -1):
+        number = v + wraps * 2**w
+        if Facts.now.is_between(number, 0, 2**w - 1):
+            return number
     if Facts.now.decides(v):
         Facts.now.decides(2**w - 1 - v)
     raise Refused(f"a number that overflows: {v}")
@@ -147,10 +148,10 @@ def split(v, unit):
     constant, factors = parts(v)
     rest = {name: k for name, k in factors.items() if k % unit}
     whole = {name: k // unit for name, k in factors.items() if not k % unit}
-    for turn in (0, -1, 1):
-        low = Lin(constant % unit + turn * unit, rest.items()) + 0
+    for more in (0, -1, 1):
+        low = Lin(constant % unit + more * unit, rest.items()) + 0
         if Facts.now.is_between(low, 0, unit - 1):
-            return Lin(constant // unit - turn, whole.items()) + 0, low
+            return Lin(constant // unit - more, whole.items()) + 0, low
     if unit == WORD and all(abs(k) < unit for k in rest.values()):
         low = Lin(constant % unit, rest.items())
         Facts.now.decides(low)
@@ -210,24 +211,24 @@ def quotient(a, b):
 
 
 def divided(a, b):
-    """By the number of registers n: a multiple of it is n itself, and `q`, n times the rounds that are done."""
+    """Divides by a constant, or by the number of registers n. `q`, which is n times the rounds that are done, leaves no
+    remainder. The quotient by n is not known.
+    """
     if isinstance(b, int):
         found = split(a, b)
         if found:
             return found
     if isinstance(a, (int, Lin)) and b == unknown("n"):
-        rest = (
-            plus(a, times(unknown("q"), -1))
-            if isinstance(a, Lin) and a.factor("q")
-            else a
-        )
-        turn = rest.factor("n") if isinstance(rest, Lin) else 0
-        for turn in (turn, turn - 1, turn + 1):
-            low = plus(rest, times(unknown("n"), -turn))
-            if Facts.now.is_between(low, 0, unknown("n") - 1):
+        n = unknown("n")
+        rest = a
+        if isinstance(a, Lin) and a.factor("q"):
+            rest = plus(a, times(unknown("q"), -1))
+        factor = rest.factor("n") if isinstance(rest, Lin) else 0
+        for multiple in (factor, factor - 1, factor + 1):
+            low = plus(rest, times(n, -multiple))
+            if Facts.now.is_between(low, 0, n - 1):
                 return None, low
-        low = plus(rest, times(unknown("n"), -turn))
-        Facts.now.decides(unknown("n") - 1 - low)
+        Facts.now.decides(n - 1 - low)
     raise Refused("a division of a length")
 
 
@@ -364,11 +365,11 @@ class Module(wasm.Module):
     unary = {op: lifted(op, f, UNARY) for op, f in wasm.UNARY.items()}
 
 
-# What an array contains
+# The content of an array
 
 
 class Write(NamedTuple):
-    """What is written to `size` bytes at `offset`: cells, a part of another content, or one byte again and again."""
+    """A write of `size` bytes at `offset`: of cells, a part of another content, or one byte again and again."""
 
     offset: object
     size: object
@@ -401,13 +402,13 @@ class Content:
         """Returns n cells."""
         for write in reversed(self.writes):
             before = plus(plus(write.offset, times(offset, -1)), -n)
-            behind = plus(offset, times(plus(write.offset, write.size), -1))
-            if Facts.now.proves(before) or Facts.now.proves(behind):
+            after = plus(offset, times(plus(write.offset, write.size), -1))
+            if Facts.now.proves(before) or Facts.now.proves(after):
                 continue
             inside = plus(offset, times(write.offset, -1))
             room = plus(plus(write.size, times(inside, -1)), -n)
             if not (Facts.now.decides(inside) and Facts.now.decides(room)):
-                if n == 1:  # before or behind it, as the facts decide now
+                if n == 1:  # before or after it, as the facts decide now
                     continue
                 return [c for k in range(n) for c in self.cells(plus(offset, k), 1)]
             if write.content is not None:
@@ -462,8 +463,8 @@ def first_difference(a, b, size):
         cuts.insert(at, end)
     for low, high in zip(cuts, cuts[1:]):
         is_before = Facts.now.proves(plus(-1, times(low, -1)))
-        is_behind = Facts.now.proves(plus(low, times(size, -1)))
-        if not is_before and not is_behind:
+        is_after = Facts.now.proves(plus(low, times(size, -1)))
+        if not is_before and not is_after:
             place = difference_between(a, b, low, high)
             if place is not None:
                 return place
@@ -527,7 +528,7 @@ class Run(wasm.Run):
         self.arrays = {array.name: array for array in arrays}
         self.loops = loops
         self.processes = processes
-        # Of each loop, by the depth of its frame and its place: whether it began again, and the look-ups before it.
+        # For each loop, by the depth of its frame and its place: whether it began again, and the look-ups before it.
         self.has_begun_again = {}
         self.lookups_before = {}
         self.path = None
@@ -726,8 +727,8 @@ def number_bytes(v):
 
 
 class Step:
-    """What is known before a step: A, the registers, and the step's place: q is n times the rounds that are done or, if
-    steps are undone, to come; i is the register."""
+    """The values before a step: A and the registers; and its place: q is n times the rounds that are done or, if steps
+    are undone, to come; i is the register."""
 
     def __init__(self, process, a, registers, q, i):
         self.process = process
@@ -779,16 +780,16 @@ class Step:
 
 
 class Role(NamedTuple):
-    """What a local is: `kind` is "same", "register" or "step" (a number that grows with it), a name of Step.words, or
-    "any"."""
+    """The meaning of a local: `kind` is "same", "register" or "step" (a number that grows with it), "any", or a name of
+    Step.words."""
 
     kind: str
     growth: int = 0
 
 
 class Invariant(NamedTuple):
-    """What is true whenever the code comes to the loop: in which array the registers are, what each local is, and at
-    which offsets from the stack pointer memory has nothing that matters."""
+    """The facts that hold whenever the code comes to the loop: the array that has the registers, each local's role, and
+    the offsets from the stack pointer at which memory may be anything."""
 
     array: str
     offset: object
@@ -883,15 +884,15 @@ class Loop:
         which memory changes."""
         before = Facts.now
         q, i = self.first
-        way = -1 if self.process.undo else 1
+        direction = -1 if self.process.undo else 1
         try:
             Facts.now = before.with_(N_REGISTERS - 3)
             after = self.after_one_step(self.started())
             array, offset = self.registers_of(after)
             step = self.process.begin(self.seen(array, offset), q, i)
-            words = step.words(), step.following(q, i + way).words()
+            words = step.words(), step.following(q, i + direction).words()
             locals_ = zip(self.local, after.state.frames[-1][4])
-            options = [self.options(old, new, words, way) for old, new in locals_]
+            options = [self.options(old, new, words, direction) for old, new in locals_]
         finally:
             Facts.now = before
         changed = [
@@ -905,7 +906,7 @@ class Loop:
         )
 
     def registers_of(self, after):
-        """Returns the array that a turn wrote to, and where its registers begin."""
+        """Returns the array that a step wrote to, and where its registers begin."""
         for name, content in after.state.contents.items():
             old = self.path.state.contents[name]
             if len(content.writes) > len(old.writes):
@@ -919,7 +920,7 @@ class Loop:
         return Content("none").with_copy(0, 8 * N_REGISTERS, content, offset)
 
     @staticmethod
-    def options(old, new, words, way):
+    def options(old, new, words, direction):
         """Returns what a local may be that has these values before and after the first step, the likeliest first."""
         if old == new:
             return [Role("same"), Role("any")]
@@ -930,9 +931,15 @@ class Loop:
         if isinstance(old, (int, Lin)) and isinstance(new, (int, Lin)):
             growth = plus(new, times(old, -1))
             if growth in (1, -1):
-                found += [Role("step", growth * way), Role("register", growth * way)]
+                found += [
+                    Role("step", growth * direction),
+                    Role("register", growth * direction),
+                ]
             elif growth in (8, -8):
-                found += [Role("register", growth * way), Role("step", growth * way)]
+                found += [
+                    Role("register", growth * direction),
+                    Role("step", growth * direction),
+                ]
         return [*found, Role("any")]
 
     # The invariant

@@ -43,7 +43,7 @@ class F:
         self.rest = rest
 
 
-def look(table, at):
+def entry(table, at):
     """pshufb: returns the entry of a table of 16 constants at a byte. If bit 7 of the byte is 1, this is 0."""
     if isinstance(at, F):
         nibbles = at.nibbles.with_(at.rest)

@@ -102,9 +102,9 @@ def substitute(state, table):
     return [[table.of(a) for a in row] for row in state]
 
 
-def shift_rows(state, way):
-    """5.1.2 and 5.3.1: row r is shifted by r places, to the left if `way` is 1."""
-    return [[state[r][(c + way * r) % 4] for c in range(4)] for r in range(4)]
+def shift_rows(state, direction):
+    """5.1.2 and 5.3.1: row r is shifted by r places, to the left if the direction is 1."""
+    return [[state[r][(c + direction * r) % 4] for c in range(4)] for r in range(4)]
 
 
 def cipher(key, block):

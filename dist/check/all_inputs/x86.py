@@ -7,7 +7,7 @@ from functools import lru_cache
 from operator import and_ as iand, or_ as ior, xor as ixor
 
 from elf import Image
-from nibbles import F, look, xor_bytes
+from nibbles import F, entry, xor_bytes
 from paths import Machine, Path, byte_of, cell_of, cells_of, joined
 from places import place
 from standard import mix_columns
@@ -34,7 +34,7 @@ from terms import (
 )
 
 STEPS = 100_000_000  # more instructions than any call needs
-# Where Linux puts objects, stack and heap. The ranges do not overlap.
+# The ranges in which Linux puts objects, stack and heap. They do not overlap.
 OBJECTS = (0x7E00_0000_0000, 1 << 38)
 LIBRARIES = (0x7D00_0000_0000, 1 << 38)
 CALLERS = (0x7F00_0000_0000, 1 << 38)
@@ -886,7 +886,7 @@ def pshufb(run, path, to, source):
             raise Refused("a shuffle of secrets by a secret")
         else:
             run.shuffles += 1
-            made.append(cell_of(look(constants, at)))
+            made.append(cell_of(entry(constants, at)))
     path.state.xmm[to.name] = made
 
 
