@@ -65,7 +65,7 @@ def check_imports(text):
 
 
 def the_one(what, pattern, text):
-    """What the pattern finds in the text of wasm2c or of a part, exactly once."""
+    """The text that the pattern finds, exactly once, in the text of wasm2c or of a part."""
     found = re.findall(pattern, text, re.M)
     if len(found) != 1:
         sys.exit(f"portable.py: {what}: found {len(found)} times")
@@ -88,7 +88,7 @@ def translated(wasm):
     }
     for name, ours in names.items():
         text = text.replace(name, ours)
-    # What it imports is a function of leaves.c.in, over the memory of the same instance.
+    # An import is a function of leaves.c.in, over the memory of the same instance.
     return re.sub(
         r"\(\*Z_aesZ_(\w+)\)\(instance->Z_aes_instance\b",
         r"leaf_\1(memory",
@@ -97,7 +97,7 @@ def translated(wasm):
 
 
 def frame_of(name, body):
-    """The bytes by which the function moves the stack, and those that it wants left."""
+    """The bytes by which the function moves the stack, and the bytes that it needs to be left."""
     if frame := FRAME.search(body):
         return int(frame[1]), 0
     check = STACK_CHECK.search(body)

@@ -84,7 +84,7 @@ def substituted(text, name):
     head = (
         f"declare {extended}{result} @keywrap_aes_{name}({', '.join(types)}) nounwind"
     )
-    # Of a module of WebAssembly it is an import. Elsewhere LLVM ignores these attributes.
+    # A module of WebAssembly imports it. For other targets LLVM ignores these attributes.
     lines.append(f'{head} "wasm-import-module"="aes" "wasm-import-name"="{name}"')
     return "\n".join(lines) + "\n"
 

@@ -11,7 +11,7 @@ ROOT = pathlib.Path(__file__).resolve().parent.parent
 SIGNS = ("..=", "::", "->", "=>", "..", "&&", "||", "==", "!=", "<=", ">=")
 PAIRS = {"(": ")", "[": "]", "{": "}"}
 BY_HAND = ("byteorder",)
-# Which names of Rattle's std a `use` may bring. They are for messages and for contracts.
+# The names of Rattle's std that a `use` may bring. They are for messages and for contracts.
 NAMES_OF_STD = (
     "use std::error::Error;",
     "use std::fmt;",
@@ -25,7 +25,7 @@ class Fault(Exception):
 
 
 def string_end(text, at):
-    """Where the string literal that begins at this quote ends."""
+    """Returns where the string literal that begins at this quote ends."""
     quote = text[at]
     at += 1
     while text[at] != quote:

@@ -276,8 +276,8 @@ verdict 'a crate begins where those below it are proved' "$(
     grep -A 9 '^ends above' notes | grep -c '^ends .*_four' | grep -vx 3
 )"
 
-# If a proof fails, the proofs beside it are ended, and no other begins. The second ends once make, which waits for its
-# children, has seen that the first failed.
+# If a proof fails, the proofs that run with it are ended, and no other begins. The second ends once make, which waits
+# for its children, has seen that the first failed.
 fresh
 at='(first|second)_four' event='until_true begun 4
     [ $crate = second_four ] || { echo $$ >../../failed; exit 1; }

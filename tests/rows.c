@@ -1,7 +1,7 @@
 /* rows.c: makes the calls of lines that faces.py writes, and prints what they return and write. A buffer that is read
  * is in memory of its own length. One that is written is between bytes that no call may write. Each has another
  * alignment each time. `changed` is printed if these bytes or what is only read are not as before. Aborts if something
- * that keywrap.h has beside these calls is wrong: the macros, the version, the texts of the statuses, the self test. */
+ * else that keywrap.h has is wrong: the macros, the version, the texts of the statuses, the self test. */
 
 #undef NDEBUG
 #include <assert.h>

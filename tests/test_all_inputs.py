@@ -194,7 +194,7 @@ def test_evidence_is_of_this_object(made, name):
 )
 def test_long_list(made, name):
     check(made(name), "long")
-    if name == "libkeywrap_hw":  # a lane of 48, and the slot behind them
+    if name == "libkeywrap_hw":  # a lane of 48, and the slot after them
         for place in 47, 48:
             check(made(name), *f"rewrap_many 16 32 24 12 49 {place}".split())
 
@@ -334,7 +334,7 @@ IS_IN_THE_SHORT_LIST = {
     ),
 )
 def test_changed_module_is_refused(tmp_path, name):
-    """By a call of the list that runs by default."""
+    """A call of the list that runs by default refuses it."""
     call = bugs.MODULES[name][3]
     checked = bugs.Loaded(bugs.planted(MODULE, name, tmp_path))
     assert call in IS_IN_THE_SHORT_LIST
@@ -488,7 +488,7 @@ def test_library_has_the_steps_for_many_keys(made, tmp_path):
 
 
 def test_call_without_a_path_is_refused(monkeypatch):
-    """What the checker did not follow to an end is not checked."""
+    """A call that the checker did not follow to its end is not checked."""
 
     def makes_no_call(given):
         given.result.variables = given.module.variables

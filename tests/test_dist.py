@@ -271,7 +271,7 @@ class TestNpm:
 
     @pytest.mark.needs("npm", "no network")
     def test_installed_by_npm(self, handed_out, dist):
-        """By the README's line. A program then imports it."""
+        """npm installs the package by the README's line, and a program imports it."""
         page = (handed_out("npm") / "README.md").read_text()
         (line,) = re.findall("^    npm install .*", page, re.M)
         pathlib.Path("a_program").mkdir()

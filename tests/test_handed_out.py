@@ -162,7 +162,7 @@ def test_object(handed_out, name, path, soname, needed, shown):
         re.findall(r"\(SONAME\).*\[(.*)\]", elf) or ["(none)"],
         re.findall(r"\(NEEDED\).*\[(.*)\]", elf),
     ) == ([soname], [needed])
-    # Of the source distribution, pip and its compiler choose the options.
+    # pip and its compiler choose the options for the source distribution.
     assert (
         name == "sdist built"
         or "BIND_NOW" in elf

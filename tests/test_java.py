@@ -1,5 +1,5 @@
-"""The provider for Java: rows.txt; its names, exceptions and calls beside the JDK's; the lines of java/README.md. The
-programs are in java/."""
+"""The provider for Java: rows.txt; its names, exceptions and calls compared with the JDK's; the lines of
+java/README.md. The programs are in java/."""
 
 import os
 import pathlib
@@ -141,7 +141,7 @@ def test_native_memory_is_cleared(java):
 
 
 def test_heap_is_cleared(java):
-    """Also arrays that the cipher has replaced, and arrays of results that it has copied."""
+    """It is cleared also of arrays that the cipher has replaced, and of results that it has copied."""
     env = {**os.environ, "JAVA_TOOL_OPTIONS": "-Xmn256m -XX:+UseSerialGC"}
     assert java("Heap", os.path.abspath("heap.hprof"), env=env) == "0\n"
 
@@ -169,12 +169,12 @@ public class Program {
         need("no network", "cc")
         pathlib.Path("Program.java").write_text(self.PROGRAM)
         run("javac", "Program.java")
-        said = subprocess.run(
+        output = subprocess.run(
             ["java", "-XshowSettings:properties", "-version"],
             capture_output=True,
             text=True,
         ).stderr
-        home = re.search(r"java\.home = (.*)", said)[1]
+        home = re.search(r"java\.home = (.*)", output)[1]
         for name in "dist", "java":
             shutil.copytree(
                 ROOT / name,

@@ -127,11 +127,11 @@ class TestNode:
     def test_version(self, programs):
         """The package has the version of the program, and the module in it the numbers."""
         program = "import { load } from 'keywrap'; console.log((await load()).version)"
-        said = run("node", "--input-type=module", "-e", program, cwd=programs)
+        output = run("node", "--input-type=module", "-e", program, cwd=programs)
         version = json.loads(
             (programs / "node_modules/keywrap/package.json").read_text()
         )["version"]
-        assert [version, said] == [
+        assert [version, output] == [
             NAMES["VERSION"],
             NAMES["VERSION"].removesuffix("-dev") + "\n",
         ]
@@ -284,7 +284,7 @@ def test_types(programs):
     ]
     assert [*refused] == [str(4 + at) for at in range(len(reasons))], ended.stdout
     assert all(
-        reason in said for reason, said in zip(reasons, refused.values())
+        reason in error for reason, error in zip(reasons, refused.values())
     ), ended.stdout
     assert len(re.findall(r"^\S", ended.stdout, re.M)) == len(reasons)
 

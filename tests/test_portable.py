@@ -323,7 +323,7 @@ def symbols(tools, *flags):
     }
 
 
-# Of the C library, which a caller without one has to give.
+# The functions of the C library that a caller without one has to give.
 IMPORTS = {"memcpy", "memmove", "memset", "memcmp", "abort", "getauxval"}
 # Machines on which a word says whether the AES instructions work.
 TEST_INSTRUCTIONS = [*NATIVE, "an old x86-64", "aarch64"]
@@ -572,7 +572,7 @@ def test_cmake_shared(copied, example):
     ],
 )
 def test_cmake_optimizes(portable, given, found):
-    """Also if no build type is given, where CMake does not."""
+    """CMake optimizes, also if no build type is given."""
     need("cmake", "cc")
     options = ["-DCMAKE_EXPORT_COMPILE_COMMANDS=ON", *given]
     run("cmake", "-S", portable, "-B", "built", *options)

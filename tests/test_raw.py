@@ -11,7 +11,7 @@ from tools import need
 
 PROGRAM = ROOT / "dist/command"
 MODULE_H = '#include "module.h"\n'
-# Which function writes to standard output.
+# The function that writes to standard output.
 WRITE = "std::io::stdio::PrinterWrite::write"
 
 
@@ -45,7 +45,7 @@ def test_command_is_right_for_all_inputs(program, name):
     assert raw.performed(program, name) == statuses
 
 
-# What is inserted before a write to standard output, at l1, and why `wrap 16 16` is refused.
+# The code that is inserted before a write to standard output, at l1, and why `wrap 16 16` is refused.
 BUGS = {
     "a byte of the output is another one": (
         "i32_store8(0u, l1, i32_load8_u(0u, l1) ^ 1u);",

@@ -109,14 +109,14 @@ def crate(once, home):
     return once("rust-crate", build) / name
 
 
-def counted(said):
+def counted(output):
     """How many tests passed; none failed or was left out."""
     results = re.findall(
         r"^test result: ok\. (\d+) passed; 0 failed; 0 ignored; 0 measured; 0 filtered",
-        said,
+        output,
         re.M,
     )
-    assert len(results) == len(re.findall("^test result", said, re.M))
+    assert len(results) == len(re.findall("^test result", output, re.M))
     return sum(map(int, results))
 
 
@@ -153,10 +153,10 @@ def names_of(features):
     return sorted(name for path in files for name in names_in(path, features))
 
 
-def passed(said):
+def passed(output):
     """The names of the tests that passed, without those of the documentation. None failed or was left out."""
-    assert counted(said)
-    names = re.findall(r"^test (?:\w+::)*(\w+) \.\.\. ok$", said, re.M)
+    assert counted(output)
+    names = re.findall(r"^test (?:\w+::)*(\w+) \.\.\. ok$", output, re.M)
     return sorted(names)
 
 
@@ -190,13 +190,13 @@ class TestPage:
     def test_tests(self, cargo, crate):
         """Those without a network run all tests of the crate, without another configuration."""
         (lines,) = re.findall(r"^    (cargo --config .*\\\n.*)", PAGE, re.M)
-        said = run(
+        output = run(
             *alone([lines], **cargo.env, CARGO_HOME=f"{cargo.home}/empty"), cwd=crate
         )
         expected = names_of(DEFAULT)
-        assert passed(said) == expected
+        assert passed(output) == expected
         # The documentation has five.
-        assert counted(said) == len(expected) + 5
+        assert counted(output) == len(expected) + 5
 
     @slow
     @pytest.mark.needs("git")
@@ -224,10 +224,10 @@ class TestPage:
             "KEYWRAP": os.path.abspath("clone/dist"),
             "REPOSITORY": f"file://{os.path.abspath('clone')}",
         }
-        said = run(
+        output = run(
             *alone([line, "cargo build", "cargo run --offline"], **given), cwd="program"
         )
-        assert said == "done\n"
+        assert output == "done\n"
         # No C was compiled.
         assert not [
             *pathlib.Path("out").rglob("cc-*"),
@@ -254,9 +254,9 @@ FEATURES = [
 @pytest.mark.parametrize("features", all_of(FEATURES, []))
 def test_features(name, home, crate, features):
     cargo = Cargo(name, home)
-    said = cargo("test", "--offline", *features.split(), cwd=crate)
-    assert passed(said) == names_of(asked_features(features))
-    assert "warning" not in said
+    output = cargo("test", "--offline", *features.split(), cwd=crate)
+    assert passed(output) == names_of(asked_features(features))
+    assert "warning" not in output
 
 
 @pytest.mark.parametrize("name", all_of(NAMES, [], NAMES[:1]))
@@ -355,7 +355,7 @@ def test_rows(cargo, crate_with_rows, face, name):
 @pytest.mark.parametrize("face", all_of(FACES, [], ["rust"]))
 @pytest.mark.parametrize("features", ["tables", "c"])
 def test_rows_of_features(cargo, crate_with_rows, features, face):
-    """By the tables, and by keywrap.c: the same answers, byte for byte."""
+    """The tables and keywrap.c give the same answers, byte for byte."""
     faces.check(face, runner(cargo, crate_with_rows, face, features), "rows")
 
 
@@ -428,12 +428,12 @@ def test_rustcrypto(cargo, crate):
     ]
     given = pathlib.Path("vectors")
     given.write_text("".join(" ".join(line) + "\n" for line in lines))
-    said = cargo(
+    output = cargo(
         *["test", "--offline", "--", "--nocapture"],
         cwd=directory,
         env={"VECTORS": str(given.absolute())},
     )
-    assert f"{len(lines)} vectors\n" in said
+    assert f"{len(lines)} vectors\n" in output
 
 
 @pytest.fixture(scope="session")
@@ -534,8 +534,8 @@ def test_other_machines(home, crate, name, features):
         # qemu-i386 hangs in a program with several threads.
         "RUST_TEST_THREADS": "1",
     }
-    said = Cargo("debian", home)("test", *words, cwd=crate, env=env)
-    assert passed(said) == names_of(DEFAULT | {*features.split(",")})
+    output = Cargo("debian", home)("test", *words, cwd=crate, env=env)
+    assert passed(output) == names_of(DEFAULT | {*features.split(",")})
 
 
 @pytest.fixture
@@ -613,7 +613,8 @@ MUST_FAIL = list(csv.DictReader((OWN / "must_fail.csv").open()))
 
 @evidence
 def test_must_fail_edits(seen_by):
-    """What sees each of these edits, which the prover refuses, in the Rust; or why no test can."""
+    """Each of these edits, which the prover refuses, is found in the Rust by the tests or the rows, as it says, or by
+    none for the reason that it gives."""
     assert len(MUST_FAIL) >= 10
     wrong = []
     for edit in MUST_FAIL:

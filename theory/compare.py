@@ -114,7 +114,7 @@ def wrap_by_standard(kek, iv, key):
 
 
 def answer_by_standard(case):
-    """What standard.py of the checker defines, as Coq prints it."""
+    """The answer by standard.py of the checker, as Coq prints it."""
     import standard
 
     if not case.unwraps:

@@ -190,7 +190,7 @@ def test_a_store_that_is_not_there(words):
 
 
 def test_an_empty_shard(store):
-    """And what is named twice is in one shard only."""
+    """A run without units of its shard ends with 0. A file that is named twice is in one shard only."""
     os.mkdir("top")
     store = store.rename("top/store")
     names = "top", store, store / "5"

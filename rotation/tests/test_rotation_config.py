@@ -117,7 +117,7 @@ class TestRun:
         assert state(stores / "store", STORE_KEYS) == ["old", "old"]
 
     def test_the_command_line_goes_first(self, stores):
-        """Also for --kek, which the file and the command line do not have together."""
+        """It goes first for --kek, too, although the file and the command line may not both have it."""
         (stores / "third.hex").write_text(bytes(24).hex())
         path = config(stores, "timeout = 1\n", LINES)
         done = rotate("--kek", "third.hex", "--config", path)

@@ -201,7 +201,7 @@ class TestLeftOut:
 
     @pytest.mark.parametrize("write", [True, False])
     def test_it_was_read(self, file, listing, write):
-        """Also if others write it afterwards, or if it was replaced."""
+        """The file counts as read, also if others write it afterwards, or if it was replaced."""
         (unit,) = listing.units
         answer = found.Found()
         store = Files(Lines(HEX), Names([]))

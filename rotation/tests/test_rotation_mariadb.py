@@ -559,7 +559,7 @@ class TestOthers:
         assert mariadb.held() == NEW
 
     def test_no_transaction_is_left_open(self, mariadb):
-        """Also if nothing of a batch could be written."""
+        """No transaction is left open, also if nothing of a batch could be written."""
         program = patched(
             """from keywrap_rotate import mariadb
 def checked(self, writes, real=mariadb._Pass._update):
@@ -588,7 +588,7 @@ mariadb._Pass._update = checked"""
 
     @pytest.mark.parametrize("words", [[], ["--verify"]], ids=["rotate", "verify"])
     def test_a_schema_change_waits_for_no_pass(self, mariadb, words):
-        """Also if the pass writes nothing. Its end is said once, and nothing else."""
+        """The change does not wait, also if the pass writes nothing. Its end is reported once, and nothing else."""
         mariadb.fill(rows(NEW_KEK, MANY))
         running = begun(*words, program=SLOW_BATCHES)
         wait_for(lambda: reading(mariadb))

@@ -138,7 +138,7 @@ class TestObjects:
         ],
     )
     def test_a_failed_call_leaves_its_object(self, call, how, message):
-        """And all others are rotated."""
+        """The object of a failed call is left as it is, and all others are rotated."""
         done = rotated(
             "--timeout",
             "8",

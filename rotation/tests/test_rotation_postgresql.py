@@ -571,7 +571,7 @@ class TestSessions:
         assert not rotated().has("older than this run")
 
     def test_a_schema_change_waits_for_no_pass(self, server):
-        """Also if the pass writes nothing. Its end is said once, not for each range."""
+        """The change does not wait, also if the pass writes nothing. Its end is reported once, not for each range."""
         server.fill(rows(NEW_KEK, MANY))
         running = begun("--verify", "--jobs", "1", program=patched(SLOW_RANGES))
         query = "SELECT count(*) FROM pg_locks WHERE relation = 'keys'::regclass"

@@ -45,7 +45,7 @@ func listed(format string, value any) string {
 	return format[:1] + asNumbers.Replace(fmt.Sprintf(format[1:], value))
 }
 
-// answer is what a call has returned, without nil, 0 and false, and with the room behind bytes, where secrets could be.
+// answer is what a call has returned, without nil, 0 and false, and with the room after bytes, where secrets could be.
 func answer(values ...any) string {
 	status, words, text := 0, "", ""
 	for _, value := range values {

@@ -20,7 +20,7 @@ const { keywrap, exports } = await watched();
 const { wrap, unwrap, wrapPadded, unwrapAny, check, wrapMany, unwrapMany, checkMany } = keywrap;
 const WRAPPED = wrap(KEK, KEY);
 
-// Where the module has these bytes.
+// The place at which the module has these bytes.
 const place = (bytes) => MODULE.findIndex((_, from) => isEqual(MODULE.subarray(from, from + bytes.length), bytes));
 
 test('the module imports nothing, and its memory, with 32-bit addresses and a largest size, never grows', async () => {

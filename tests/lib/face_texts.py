@@ -55,7 +55,7 @@ def of_go(row, statuses, refused):
 
 
 def other_length(items):
-    """Where the first of many items is that has another length."""
+    """The place of the first of many items that has another length."""
     for index, item in enumerate(items):
         if len(item) != len(items[0]):
             return (

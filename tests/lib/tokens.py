@@ -53,7 +53,7 @@ def library_over_token():
 
 
 class Printed(NamedTuple):
-    """What a program of tests/tokens prints."""
+    """The numbers that a program of tests/tokens prints."""
 
     calls: int
     blocks: int
@@ -69,8 +69,8 @@ def check(*command, env, **options):
     source, target = pathlib.Path("given"), pathlib.Path("rewrapped")
     source.write_bytes(b"".join(given))
     files = source.absolute(), target.absolute()
-    said = run(*command, OLD_KEK.hex(), NEW_KEK.hex(), *files, env=env, **options)
-    printed = Printed(*map(int, said.split()))
+    output = run(*command, OLD_KEK.hex(), NEW_KEK.hex(), *files, env=env, **options)
+    printed = Printed(*map(int, output.split()))
     assert target.read_bytes() == b"".join(due)
     assert printed.calls == 48
     assert printed.refused == 1

@@ -33,7 +33,7 @@ class Tag(enum.IntEnum):
 
 
 class Harmless(enum.IntEnum):
-    """Those that a loader needs for other things, or that repeat something."""
+    """Entries that a loader needs for other things, or that repeat something."""
 
     PLTGOT = 3
     HASH = 4

@@ -11,5 +11,5 @@ def seed(text):
 
 
 def place(least, room, align=1):
-    """Returns an address of at least `least`, less than `room` bytes behind it, a multiple of `align`."""
+    """Returns an address of at least `least` and less than `room` bytes after it, a multiple of `align`."""
     return -(-(least + _random.randrange(room)) // align) * align

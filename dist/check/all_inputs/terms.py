@@ -315,7 +315,7 @@ def and_(a, b):
     if isinstance(b, int):
         return masked(a, b)
     if bits(a) == 1 < bits(b) or bits(b) == 1 < bits(a):
-        # Of the other value only bit 0 counts.
+        # Only bit 0 of the other value counts.
         return and_(and_(a, 1), and_(b, 1))
     return a if a == b else N("and", a, b, top=min(bits(a), bits(b)))
 
@@ -549,7 +549,7 @@ OPS = {
 }
 
 
-# What is known on a path
+# The equations of a path
 
 
 class Known:

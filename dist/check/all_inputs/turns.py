@@ -1,4 +1,4 @@
-"""Long keys in little memory: the standard runs in a second thread, a little behind the code. Atoms that both have
+"""Long keys in little memory: the standard runs in a second thread, some steps after the code. Atoms that both have
 passed are forgotten. Only one of the two threads runs at a time."""
 
 import threading

@@ -208,7 +208,7 @@ class Module:
     # Code. Instructions that do the same have one code.
 
     def body(self, r):
-        """Returns how many locals a function has beside its parameters, and its instructions."""
+        """Returns how many locals a function has besides its parameters, and its instructions."""
         end = r.u() + r.at
         local_count = 0
         for _ in range(r.u()):

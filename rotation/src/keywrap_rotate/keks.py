@@ -176,7 +176,7 @@ def table_of(path: str, option: str) -> Dict[str, str]:
 
 
 class Keks(NamedTuple):
-    """The files, or PKCS#11 URIs, of the KEKs and of the new KEK, by the names that a store has beside its keys, or by
+    """The files, or PKCS#11 URIs, of the KEKs and of the new KEK, by the names that a store has next to its keys, or by
     `None` for all keys; and once `challenged`, a random key that is wrapped under a digest of all KEKs.
     """
 

@@ -323,7 +323,8 @@ class FileListing(Listing):
 
 def _length_of_outermost(path: bytes, directories: Set[bytes]) -> int:
     """Returns the length of the outermost of these directories that has the path, or of the path's own, with the slash
-    behind it. It decides on the shard: so what is named twice is in one."""
+    after it. It decides on the shard, so that a file that is named twice is in one shard.
+    """
     for end in range(len(path) + 1):
         is_end = path[end : end + 1] in (b"/", b"")
         if is_end and path[:end] in directories:

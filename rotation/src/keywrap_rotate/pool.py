@@ -115,7 +115,7 @@ class Task:
         self.timeout = timeout
 
     def begin(self, units: List[Unit]) -> None:
-        # Not pure: no pass is answered from a cache.
+        # It is not pure, so that Dask does a pass again and takes no result from a cache.
         self.units = units
         self.future = self.client.submit(_answer, self.work, units, pure=False)
 

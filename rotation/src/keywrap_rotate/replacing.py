@@ -1,4 +1,5 @@
-"""A file is replaced by an exchange of two names. What came out is compared, so that no write of others is lost.
+"""A file is replaced by an exchange of two names. The replaced file is compared with the one that was read, so that no
+write of others is lost.
 
 The new file is written under a temporary name beside the old one. Before the exchange it gets a temporary name that has
 the digests of what was read and of the new content, so that a later pass can finish what a killed one began.
