@@ -197,6 +197,14 @@ def test_wrong_items(name, items_of):
 
 
 @each_call
+def test_refusal_among_the_items(name):
+    """The results of one call, of which one is a refusal, are given to another: its place and its kind are named."""
+    keks, item = GIVEN_BY_CALL[name]
+    with pytest.raises(TypeError, match=": item 1 is a refusal, BadLength$"):
+        getattr(keywrap, name)(*keks, [item, keywrap.BadLength("bad length"), item])
+
+
+@each_call
 def test_length_that_does_not_fit(name):
     keks, item = GIVEN_BY_CALL[name]
     all_items = item * 3

@@ -199,15 +199,18 @@ def changes(blocks):
     raise Broken
 
 
+NO_BYTES = [
+    lambda blocks: None,
+    lambda blocks: "0123456789abcdef",
+    lambda blocks: list(blocks),
+]
 NOT_BLOCKS = [
+    *[(callable, TypeError) for callable in NO_BYTES],
     (raises, Broken),
     (changes, Broken),
     (lambda blocks: blocks[:-1], ValueError),
     (lambda blocks: blocks + b"\0", ValueError),
     (lambda blocks: b"", ValueError),
-    (lambda blocks: None, TypeError),
-    (lambda blocks: "0123456789abcdef", TypeError),
-    (lambda blocks: list(blocks), TypeError),
     (lambda blocks: memoryview(blocks * 2)[::2], TypeError),
 ]
 
@@ -236,6 +239,8 @@ def test_a_callable_that_fails(callable, error, direction, count, at, wiped):
         call(failing, given)
     if error is ValueError:
         assert str(16 * count) in str(raised.value)
+    if callable in NO_BYTES:
+        assert str(raised.value).startswith("the callable returned '")
     assert len(token.counted()) == at
     assert len(wiped) == 2
     assert lengths_of(wiped)[0] == 16 * count

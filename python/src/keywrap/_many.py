@@ -67,6 +67,15 @@ def _joined(items: List[ReadableBuffer], zeros: int) -> bytearray:
     return bytearray(zeros).join([b"", *items, b""])
 
 
+def _first_refusal(items: Items) -> str:
+    """Names the first item that is a refusal of an earlier call, for the end of a message."""
+    if isinstance(items, (list, tuple)):
+        for index, item in enumerate(items):
+            if isinstance(item, KeywrapError):
+                return f": item {index} is a refusal, {type(item).__name__}"
+    return ""
+
+
 def _slots(
     items: Items, length: Optional[int], what: str, gap: int = 0, padded: bool = False
 ) -> _Slots:
@@ -85,6 +94,7 @@ def _slots(
     except (TypeError, ValueError, BufferError, NotImplementedError):
         raise TypeError(
             "a list of contiguous bytes-like objects is required, or one and a length"
+            f"{_first_refusal(items)}"
         ) from None
     number = len(parts)
     slots = _Slots(buffer, padding, number, longest)

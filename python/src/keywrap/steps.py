@@ -580,7 +580,12 @@ def _run(
 def _replace(blocks: bytearray, cipher: Cipher) -> None:
     """Replaces the blocks by what the cipher returns for them."""
     answer = cipher(bytes(blocks))
-    with memoryview(answer) as returned, memoryview(blocks) as ours:
+    try:
+        returned = memoryview(answer)
+    except TypeError:
+        kind = type(answer).__name__
+        raise TypeError(f"the callable returned {kind!r}, not bytes") from None
+    with returned, memoryview(blocks) as ours:
         if returned.nbytes != len(blocks):
             raise ValueError(
                 f"the callable returned {returned.nbytes} bytes for {len(blocks)}"
