@@ -1,4 +1,4 @@
--- The lemmas: parts of a buffer, and the turn of a lane.
+-- The lemmas: parts of a buffer, and the step of a lane.
 pub mod Parts
-pub mod Turns
+pub mod LaneSteps
 pub mod Results

@@ -1,3 +1,3 @@
 -- The definitions of the lanes.
 pub mod Lanes
-pub mod Turn
+pub mod LaneStep

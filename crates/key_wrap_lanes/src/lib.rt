@@ -1,5 +1,5 @@
-//! The steps of many wrappings and unwrappings at once, of as many bytes each: for an AES outside
-//! the program that works on many blocks side by side.
+//! The steps of many wrappings of one length at once, or of many unwrappings: for an AES outside the
+//! program that works on many blocks side by side.
 //!
 //! The texts follow each other in one buffer, and each has its block of 16 bytes in another.
 //! A text is 8 bytes and the registers. The calls of `key_wrap_core` for one text are made
@@ -8,8 +8,8 @@
 //! steps is not one at which the call can be made.
 #![tactic(auto)]
 
-mod lane_turns;
 mod lanes;
+mod stepping;
 mod unwrap_many;
 mod wrap_many;
 

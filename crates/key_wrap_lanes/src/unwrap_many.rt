@@ -9,8 +9,8 @@ ghost use Rattle.key_wrap_core.specs.Steps.{UnwrapState};
 ghost use Rattle.key_wrap_core.specs.StepCalls.{IsUnwrapStep};
 ghost use Rattle.key_wrap_lanes.specs.Lanes.{AreLanes, IsEnded, part_at, registers_at, block_at};
 
-use crate::lane_turns::turn_lanes;
 use crate::lanes::{BLOCK, lane_steps, lanes_ok};
+use crate::stepping::step_lanes;
 use key_wrap_core::{InPlaceFault, InitialValue, WORD, register_before};
 use key_wrap_steps::{begin_unwrap, end_unwrap};
 
@@ -71,7 +71,7 @@ pub fn step_unwrap_many(
     let n = (text_len / WORD - 1) as u32;
     let own = (*left as u32 % n) as usize;
     let next = register_before(own, n as usize);
-    turn_lanes(texts, text_len, *left, own, next, blocks);
+    step_lanes(texts, text_len, *left, own, next, blocks);
     Ok(())
 }
 

@@ -10,8 +10,8 @@ ghost use Rattle.key_wrap_core.specs.Steps.{WrapState};
 ghost use Rattle.key_wrap_core.specs.StepCalls.{IsWrapStep};
 ghost use Rattle.key_wrap_lanes.specs.Lanes.{AreLanes, part_at, registers_at, block_at};
 
-use crate::lane_turns::turn_lanes;
 use crate::lanes::{BLOCK, lane_steps, lanes_ok};
+use crate::stepping::step_lanes;
 use key_wrap_core::{InPlaceFault, InitialValue, WORD, register_after};
 use key_wrap_steps::begin_wrap;
 
@@ -65,7 +65,7 @@ pub fn step_wrap_many(
     let own = (*done as u32 % n) as usize;
     *done += 1;
     let next = register_after(own, n as usize);
-    turn_lanes(texts, text_len, *done, own, next, blocks);
+    step_lanes(texts, text_len, *done, own, next, blocks);
     Ok(())
 }
 

@@ -1,3 +1,3 @@
--- The lemmas on whole runs of the steps, and on the turns of a rewrapping.
+-- The lemmas on whole runs of the steps, and on the ends of the phases of a rewrapping.
 pub mod Runs
-pub mod RewrapTurns
+pub mod RewrapPhaseEnds

@@ -70,14 +70,14 @@ GoesOn phase (Run later) steps len = (phase_rank phase < phase_rank later) × (s
 GoesOn phase (Done outcome) steps len = ⊤
 
 -- the promise of the call between two runs of the rewrapping of this text, for every two permutations
-abbrev pub TurnsRewrapOf : (text : List ℕ) → Bool → RewrapForms → RewrapPhase → (t t' : ℕ) (now now' block block' : List ℕ) → RewrapNext → Type 0
-TurnsRewrapOf text pass_new forms phase t t' now now' block block' next = (E D F G : List ℕ → List ℕ) → AreInverse E D → AreInverse F G
+abbrev pub EndsPhaseOf : (text : List ℕ) → Bool → RewrapForms → RewrapPhase → (t t' : ℕ) (now now' block block' : List ℕ) → RewrapNext → Type 0
+EndsPhaseOf text pass_new forms phase t t' now now' block block' next = (E D F G : List ℕ → List ℕ) → AreInverse E D → AreInverse F G
     → RewrapState pass_new forms E F text phase t now block → RewrapGoes pass_new forms E F text next t' now' block'
 
 -- and of that which knows no text, but only the buffer
-abbrev pub TurnsRewrap : Bool → RewrapForms → RewrapPhase → (t t' : ℕ) (now now' block block' : List ℕ) → RewrapNext → Type 0
-TurnsRewrap pass_new forms phase t t' now now' block block' next =
-    (text : List ℕ) → TurnsRewrapOf text pass_new forms phase t t' now now' block block' next
+abbrev pub EndsPhase : Bool → RewrapForms → RewrapPhase → (t t' : ℕ) (now now' block block' : List ℕ) → RewrapNext → Type 0
+EndsPhase pass_new forms phase t t' now now' block block' next =
+    (text : List ℕ) → EndsPhaseOf text pass_new forms phase t t' now now' block block' next
 
 -- the operation of a phase took the block before to this one
 abbrev pub IsApplied : RewrapPhase → (E F : List ℕ → List ℕ) → (before block : List ℕ) → Type 0
@@ -100,19 +100,19 @@ pub record RewrapAt : Type 0 where
   pub now : List ℕ
   pub block : List ℕ
 
--- one call after another: a step, for which the block was encrypted or decrypted, or the turn from one run to the next
+-- one call after another: a step, for which the block was encrypted or decrypted, or the call between two runs
 abbrev pub IsRewrapMove : Bool → RewrapForms → (E F : List ℕ → List ℕ) (text : List ℕ) → RewrapAt → RewrapAt → Type 0
 IsRewrapMove pass_new forms E F text s s' =
     ((block : List ℕ) × (s'.phase ≡ s.phase) × IsApplied s.phase E F s.block block
     × IsRunStep s.phase s.steps s'.steps (drop 8 s.now) (drop 8 s'.now) block s'.block)
-    ⊎ TurnsRewrapOf text pass_new forms s.phase s.steps s'.steps s.now s'.now s.block s'.block (Run s'.phase)
+    ⊎ EndsPhaseOf text pass_new forms s.phase s.steps s'.steps s.now s'.now s.block s'.block (Run s'.phase)
 
--- A whole rewrapping of the text, by what the caller has after each of its calls: it is begun, each call is a step or a turn,
--- and the last turn ends it with this outcome, and with this buffer.
+-- A whole rewrapping of the text, by what the caller has after each of its calls: it is begun, each call is a step or ends a run,
+-- and the last one ends it with this outcome, and with this buffer.
 pub record RewrapRun (pass_new : Bool) (forms : RewrapForms) (E F : List ℕ → List ℕ) (text : List ℕ) (calls : ℕ) (at : ℕ → RewrapAt)
     (outcome : Result Rewrapped Refusal) (after : List ℕ) : Type 0 where
   pub begun : RewrapState pass_new forms E F text (at 0).phase (at 0).steps (at 0).now (at 0).block
   pub moves : (k : ℕ) → k < calls → IsRewrapMove pass_new forms E F text (at k) (at (k + 1))
   pub t : ℕ
   pub block : List ℕ
-  pub ends : TurnsRewrapOf text pass_new forms (at calls).phase (at calls).steps t (at calls).now after (at calls).block block (Done outcome)
+  pub ends : EndsPhaseOf text pass_new forms (at calls).phase (at calls).steps t (at calls).now after (at calls).block block (Done outcome)

@@ -14,7 +14,7 @@ ghost use Rattle.key_wrap_core.specs.BlockCalls.{block_calls};
 ghost use Rattle.key_wrap_core.specs.BufferCalls.{RefusesLength};
 ghost use Rattle.key_wrap_core.specs.StepCalls.{UnwrapBegun};
 ghost use Rattle.key_wrap_core.specs.Rewrap.{HasFault, IsRewrapping};
-ghost use Rattle.key_wrap_steps.specs.RewrapPhases.{CanBegin, RewrapState, RewrapGoes, TurnsRewrap, TurnsRewrapOf, GoesOn, phase_end, phase_start};
+ghost use Rattle.key_wrap_steps.specs.RewrapPhases.{CanBegin, RewrapState, RewrapGoes, EndsPhase, EndsPhaseOf, GoesOn, phase_end, phase_start};
 
 use byteorder::{BigEndian, ByteOrder};
 use key_wrap_core::{
@@ -100,7 +100,7 @@ pub fn next_rewrap(
     ensures refused { RefusesLength (IsPaddedTextLength (length text.old)
         × (steps.old ≡ phase_end phase (length text.old)))
         ((text.new ≡ text.old) × (steps.new ≡ steps.old) × (block.new ≡ block.old)) result }
-    ensures turns { IfOk result (λ next. TurnsRewrap request.now.pass_new request.now.forms phase
+    ensures ends_phase { IfOk result (λ next. EndsPhase request.now.pass_new request.now.forms phase
         steps.old steps.new text.old text.new block.old block.new next) }
     ensures advances { IfOk result (λ next. GoesOn phase next steps.new (length text.old)) }
 {
@@ -108,13 +108,13 @@ pub fn next_rewrap(
         return Err(InPlaceFault::BadLength);
     }
     match phase {
-        RewrapPhase::UnwrapOld => Ok(RewrapNext::Run(turn_old(&request.forms, text, block))),
+        RewrapPhase::UnwrapOld => Ok(RewrapNext::Run(end_unwrap_old(&request.forms, text, block))),
         RewrapPhase::WrapOld(fault) => {
             put_first(text, block);
             Ok(after_old(request, fault, text, steps, block))
         }
         RewrapPhase::UnwrapNew(fault) => {
-            let outcome = turn_new(&request.forms, fault, text, block);
+            let outcome = end_unwrap_new(&request.forms, fault, text, block);
             Ok(RewrapNext::Run(RewrapPhase::WrapNew(outcome)))
         }
         RewrapPhase::WrapNew(outcome) => {
@@ -139,7 +139,7 @@ pub fn next_rewrap_from(
     ensures refused { RefusesLength (IsPaddedTextLength (length text.old)
         × (steps.old ≡ phase_end phase (length text.old)) × (length copy.now ≡ length text.old))
         ((text.new ≡ text.old) × (steps.new ≡ steps.old) × (block.new ≡ block.old)) result }
-    ensures turns { IfOk result (λ next. TurnsRewrapOf copy.now request.now.pass_new request.now.forms
+    ensures ends_phase { IfOk result (λ next. EndsPhaseOf copy.now request.now.pass_new request.now.forms
         phase steps.old steps.new text.old text.new block.old block.new next) }
     ensures advances { IfOk result (λ next. GoesOn phase next steps.new (length text.old)) }
 {
@@ -147,7 +147,7 @@ pub fn next_rewrap_from(
         return Err(InPlaceFault::BadLength);
     }
     match phase {
-        RewrapPhase::UnwrapOld => match turn_old(&request.forms, text, block) {
+        RewrapPhase::UnwrapOld => match end_unwrap_old(&request.forms, text, block) {
             RewrapPhase::WrapOld(fault) => {
                 text.copy_from_slice(copy);
                 Ok(after_old(request, fault, text, steps, block))
@@ -155,7 +155,7 @@ pub fn next_rewrap_from(
             next => Ok(RewrapNext::Run(next)),
         },
         RewrapPhase::UnwrapNew(fault) => {
-            let outcome = turn_new(&request.forms, fault, text, block);
+            let outcome = end_unwrap_new(&request.forms, fault, text, block);
             text.copy_from_slice(copy);
             Ok(RewrapNext::Done(outcome))
         }
@@ -210,9 +210,9 @@ fn put_first(text: &mut [u8], block: &[u8; 16])
 
 /// Returns what follows the unwrapping under the old pair: what was found is wrapped under the new one if
 /// it is a key that fits, or else under the old one again. The block becomes the first one of that run.
-pub fn turn_old(forms: &RewrapForms, text: &[u8], block: &mut [u8; 16]) -> RewrapPhase
+pub fn end_unwrap_old(forms: &RewrapForms, text: &[u8], block: &mut [u8; 16]) -> RewrapPhase
     requires { IsPaddedTextLength (length text.now) }
-    ensures turns { (pass_new : Bool) → TurnsRewrap pass_new forms.now RewrapPhase.UnwrapOld
+    ensures ends_phase { (pass_new : Bool) → EndsPhase pass_new forms.now RewrapPhase.UnwrapOld
         0 0 text.now text.now block.old block.new (RewrapNext.Run result) }
     ensures advances { GoesOn RewrapPhase.UnwrapOld (RewrapNext.Run result) 0 (length text.now) }
 {
@@ -260,16 +260,16 @@ fn after_old(
 /// Returns the outcome after the unwrapping under the new pair of a text that has this fault: the text is
 /// new if a key was found. The block becomes the first one of a run that restores the text under the new
 /// pair. A text that is restored in another way needs no run.
-pub fn turn_new(
+pub fn end_unwrap_new(
     forms: &RewrapForms,
     fault: Refusal,
     text: &[u8],
     block: &mut [u8; 16],
 ) -> Result<Rewrapped, Refusal>
     requires { IsPaddedTextLength (length text.now) }
-    ensures turns { (pass_new : Bool) → TurnsRewrap pass_new forms.now (RewrapPhase.UnwrapNew fault)
+    ensures ends_phase { (pass_new : Bool) → EndsPhase pass_new forms.now (RewrapPhase.UnwrapNew fault)
         0 0 text.now text.now block.old block.new (RewrapNext.Run (RewrapPhase.WrapNew result)) }
-    ensures ends { (pass_new : Bool) (was : List ℕ) (t : ℕ) (after : List ℕ) → TurnsRewrapOf was
+    ensures ends { (pass_new : Bool) (was : List ℕ) (t : ℕ) (after : List ℕ) → EndsPhaseOf was
         pass_new forms.now (RewrapPhase.UnwrapNew fault) 0 t text.now was block.old after
         (RewrapNext.Done result) }
 {

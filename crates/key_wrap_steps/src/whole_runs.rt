@@ -37,8 +37,8 @@ pub fn whole_unwrap_law()
         → PaddedRegisters E (take 8 (block 0) ++ registers 0) text }
 {}
 
-/// Says that all calls of a rewrapping, with steps and turns, end in what `rewrap` promises, for every two
-/// permutations. It does nothing.
+/// Says that all calls of a rewrapping, for a step or between two runs, end in what `rewrap` promises, for
+/// every two permutations. It does nothing.
 pub fn whole_rewrap_law()
     ensures { (pass_new : Bool) (forms : RewrapForms) (E D F G : List ℕ → List ℕ) (text after : List ℕ)
         (calls : ℕ) (at : ℕ → RewrapAt) (outcome : Result Rewrapped Refusal)

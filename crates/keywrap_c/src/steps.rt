@@ -5,7 +5,7 @@ ghost use Rattle.key_wrap_core.specs.Lengths.{IsPlainTextLength, IsPaddedTextLen
 ghost use Rattle.key_wrap_core.specs.BlockCalls.{block_calls};
 ghost use Rattle.keywrap_calls.specs.StepPromises.{BeginsWrap, BeginsPadded, StepsWrap, EndsWrap};
 ghost use Rattle.keywrap_calls.specs.StepPromises.{BeginsUnwrap, StepsUnwrap, EndsUnwrap, EndsPadded, EndsAny};
-ghost use Rattle.keywrap_calls.specs.RewrapSteps.{BeginsRewrap, TurnsRun, TurnsRunFrom};
+ghost use Rattle.keywrap_calls.specs.RewrapSteps.{BeginsRewrap, ContinuesRewrap, ContinuesRewrapFrom};
 
 use keywrap_calls::{In, Out};
 
@@ -160,7 +160,7 @@ pub extern "C" fn keywrap_next_rewrap(
     steps: &mut u64,
     block: &mut [u8; 16],
 ) -> i32
-    ensures { TurnsRun flags phase.old phase.new text.old text.new steps.old steps.new
+    ensures { ContinuesRewrap flags phase.old phase.new text.old text.new steps.old steps.new
         block.old block.new result }
 {
     keywrap_calls::next_rewrap(flags, text, phase, steps, block)
@@ -176,7 +176,7 @@ pub extern "C" fn keywrap_next_rewrap_from(
     steps: &mut u64,
     block: &mut [u8; 16],
 ) -> i32
-    ensures { TurnsRunFrom flags copy.now phase.old phase.new text.old text.new steps.old steps.new
+    ensures { ContinuesRewrapFrom flags copy.now phase.old phase.new text.old text.new steps.old steps.new
         block.old block.new result }
 {
     keywrap_calls::next_rewrap_from(flags, copy, text, phase, steps, block)

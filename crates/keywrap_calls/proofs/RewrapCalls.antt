@@ -1,4 +1,4 @@
--- Each call of a rewrapping keeps the state of its phase, and the last turn ends it.
+-- Each call of a rewrapping keeps the state of its phase, and the last one ends it.
 use Rattle.std.proofs.Common.{◌≡◌, inl, inr, refl, sym, subst, ℕ, zero, suc, ◌+◌, ◌%◌, ◌/◌, ◌<◌, ◌==◌, if◌then◌else◌, Bool, true, false, List, length, Option, Some, None, Result, Ok, Err, arith}
 use Rattle.std.proofs.lemmas.Bool.Decides.{nat_tests}
 use lib.IntN.{ℤ}
@@ -19,8 +19,8 @@ use Rattle.key_wrap_steps.specs.RewrapPhases.{CanBegin, RewrapState, RewrapGoes}
 use Rattle.std.specs.Prelude.{IsErr}
 use Rattle.keywrap_calls.specs.Status.{IsDone}
 use Rattle.keywrap_calls.specs.Rewraps.{AreFlags, AreKeks, Rewraps, forms_of, passes_new, already_of, rewrap_status}
-use Rattle.keywrap_calls.specs.RewrapSteps.{HasEnded, TellsNext, end_status, outcome_at, phase_at, phase_with}
-use Rattle.keywrap_calls.specs.RewrapCalls.{CallAt, MakesStep, MakesTurn, IsRewrapCall, RewrapCalls}
+use Rattle.keywrap_calls.specs.RewrapSteps.{HasEnded, ReportsNext, end_status, outcome_at, phase_at, phase_with}
+use Rattle.keywrap_calls.specs.RewrapCalls.{CallAt, MakesStep, MakesNext, IsRewrapCall, RewrapCalls}
 use Rattle.keywrap_calls.proofs.Rewraps.{rewraps}
 
 -- the two lowest bits of the number of a phase
@@ -90,16 +90,16 @@ can_length : (pass_new : Bool) (forms : RewrapForms) (len : ℕ) → CanBegin pa
 can_length pass_new forms len (inl old) = form_length old.0 len old.2
 can_length pass_new forms len (inr new) = form_length new.1.0 len new.1.2
 
--- a turn leads to what comes next
-turned : (E D F G : List ℕ → List ℕ) (flags : ℕ) (text : List ℕ) (phase : RewrapPhase) (s s' : CallAt) (status : ℤ) → AreInverse E D → AreInverse F G
-    → AreFlags flags → IsPaddedTextLength (length text) → length s.now ≡ length text → phase_at s.number ≡ Some phase → MakesTurn flags text s s' status
+-- a call between two runs leads to what comes next
+continued : (E D F G : List ℕ → List ℕ) (flags : ℕ) (text : List ℕ) (phase : RewrapPhase) (s s' : CallAt) (status : ℤ) → AreInverse E D → AreInverse F G
+    → AreFlags flags → IsPaddedTextLength (length text) → length s.now ≡ length text → phase_at s.number ≡ Some phase → MakesNext flags text s s' status
     → RewrapState (passes_new flags) (forms_of flags) E F text phase s.steps s.now s.block
-    → (next : RewrapNext) × TellsNext next s'.number status × RewrapGoes (passes_new flags) (forms_of flags) E F text next s'.steps s'.now s'.block
-turned E D F G flags text phase s s' status inv inv' legal size same at made state =
+    → (next : RewrapNext) × ReportsNext next s'.number status × RewrapGoes (passes_new flags) (forms_of flags) E F text next s'.steps s'.now s'.block
+continued E D F G flags text phase s s' status inv inv' legal size same at made state =
     let ended : HasEnded flags phase s.number s.steps (length s.now) = (legal, at, subst IsPaddedTextLength (sym same) size, made.none_left phase at) in
-    elim made.turn [
-      | inl t ↦ let found = t.turns phase ended in (found.0, found.1, found.3 text E D F G inv inv' state)
-      | inr t ↦ let found = t.turns phase ended (sym same) in (found.0, found.1, found.3 E D F G inv inv' state)
+    elim made.call [
+      | inl t ↦ let found = t.ends_phase phase ended in (found.0, found.1, found.3 text E D F G inv inv' state)
+      | inr t ↦ let found = t.ends_phase phase ended (sym same) in (found.0, found.1, found.3 E D F G inv inv' state)
     ]
 
 -- between two calls the rewrapping is in the state of its phase
@@ -108,7 +108,7 @@ IsState E F flags text s =
     (phase : RewrapPhase) × (phase_at s.number ≡ Some phase) × RewrapState (passes_new flags) (forms_of flags) E F text phase s.steps s.now s.block
 
 next_state : (E F : List ℕ → List ℕ) (flags : ℕ) (text : List ℕ) (s : CallAt) (next : RewrapNext) (status : ℤ) → ¬ (s.number ≡ 0)
-    → TellsNext next s.number status → RewrapGoes (passes_new flags) (forms_of flags) E F text next s.steps s.now s.block → IsState E F flags text s
+    → ReportsNext next s.number status → RewrapGoes (passes_new flags) (forms_of flags) E F text next s.steps s.now s.block → IsState E F flags text s
 next_state E F flags text s (Run phase) status some tells goes = (phase, tells.0, goes)
 next_state E F flags text s (Done outcome) status some tells goes = absurd (some tells.0)
 
@@ -121,9 +121,9 @@ moved E D F G flags text s s' inv inv' legal size same (inl step) state =
       stepped E F (passes_new flags) (forms_of flags) text state.0 s s' step.0 step.1 step.2
           (subst (λ (n : ℕ). MakesStep E F n s step.0 s' step.1) bits step.4) state.2,
     )
-moved E D F G flags text s s' inv inv' legal size same (inr turn) state =
-    let found = turned E D F G flags text state.0 s s' turn.0 inv inv' legal size same state.1 turn.2 state.2 in
-    next_state E F flags text s' found.0 turn.0 turn.1 found.1 found.2
+moved E D F G flags text s s' inv inv' legal size same (inr next) state =
+    let found = continued E D F G flags text state.0 s s' next.0 inv inv' legal size same state.1 next.2 state.2 in
+    next_state E F flags text s' found.0 next.0 next.1 found.1 found.2
 
 -- what holds first, and is kept, holds last
 climbed : (S : ℕ → Type 0) (n : ℕ) → S 0 → ((t : ℕ) → t < n → S t → S (t + 1)) → S n
@@ -134,7 +134,7 @@ climbed S (suc n) start step =
 
 -- without a phase the rewrapping has ended
 last_state : (E F : List ℕ → List ℕ) (flags : ℕ) (text : List ℕ) (s : CallAt) (next : RewrapNext) (status : ℤ) → s.number ≡ 0
-    → TellsNext next s.number status → RewrapGoes (passes_new flags) (forms_of flags) E F text next s.steps s.now s.block
+    → ReportsNext next s.number status → RewrapGoes (passes_new flags) (forms_of flags) E F text next s.steps s.now s.block
     → (outcome : Result Rewrapped Refusal) × (status ≡ end_status outcome) × IsRewrapping (passes_new flags) (forms_of flags) E F text outcome s.now
 last_state E F flags text s (Run phase) status none tells goes =
     let at : phase_at 0 ≡ Some phase = subst (λ (n : ℕ). phase_at n ≡ Some phase) none tells.0 in absurd (let wrong = at in cc)
@@ -162,7 +162,7 @@ whole_calls E D F G old_kek new_kek flags text calls at last status inv inv' kek
     ) in
     let state = climbed (λ (k : ℕ). IsState E F flags text (at k)) calls start
     (λ k below held. moved E D F G flags text (at k) (at (k + 1)) inv inv' legal size (made.sizes k) (made.moves k below) held) in
-    let found = turned E D F G flags text state.0 (at calls) last status inv inv' legal size (made.sizes calls) state.1 made.ends state.2 in
+    let found = continued E D F G flags text state.0 (at calls) last status inv inv' legal size (made.sizes calls) state.1 made.ends state.2 in
     let end = last_state E F flags text last found.0 status made.no_phase found.1 found.2 in (
       end.0,
       end.1,

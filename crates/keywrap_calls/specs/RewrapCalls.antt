@@ -1,10 +1,10 @@
--- A rewrapping by the calls for one step and for the turn between two runs, with an AES outside: what they give together.
+-- A rewrapping by the calls for one step and between two runs, with an AES outside: what they give together.
 use Rattle.std.specs.Prelude.{◌≡◌, ◌⊎◌, ℕ, zero, suc, ℤ, ◌+◌, ◌<◌, ◌%◌, List, length, drop, Some}
 use Rattle.key_wrap_steps.specs.declared.rewrap_steps.RewrapPhase.{RewrapPhase}
 use Rattle.key_wrap_steps.specs.RewrapPhases.{phase_end}
 use Rattle.keywrap_calls.specs.Status.{IsDone}
 use Rattle.keywrap_calls.specs.StepPromises.{StepsWrap, StepsUnwrap}
-use Rattle.keywrap_calls.specs.RewrapSteps.{BeginsRewrap, TurnsRun, TurnsRunFrom, phase_at}
+use Rattle.keywrap_calls.specs.RewrapSteps.{BeginsRewrap, ContinuesRewrap, ContinuesRewrapFrom, phase_at}
 
 -- What a caller has between two calls: the number of the phase, the number of steps, the buffer and the block.
 pub record CallAt : Type 0 where
@@ -24,19 +24,19 @@ MakesStep E F (suc (suc zero)) s block s' status =
 MakesStep E F (suc (suc (suc _))) s block s' status =
     (F block ≡ s.block) × StepsUnwrap (drop 8 s.now) (drop 8 s'.now) s.steps s'.steps block s'.block status
 
--- The caller made the turn between two runs, with or without a copy of the text, once all steps of the run were made or undone.
-pub record MakesTurn (flags : ℕ) (text : List ℕ) (s s' : CallAt) (status : ℤ) : Type 0 where
+-- The caller made the call between two runs, with or without a copy of the text, once all steps of the run were made or undone.
+pub record MakesNext (flags : ℕ) (text : List ℕ) (s s' : CallAt) (status : ℤ) : Type 0 where
   pub none_left : (phase : RewrapPhase) → phase_at s.number ≡ Some phase → s.steps ≡ phase_end phase (length s.now)
-  pub turn : TurnsRun flags s.number s'.number s.now s'.now s.steps s'.steps s.block s'.block status
-      ⊎ TurnsRunFrom flags text s.number s'.number s.now s'.now s.steps s'.steps s.block s'.block status
+  pub call : ContinuesRewrap flags s.number s'.number s.now s'.now s.steps s'.steps s.block s'.block status
+      ⊎ ContinuesRewrapFrom flags text s.number s'.number s.now s'.now s.steps s'.steps s.block s'.block status
 
 -- one call after another, before the last one
 abbrev pub IsRewrapCall : (E F : List ℕ → List ℕ) (flags : ℕ) (text : List ℕ) → CallAt → CallAt → Type 0
 IsRewrapCall E F flags text s s' =
     ((block : List ℕ) × (status : ℤ) × IsDone status × (s'.number ≡ s.number) × MakesStep E F (s.number % 4) s block s' status)
-    ⊎ ((status : ℤ) × ¬ (s'.number ≡ 0) × MakesTurn flags text s s' status)
+    ⊎ ((status : ℤ) × ¬ (s'.number ≡ 0) × MakesNext flags text s s' status)
 
--- A whole rewrapping of the text: it is begun, each of its calls is a step or a turn, and the last turn leaves no phase.
+-- A whole rewrapping of the text: it is begun, each of its calls is a step or ends a run, and the last one leaves no phase.
 pub record RewrapCalls (E F : List ℕ → List ℕ) (flags : ℕ) (text : List ℕ) (calls : ℕ) (at : ℕ → CallAt) (last : CallAt) (status : ℤ)
     : Type 0 where
   pub old_steps : ℕ
@@ -47,5 +47,5 @@ pub record RewrapCalls (E F : List ℕ → List ℕ) (flags : ℕ) (text : List 
   pub start : (at 0).now ≡ text
   pub sizes : (k : ℕ) → length (at k).now ≡ length text
   pub moves : (k : ℕ) → k < calls → IsRewrapCall E F flags text (at k) (at (k + 1))
-  pub ends : MakesTurn flags text (at calls) last status
+  pub ends : MakesNext flags text (at calls) last status
   pub no_phase : last.number ≡ 0

@@ -12,7 +12,7 @@ use Rattle.key_wrap_steps.specs.declared.rewrap_steps.RewrapNext.{RewrapNext}
 use Rattle.key_wrap_steps.specs.declared.rewrap_steps.RewrapNext.TheVariants.{Run, Done}
 use Rattle.key_wrap_core.specs.Lengths.{IsPaddedTextLength}
 use Rattle.key_wrap_core.specs.Rewrap.{IsRewrapping}
-use Rattle.key_wrap_steps.specs.RewrapPhases.{CanBegin, RewrapState, TurnsRewrap, TurnsRewrapOf, GoesOn, phase_end, phase_start}
+use Rattle.key_wrap_steps.specs.RewrapPhases.{CanBegin, RewrapState, EndsPhase, EndsPhaseOf, GoesOn, phase_end, phase_start}
 use Rattle.keywrap_calls.specs.Status.{IsDone, IsBadLength}
 use Rattle.keywrap_calls.specs.Rewraps.{AreFlags, forms_of, passes_new}
 
@@ -47,10 +47,10 @@ phase_with operation (Some (Err fault)) =
 abbrev pub phase_at : ℕ → Option RewrapPhase
 phase_at number = if number == 1 then Some UnwrapOld else phase_with (number % 4) (outcome_at (number / 4))
 
--- the number and the status tell what follows a run: 0 is the number of no phase
-abbrev pub TellsNext : RewrapNext → (number : ℕ) (status : ℤ) → Type 0
-TellsNext (Run phase) number status = (phase_at number ≡ Some phase) × IsDone status
-TellsNext (Done outcome) number status = (number ≡ 0) × (status ≡ end_status outcome)
+-- the number and the status report what follows a run: 0 is the number of no phase
+abbrev pub ReportsNext : RewrapNext → (number : ℕ) (status : ℤ) → Type 0
+ReportsNext (Run phase) number status = (phase_at number ≡ Some phase) × IsDone status
+ReportsNext (Done outcome) number status = (number ≡ 0) × (status ≡ end_status outcome)
 
 -- a call that begins a rewrapping
 pub record BeginsRewrap (flags : ℕ) (text : List ℕ) (number old_steps new_steps : ℕ) (old_block new_block : List ℕ) (status : ℤ) : Type 0 where
@@ -68,18 +68,18 @@ abbrev pub HasEnded : (flags : ℕ) (phase : RewrapPhase) (number steps len : �
 HasEnded flags phase number steps len = AreFlags flags × (phase_at number ≡ Some phase) × IsPaddedTextLength len × (steps ≡ phase_end phase len)
 
 -- a call that ends a run and begins the next one, or ends the rewrapping
-pub record TurnsRun (flags number number' : ℕ) (old new : List ℕ) (old_steps new_steps : ℕ) (old_block new_block : List ℕ) (status : ℤ)
+pub record ContinuesRewrap (flags number number' : ℕ) (old new : List ℕ) (old_steps new_steps : ℕ) (old_block new_block : List ℕ) (status : ℤ)
     : Type 0 where
-  pub turns : (phase : RewrapPhase) → HasEnded flags phase number old_steps (length old) → (next : RewrapNext) × TellsNext next number' status
-      × GoesOn phase next new_steps (length old) × TurnsRewrap (passes_new flags) (forms_of flags) phase old_steps new_steps old new old_block new_block next
+  pub ends_phase : (phase : RewrapPhase) → HasEnded flags phase number old_steps (length old) → (next : RewrapNext) × ReportsNext next number' status
+      × GoesOn phase next new_steps (length old) × EndsPhase (passes_new flags) (forms_of flags) phase old_steps new_steps old new old_block new_block next
   pub refused : ((phase : RewrapPhase) → ¬ HasEnded flags phase number old_steps (length old)) → IsBadLength status × (number' ≡ 0)
       × (new ≡ old) × (new_steps ≡ old_steps) × (new_block ≡ old_block)
 
 -- the same with a copy of the text, of which a refused text is restored
-pub record TurnsRunFrom (flags : ℕ) (copy : List ℕ) (number number' : ℕ) (old new : List ℕ) (old_steps new_steps : ℕ) (old_block new_block : List ℕ)
+pub record ContinuesRewrapFrom (flags : ℕ) (copy : List ℕ) (number number' : ℕ) (old new : List ℕ) (old_steps new_steps : ℕ) (old_block new_block : List ℕ)
     (status : ℤ) : Type 0 where
-  pub turns : (phase : RewrapPhase) → HasEnded flags phase number old_steps (length old) → length copy ≡ length old
-      → (next : RewrapNext) × TellsNext next number' status × GoesOn phase next new_steps (length old)
-      × TurnsRewrapOf copy (passes_new flags) (forms_of flags) phase old_steps new_steps old new old_block new_block next
+  pub ends_phase : (phase : RewrapPhase) → HasEnded flags phase number old_steps (length old) → length copy ≡ length old
+      → (next : RewrapNext) × ReportsNext next number' status × GoesOn phase next new_steps (length old)
+      × EndsPhaseOf copy (passes_new flags) (forms_of flags) phase old_steps new_steps old new old_block new_block next
   pub refused : ((phase : RewrapPhase) → ¬ (HasEnded flags phase number old_steps (length old) × (length copy ≡ length old)))
       → IsBadLength status × (number' ≡ 0) × (new ≡ old) × (new_steps ≡ old_steps) × (new_block ≡ old_block)

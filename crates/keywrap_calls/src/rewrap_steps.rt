@@ -1,7 +1,7 @@
 //! Rewrapping run by run, for an AES outside the library.
 
 ghost use Rattle.std.specs.Prelude.{◌≡◌, Some, Option, pos, ℕ};
-ghost use Rattle.keywrap_calls.specs.RewrapSteps.{BeginsRewrap, TurnsRun, TurnsRunFrom, TellsNext, end_status, outcome_at, phase_at};
+ghost use Rattle.keywrap_calls.specs.RewrapSteps.{BeginsRewrap, ContinuesRewrap, ContinuesRewrapFrom, ReportsNext, end_status, outcome_at, phase_at};
 
 use crate::rewrapping::request_of;
 use crate::status::{ALREADY_NEW, BAD_LENGTH, DONE, INTEGRITY, KEY_NOT_PLAIN};
@@ -46,7 +46,7 @@ pub fn next_rewrap(
     steps: &mut u64,
     block: &mut [u8; 16],
 ) -> i32
-    ensures { TurnsRun flags phase.old phase.new text.old text.new steps.old steps.new
+    ensures { ContinuesRewrap flags phase.old phase.new text.old text.new steps.old steps.new
         block.old block.new result }
 {
     let run = phase_of(*phase);
@@ -58,7 +58,7 @@ pub fn next_rewrap(
         return BAD_LENGTH;
     };
     match key_wrap_steps::next_rewrap(&request, run, text, steps, block) {
-        Ok(next) => tell(next, phase),
+        Ok(next) => report_next(next, phase),
         Err(_) => BAD_LENGTH,
     }
 }
@@ -75,7 +75,7 @@ pub fn next_rewrap_from(
     steps: &mut u64,
     block: &mut [u8; 16],
 ) -> i32
-    ensures { TurnsRunFrom flags copy.now phase.old phase.new text.old text.new steps.old steps.new
+    ensures { ContinuesRewrapFrom flags copy.now phase.old phase.new text.old text.new steps.old steps.new
         block.old block.new result }
 {
     let run = phase_of(*phase);
@@ -87,14 +87,14 @@ pub fn next_rewrap_from(
         return BAD_LENGTH;
     };
     match key_wrap_steps::next_rewrap_from(&request, run, copy, text, steps, block) {
-        Ok(next) => tell(next, phase),
+        Ok(next) => report_next(next, phase),
         Err(_) => BAD_LENGTH,
     }
 }
 
 // Writes the number of the next phase, or 0, and returns the status.
-fn tell(next: RewrapNext, phase: &mut u32) -> i32
-    ensures { TellsNext next phase.new result }
+fn report_next(next: RewrapNext, phase: &mut u32) -> i32
+    ensures { ReportsNext next phase.new result }
 {
     match next {
         RewrapNext::Run(run) => {

@@ -1,4 +1,4 @@
--- The first lanes of a turn, which are wrapped, and what is written of them.
+-- The first lanes of a batch, which are wrapped, and what is written of them.
 use Rattle.std.proofs.Common.{◌≡◌, ℕ, ◌+◌, ◌-◌, ◌*◌, ◌/◌, ◌≤◌, ◌<◌, min, List, ◌++◌, length, take, drop, refl, sym, ap, ap₂, ◌∙◌, arith, length-take, length-append, length-drop, inl, inr}
 use Rattle.std.proofs.lemmas.Bool.{cases_lt}
 use Rattle.std.proofs.lemmas.List.{take_at, take-append-drop}
@@ -16,7 +16,7 @@ use Rattle.key_wrap_core.specs.Plain.{default_iv}
 use Rattle.key_wrap_core.specs.Rewrap.{IsOldLength, to_itself}
 use Rattle.key_wrap_core.proofs.InPlaceForm.{registers_now}
 use Rattle.key_wrap_lanes.specs.Lanes.{AreLanes, part_at}
-use Rattle.lane_runs.proofs.Turns.{PartsDone, part_before, within, turn_written}
+use Rattle.lane_runs.proofs.Batches.{PartsDone, part_before, within, batch_written}
 
 -- the first lanes and their blocks
 pub front_lanes : (n w : ℕ) (lanes blocks : List ℕ) → AreLanes n lanes blocks → w ≤ length blocks / 16
@@ -79,14 +79,14 @@ pub itself_legal : (forms : RewrapForms) (len : ℕ) → IsPlainTextLength len �
 itself_legal Kept len legal = (agreed.Plain default_iv, (forms.Plain, refl), legal)
 itself_legal (Changed old new) len legal = (new, refl, legal_as new len legal)
 
--- the copies of the texts of a turn
-pub turn_copies : (n count turn last : ℕ) (texts copies : List ℕ) → turn < count / 48 + 1 → last ≡ min count (48 * turn + 48)
+-- the copies of the texts of a batch
+pub batch_copies : (n count batch last : ℕ) (texts copies : List ℕ) → batch < count / 48 + 1 → last ≡ min count (48 * batch + 48)
     → length texts ≡ n * count → n ≤ 264 → length copies ≡ 12672
-    → length (take (n * (last - 48 * turn)) copies) ≡ length (take (n * last - n * (48 * turn)) (drop (n * (48 * turn)) texts))
-turn_copies n count turn last texts copies more last_is whole short room =
-    let m : ℕ = last - 48 * turn in
+    → length (take (n * (last - 48 * batch)) copies) ≡ length (take (n * last - n * (48 * batch)) (drop (n * (48 * batch)) texts))
+batch_copies n count batch last texts copies more last_is whole short room =
+    let m : ℕ = last - 48 * batch in
     let few : m ≤ 48 = omega (arith, last_is) in
     let most : n * m ≤ n * 48 = mul-le-mul_left n few in
-    let given = turn_written n count turn last texts (take (n * last - n * (48 * turn)) (drop (n * (48 * turn)) texts)) more last_is whole refl in
-    let size : length (take (n * last - n * (48 * turn)) (drop (n * (48 * turn)) texts)) ≡ n * m = given.size in
+    let given = batch_written n count batch last texts (take (n * last - n * (48 * batch)) (drop (n * (48 * batch)) texts)) more last_is whole refl in
+    let size : length (take (n * last - n * (48 * batch)) (drop (n * (48 * batch)) texts)) ≡ n * m = given.size in
     omega (arith, length-take (n * m) copies, most, short, room, size)

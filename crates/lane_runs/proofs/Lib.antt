@@ -1,6 +1,6 @@
 -- The lemmas.
 mod Legal
-pub mod Turns
+pub mod Batches
 pub mod Finished
 pub mod Fronts
 pub mod Moves

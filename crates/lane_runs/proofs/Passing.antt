@@ -31,6 +31,6 @@ passed {E = E} {D = D} {F = F} {G = G} {pass_new = pass_new} {forms = forms} {te
     let lane = passes other in
     record {
       result = lane.2.outcome;
-      rewraps = lane.2.turns pass_new text E D F G inv inv' (has, λ e. absurd (let wrong = e in cc), pass, itself_legal forms (length text) legal, lane.3);
+      rewraps = lane.2.ends_phase pass_new text E D F G inv inv' (has, λ e. absurd (let wrong = e in cc), pass, itself_legal forms (length text) legal, lane.3);
       status_is = lane.2.status_is;
     }

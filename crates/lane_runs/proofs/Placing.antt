@@ -1,11 +1,11 @@
--- The lanes of a turn, while one after the other is turned: those that fit come to the front.
+-- The lanes of a batch, while the unwrapping of one after the other is ended: those that fit come to the front.
 use Rattle.std.proofs.Common.{◌≡◌, ◌≢◌, ℕ, ◌+◌, ◌≤◌, ◌<◌, List, length, get_or, sym, ◌∙◌, arith, inl, inr, refl}
 use Rattle.std.proofs.lemmas.Bool.{cases_lt}
 use Rattle.key_wrap_core.specs.declared.rewrapping.RewrapForms.{RewrapForms}
 use Rattle.key_wrap_lanes.specs.Lanes.{part_at, block_at}
 use Rattle.lane_runs.specs.Rewraps.{FitsLane, RefusesLane, PlacedLane}
 
--- The lanes before one are turned, and `wrapped` of them have a place in front. The lanes from this one on are as they were.
+-- The unwrappings of the lanes before one are ended, and `wrapped` of them have a place in front. The lanes from this one on are as they were.
 pub record LanesPlaced (forms : RewrapForms) (n i wrapped : ℕ) (lanes blocks lanes' blocks' places statuses : List ℕ) : Type 0 where
   pub few : wrapped ≤ i
   pub placed : (j : ℕ) → j < i → PlacedLane forms n (part_at n j lanes) (block_at j blocks) lanes' blocks' (get_or places j 0) (get_or statuses j 0) wrapped

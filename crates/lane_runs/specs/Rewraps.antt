@@ -11,7 +11,7 @@ use Rattle.key_wrap_core.specs.Steps.{UnwrapState}
 use Rattle.key_wrap_lanes.specs.Lanes.{block_at, part_at}
 use Rattle.key_wrap_steps.specs.declared.rewrap_steps.RewrapPhase.TheVariants.{UnwrapOld, UnwrapNew, WrapNew}
 use Rattle.key_wrap_steps.specs.declared.rewrap_steps.RewrapNext.TheVariants.{Run, Done}
-use Rattle.key_wrap_steps.specs.RewrapPhases.{TurnsRewrap, TurnsRewrapOf}
+use Rattle.key_wrap_steps.specs.RewrapPhases.{EndsPhase, EndsPhaseOf}
 
 -- the status of a text by its outcome: 1 if it was new already
 abbrev pub rewrap_status : Result Rewrapped Refusal → ℕ
@@ -38,12 +38,12 @@ pub record RefusesLane (forms : RewrapForms) (lane block : List ℕ) (status : �
 pub record FitsLane (forms : RewrapForms) (lane block lane' block' : List ℕ) (status : ℕ) : Type 0 where
   pub outcome : Result Rewrapped Refusal
   pub status_is : status ≡ rewrap_status outcome
-  pub turns : (pass_new : Bool) → TurnsRewrap pass_new forms UnwrapOld 0 0 lane lane' block block' (Run (WrapNew outcome))
+  pub ends_phase : (pass_new : Bool) → EndsPhase pass_new forms UnwrapOld 0 0 lane lane' block block' (Run (WrapNew outcome))
 
 -- the one or the other
-abbrev pub TurnsLane : (forms : RewrapForms) (lane block block' : List ℕ) → Bool → (status : ℕ) → Type 0
-TurnsLane forms lane block block' true status = FitsLane forms lane block lane block' status
-TurnsLane forms lane block block' false status = RefusesLane forms lane block status
+abbrev pub EndsOldLane : (forms : RewrapForms) (lane block block' : List ℕ) → Bool → (status : ℕ) → Type 0
+EndsOldLane forms lane block block' true status = FitsLane forms lane block lane block' status
+EndsOldLane forms lane block block' false status = RefusesLane forms lane block status
 
 -- The same of a lane that went to this place among the first of the lanes, of which there are `wrapped`; or, at the place 48, stays.
 abbrev pub PlacedLane : (forms : RewrapForms) (n : ℕ) (lane block lanes' blocks' : List ℕ) (place status wrapped : ℕ) → Type 0
@@ -56,7 +56,7 @@ pub record PassesLane (forms : RewrapForms) (lane block : List ℕ) (status : �
   pub outcome : Result Rewrapped Refusal
   pub status_is : status ≡ rewrap_status outcome
   pub block' : List ℕ
-  pub turns : (pass_new : Bool) (text : List ℕ) → TurnsRewrapOf text pass_new forms (UnwrapNew Integrity) 0 0 lane text block block' (Done outcome)
+  pub ends_phase : (pass_new : Bool) (text : List ℕ) → EndsPhaseOf text pass_new forms (UnwrapNew Integrity) 0 0 lane text block block' (Done outcome)
 
 -- What a lane leaves of its text: at a place among those that were wrapped, the first bytes of the block and the registers there.
 pub record PutsLane (n : ℕ) (lanes blocks : List ℕ) (place wrapped : ℕ) (text text' : List ℕ) : Type 0 where

@@ -7,7 +7,7 @@ ghost use Rattle.key_wrap_lanes.specs.Lanes.{AreLanes, block_at, part_at, regist
 ghost use Rattle.lane_runs.specs.Texts.{UnwrapsText};
 
 use crate::LANES;
-use crate::ends::end_turn;
+use crate::ends::end_batch;
 use crate::steps::undo_steps;
 use block_lanes::{BLOCK, BlockLanes};
 use key_wrap_core::Form;
@@ -33,10 +33,10 @@ pub fn unwrap_texts<B: BlockLanes>(
 {
     let mut blocks = [0; BLOCK * LANES];
     let count = statuses.len();
-    for turn in 0..count / LANES + 1 {
-        let first = LANES * turn;
+    for batch in 0..count / LANES + 1 {
+        let first = LANES * batch;
         let last = count.min(first + LANES);
-        unwrap_turn(
+        unwrap_batch(
             pair,
             form,
             &mut texts[text_len * first..text_len * last],
@@ -48,8 +48,8 @@ pub fn unwrap_texts<B: BlockLanes>(
     }
 }
 
-// Unwraps each text of a turn. The blocks become zeros.
-fn unwrap_turn<B: BlockLanes>(
+// Unwraps each text of a batch. The blocks become zeros.
+fn unwrap_batch<B: BlockLanes>(
     pair: &B,
     form: Form,
     texts: &mut [u8],
@@ -68,7 +68,7 @@ fn unwrap_turn<B: BlockLanes>(
     ensures cleared { All (λ byte. byte ≡ 0) blocks.new }
 {
     undo_lanes(pair, texts, text_len, blocks);
-    end_turn(form, texts, text_len, blocks, key_lens, statuses);
+    end_batch(form, texts, text_len, blocks, key_lens, statuses);
     blocks.fill(0);
 }
 

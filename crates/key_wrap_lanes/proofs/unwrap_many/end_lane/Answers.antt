@@ -3,7 +3,7 @@ use Rattle.std.proofs.Common.{◌≡◌, ◌-◌, ℕ, List, length, take, drop,
 use Rattle.std.proofs.lemmas.List.{take_all}
 use Rattle.key_wrap_core.specs.declared.faults.InPlaceFault.TheVariants.{BadLength}
 use Rattle.key_wrap_core.proofs.InPlaceForm.{registers_now}
-use Rattle.key_wrap_lanes.proofs.Turns.{ended}
+use Rattle.key_wrap_lanes.proofs.LaneSteps.{ended}
 use Rattle.key_wrap_lanes.proofs.unwrap_many.end_lane.Goals as goal
 
 pub returns-clause-ends : goal.returns-clause-ends

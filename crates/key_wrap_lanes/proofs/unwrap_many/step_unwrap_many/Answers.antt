@@ -1,9 +1,9 @@
--- The number counts down before the lanes are turned, and the turn of a lane is its step undone.
+-- The number counts down before the lanes are written, and each lane has its step undone.
 use Rattle.std.proofs.Common.{rules, ◌≡◌, ℕ, ◌+◌, ◌/◌, ◌%◌, ◌-◌, ◌<◌, ◌≤◌, arith, refl}
 use Rattle.key_wrap_core.specs.BlockCalls.{block_calls}
 use Rattle.key_wrap_core.proofs.Spelling.{each_byte}
 use Rattle.key_wrap_core.proofs.Refusals.{ok_or_err}
-use Rattle.key_wrap_lanes.proofs.Turns.{lane_of, unwrap_turned}
+use Rattle.key_wrap_lanes.proofs.LaneSteps.{lane_of, unwrap_stepped}
 use Rattle.key_wrap_lanes.proofs.unwrap_many.step_unwrap_many.Goals as goal
 
 pub returns : goal.returns
@@ -18,8 +18,8 @@ returns c =
     record {
       refused = record { bad_length = (λ e. ok_or_err e, λ bad. absurd (bad (lanes, some, within))); only_fault = tt; kept = λ e. ok_or_err e };
       counts = omega arith;
-      firsts = λ i below. let turned = c.turn_lanes.ensures i below in turned.first;
+      firsts = λ i below. let stepped_lane = c.step_lanes.ensures i below in stepped_lane.first;
       steps = λ i below E origin before state decrypted.
           let lane = lane_of c.args.texts.now c.args.blocks.now lanes (each_byte c.args.blocks.now (search rules)) below own (c.register_before-next.ensures.within own) in
-          unwrap_turned lane (omega arith) refl (c.register_before-next.ensures.number own) (c.turn_lanes.ensures i below) (rw again state) decrypted;
+          unwrap_stepped lane (omega arith) refl (c.register_before-next.ensures.number own) (c.step_lanes.ensures i below) (rw again state) decrypted;
     }

@@ -3,7 +3,7 @@ use Rattle.std.proofs.Common.{rules, ◌≡◌}
 use Rattle.key_wrap_core.specs.BlockCalls.{block_calls}
 use Rattle.key_wrap_steps.proofs.Runs.{ended_plain, ended_padded}
 use Rattle.key_wrap_core.proofs.Refusals.{ok_or_err}
-use Rattle.key_wrap_lanes.proofs.Turns.{all_steps}
+use Rattle.key_wrap_lanes.proofs.LaneSteps.{all_steps}
 use Rattle.key_wrap_lanes.proofs.wrap_many.end_wrap_many.Goals as goal
 
 pub returns : goal.returns

@@ -1,9 +1,9 @@
--- The turn of a lane is its step.
+-- Each lane has its step made.
 use Rattle.std.proofs.Common.{rules, ℕ, ◌/◌, ◌%◌, ◌-◌, ◌<◌, arith, refl}
 use Rattle.key_wrap_core.specs.BlockCalls.{block_calls}
 use Rattle.key_wrap_core.proofs.Spelling.{each_byte}
 use Rattle.key_wrap_core.proofs.Refusals.{ok_or_err}
-use Rattle.key_wrap_lanes.proofs.Turns.{lane_of, wrap_turned}
+use Rattle.key_wrap_lanes.proofs.LaneSteps.{lane_of, wrap_stepped}
 use Rattle.key_wrap_lanes.proofs.wrap_many.step_wrap_many.Goals as goal
 
 pub returns : goal.returns
@@ -16,8 +16,8 @@ returns c =
     record {
       refused = record { bad_length = (λ e. ok_or_err e, λ bad. absurd (bad (lanes, left))); only_fault = tt; kept = λ e. ok_or_err e };
       counts = refl;
-      firsts = λ i below. let turned = c.turn_lanes.ensures i below in turned.first;
+      firsts = λ i below. let stepped_lane = c.step_lanes.ensures i below in stepped_lane.first;
       steps = λ i below E iv key before state encrypted.
           let lane = lane_of c.args.texts.now c.args.blocks.now lanes (each_byte c.args.blocks.now (search rules)) below own (c.register_after-next.ensures.within own) in
-          wrap_turned lane (omega arith) refl (c.register_after-next.ensures.number own) (c.turn_lanes.ensures i below) state encrypted;
+          wrap_stepped lane (omega arith) refl (c.register_after-next.ensures.number own) (c.step_lanes.ensures i below) state encrypted;
     }

@@ -2,7 +2,7 @@
 use Rattle.std.proofs.Common.{rules, ◌≡◌, refl}
 use Rattle.key_wrap_core.specs.declared.faults.Refusal.TheVariants.{KeyNotPlain}
 use Rattle.key_wrap_core.proofs.Refusals.{true_or_false}
-use Rattle.key_wrap_steps.proofs.RewrapTurns.{begun, not_new}
+use Rattle.key_wrap_steps.proofs.RewrapPhaseEnds.{begun, not_new}
 use Rattle.key_wrap_steps.proofs.rewrap_steps.after_old.Goals as goal
 
 pub returns-then-not-rewrap_length_ok-clause-goes : goal.returns-then-not-rewrap_length_ok-clause-goes

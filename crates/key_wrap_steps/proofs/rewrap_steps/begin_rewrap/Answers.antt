@@ -1,7 +1,7 @@
 -- The text is unwrapped under the pair under which its length is legal.
 use Rattle.std.proofs.Common.{refl}
 use Rattle.key_wrap_core.proofs.Refusals.{true_or_false}
-use Rattle.key_wrap_steps.proofs.RewrapTurns.{begun, not_new}
+use Rattle.key_wrap_steps.proofs.RewrapPhaseEnds.{begun, not_new}
 use Rattle.key_wrap_steps.proofs.rewrap_steps.begin_rewrap.Goals as goal
 use Rattle.key_wrap_steps.proofs.rewrap_steps.begin_rewrap.Goals.{else-request-via-then-request+else-rewrap_length_ok-2, else-request-via-else-request}
 

@@ -1,28 +1,28 @@
 -- The copy is the text, so that what holds of the text holds of the buffer after it is copied.
 use Rattle.std.proofs.Common.{◌≡◌, ◌∙◌, ℕ, List, length}
 use Rattle.key_wrap_core.specs.BlockCalls.{block_calls}
-use Rattle.key_wrap_steps.proofs.RewrapTurns.{led, calls_over}
+use Rattle.key_wrap_steps.proofs.RewrapPhaseEnds.{led, calls_over}
 use Rattle.key_wrap_steps.proofs.rewrap_steps.next_rewrap_from.Goals as goal
 
-pub returns-in-WrapOld-turn_old-clause-turns : goal.returns-in-WrapOld-turn_old-clause-turns
-returns-in-WrapOld-turn_old-clause-turns c = λ E D F G inv inv' state.
+pub returns-in-WrapOld-end_unwrap_old-clause-ends_phase : goal.returns-in-WrapOld-end_unwrap_old-clause-ends_phase
+returns-in-WrapOld-end_unwrap_old-clause-ends_phase c = λ E D F G inv inv' state.
     let legal = c.has_ended.ensures.0 c.if-not-has_ended.false in
     let none : c.args.steps.now ≡ 0 = rw c.in-UnwrapOld.is at legal.1 in
-    let turned = (rw c.in-WrapOld-turn_old.is at c.turn_old.ensures.turns) c.args.request.now.pass_new c.args.copy.now E D F G inv inv'
+    let ended = (rw c.in-WrapOld-end_unwrap_old.is at c.end_unwrap_old.ensures.ends_phase) c.args.request.now.pass_new c.args.copy.now E D F G inv inv'
     (rw (c.in-UnwrapOld.is, none) at state) in
     let same : c.copy_from_slice.new.self ≡ c.args.copy.now = c.copy_from_slice.ensures.after in
-    rw same ((rw same at c.after_old.ensures.goes) E D F G inv inv' turned.0)
+    rw same ((rw same at c.after_old.ensures.goes) E D F G inv inv' ended.0)
 
-pub returns-in-UnwrapNew-clause-turns : goal.returns-in-UnwrapNew-clause-turns
-returns-in-UnwrapNew-clause-turns c = λ E D F G inv inv' state.
+pub returns-in-UnwrapNew-clause-ends_phase : goal.returns-in-UnwrapNew-clause-ends_phase
+returns-in-UnwrapNew-clause-ends_phase c = λ E D F G inv inv' state.
     let legal = c.has_ended.ensures.0 c.if-not-has_ended.false in
     let none : c.args.steps.now ≡ 0 = rw c.in-UnwrapNew.is at legal.1 in
     let same : c.copy_from_slice-in-UnwrapNew.new.self ≡ c.args.copy.now = c.copy_from_slice-in-UnwrapNew.ensures.after in
-    rw same (c.turn_new-outcome.ensures.ends c.args.request.now.pass_new c.args.copy.now 0 c.args.block.now E D F G inv inv'
+    rw same (c.end_unwrap_new-outcome.ensures.ends c.args.request.now.pass_new c.args.copy.now 0 c.args.block.now E D F G inv inv'
     (rw (c.in-UnwrapNew.is, none) at state))
 
-pub returns-in-WrapOld-clause-turns : goal.returns-in-WrapOld-clause-turns
-returns-in-WrapOld-clause-turns c = λ E D F G inv inv' state.
+pub returns-in-WrapOld-clause-ends_phase : goal.returns-in-WrapOld-clause-ends_phase
+returns-in-WrapOld-clause-ends_phase c = λ E D F G inv inv' state.
     let now : List ℕ = c.args.text.now in
     let legal = c.has_ended.ensures.0 c.if-not-has_ended.false in
     let h = rw c.in-WrapOld.is at state in
@@ -30,8 +30,8 @@ returns-in-WrapOld-clause-turns c = λ E D F G inv inv' state.
     let whole : c.put_first.new.text ≡ c.args.copy.now = c.put_first.ensures ∙ led h.1 (calls_over c.args.steps.now now legal.0.1 all) in
     rw whole ((rw whole at c.after_old-in-WrapOld.ensures.goes) E D F G inv inv' h.0)
 
-pub returns-in-WrapNew-clause-turns : goal.returns-in-WrapNew-clause-turns
-returns-in-WrapNew-clause-turns c = λ E D F G inv inv' state.
+pub returns-in-WrapNew-clause-ends_phase : goal.returns-in-WrapNew-clause-ends_phase
+returns-in-WrapNew-clause-ends_phase c = λ E D F G inv inv' state.
     let now : List ℕ = c.args.text.now in
     let legal = c.has_ended.ensures.0 c.if-not-has_ended.false in
     let h = rw c.in-WrapNew.is at state in

@@ -9,12 +9,12 @@ use Rattle.keywrap_calls.proofs.rewrap_steps.next_rewrap_from.Goals as goal
 pub returns-in-Ok : goal.returns-in-Ok
 returns-in-Ok c =
     let named = c.in-Some.ensures.some in
-    let told = rw (named.1, named.2) at c.in-Ok.ensures.turns in
-    let fits : SFits w32 c.tell.result = search rules in
+    let told = rw (named.1, named.2) at c.in-Ok.ensures.ends_phase in
+    let fits : SFits w32 c.report_next.result = search rules in
     record {
-      turns = λ phase ended size.
+      ends_phase = λ phase ended size.
           let same : c.in-Some-run.run' ≡ phase = cc in
-          (c.in-Ok.next, rw (passed_on fits refl) c.tell.ensures, rw same at c.in-Ok.ensures.advances, rw same at told);
+          (c.in-Ok.next, rw (passed_on fits refl) c.report_next.ensures, rw same at c.in-Ok.ensures.advances, rw same at told);
       refused = λ none.
           let bad = c.next_rewrap_from.ensures.refused.bad_length.1
           (λ legal. none c.in-Some-run.run' ((named.0, sym c.phase_of-run.ensures ∙ c.in-Some-run.is, legal.0, legal.1), legal.2)) in

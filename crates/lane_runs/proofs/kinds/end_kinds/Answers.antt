@@ -1,7 +1,7 @@
 -- One lane after the other.
 use Rattle.std.proofs.Common.{rules, ◌≡◌, ◌≢◌, ◌+◌, ◌*◌, ◌/◌, ◌-◌, ◌≤◌, ◌<◌, ℕ, List, length, arith, ◌∙◌, get_or-set_other, get_or-set_same}
 use Rattle.key_wrap_lanes.proofs.Parts.{text_writes}
-use Rattle.lane_runs.proofs.Turns.{lane_next, none_done}
+use Rattle.lane_runs.proofs.Batches.{lane_next, none_done}
 use Rattle.lane_runs.proofs.kinds.end_kinds.Goals as goal
 
 pub loop-lane-init : goal.loop-lane-init

@@ -2,7 +2,7 @@
 use Rattle.std.proofs.Common.{get_or}
 use Rattle.key_wrap_lanes.specs.Lanes.{block_at}
 use Rattle.lane_runs.specs.Kinds.{EndsKind}
-use Rattle.lane_runs.proofs.Turns.{PartsDone}
+use Rattle.lane_runs.proofs.Batches.{PartsDone}
 use Rattle.lane_runs.proofs.kinds.end_kinds.Given as goal
 
 abbrev pub invariant-loop-lane : goal.invariant-loop-lane

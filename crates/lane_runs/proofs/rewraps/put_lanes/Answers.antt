@@ -1,7 +1,7 @@
 -- One text after the other.
 use Rattle.std.proofs.Common.{◌≡◌, ◌+◌, ◌*◌, ◌/◌, ◌-◌, ◌<◌, ℕ, List, length, arith, refl, get_or, ◌∙◌}
 use Rattle.key_wrap_lanes.proofs.Parts.{text_writes}
-use Rattle.lane_runs.proofs.Turns.{lane_next}
+use Rattle.lane_runs.proofs.Batches.{lane_next}
 use Rattle.lane_runs.proofs.Fronts.{lane_left}
 use Rattle.lane_runs.specs.Rewraps.{PutsLane}
 use Rattle.lane_runs.proofs.rewraps.put_lanes.Goals as goal

@@ -1,7 +1,7 @@
 -- The texts before this one are put, and the others are as they were.
 use Rattle.std.proofs.Common.{get_or}
 use Rattle.lane_runs.specs.Rewraps.{PutsLane}
-use Rattle.lane_runs.proofs.Turns.{PartsDone}
+use Rattle.lane_runs.proofs.Batches.{PartsDone}
 use Rattle.lane_runs.proofs.rewraps.put_lanes.Given as goal
 
 abbrev pub invariant-loop-lane : goal.invariant-loop-lane

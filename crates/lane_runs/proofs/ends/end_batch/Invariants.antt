@@ -1,0 +1,10 @@
+-- The unwrappings before this one are ended, and the other texts are as they were.
+use Rattle.std.proofs.Common.{get_or}
+use Rattle.key_wrap_lanes.specs.Lanes.{block_at}
+use Rattle.lane_runs.specs.Texts.{EndsLane}
+use Rattle.lane_runs.proofs.Batches.{PartsDone}
+use Rattle.lane_runs.proofs.ends.end_batch.Given as goal
+
+abbrev pub invariant-loop-lane : goal.invariant-loop-lane
+invariant-loop-lane l = PartsDone (λ j old new. EndsLane l.form old (block_at j l.blocks) new (get_or l.key_lens j 0) (get_or l.statuses j 0))
+    l.text_len l.lane l.fn.texts l.texts
