@@ -1,6 +1,6 @@
 -- A rewrapping as a sequence of runs of the steps, for two permutations outside the program: which run is under way, and what it
 -- will leave. E is the old one and F the new one.
-use Rattle.std.specs.Prelude.{◌≡◌, ◌⊎◌, Bool, true, ℕ, ◌+◌, ◌-◌, ◌<◌, ⊤, List, ◌++◌, length, drop, Result}
+use Rattle.std.specs.Prelude.{◌≡◌, ◌⊎◌, Bool, true, ℕ, ◌+◌, ◌-◌, ◌<◌, ⊤, List, ◌++◌, length, take, drop, Result}
 use Rattle.key_wrap_core.specs.declared.rewrapping.RewrapForms.{RewrapForms}
 use Rattle.key_wrap_core.specs.declared.rewrapping.Rewrapped.{Rewrapped}
 use Rattle.key_wrap_core.specs.declared.faults.Refusal.{Refusal}
@@ -14,7 +14,7 @@ use Rattle.key_wrap_core.specs.Words.{word_bytes}
 use Rattle.key_wrap_core.specs.PaddedRegisters.{PaddedRegisters}
 use Rattle.key_wrap_core.specs.BlockCalls.{block_calls}
 use Rattle.key_wrap_core.specs.Steps.{WrapState, UnwrapState}
-use Rattle.key_wrap_core.specs.StepCalls.{IsWrapStep, IsUnwrapStep}
+use Rattle.key_wrap_core.specs.StepCalls.{IsWrapStep, IsUnwrapStep, UnwrapBegun}
 use Rattle.key_wrap_core.specs.Rewrap.{IsOldLength, HasFault, IsRewrapping, to_itself}
 
 -- A wrapping of which t steps are done will end in a text of which P holds.
@@ -51,6 +51,11 @@ phase_end (WrapNew outcome) len = block_calls len
 -- and at its start
 abbrev pub phase_start : RewrapPhase → ℕ → ℕ
 phase_start phase len = block_calls len - phase_end phase len
+
+-- The unwrapping of the text is begun: all its steps are left, and this is the first block.
+pub record BeginsText (text : List ℕ) (steps : ℕ) (block : List ℕ) : Type 0 where
+  pub begun : UnwrapBegun (take 8 text) steps (drop 8 text) block
+  pub all : steps ≡ block_calls (length text)
 
 -- what follows a run: another one, which is begun, or the end of the rewrapping
 abbrev pub RewrapGoes : Bool → RewrapForms → (E F : List ℕ → List ℕ) (text : List ℕ) → RewrapNext → (t : ℕ) (now block : List ℕ) → Type 0

@@ -10,11 +10,9 @@ ghost use Rattle.std.specs.Prelude.{◌≡◌, ◌↔◌, ℕ, ◌+◌, ◌++◌
 ghost use Rattle.std.specs.Prelude.{Err, IsErr, IsOkUnless, IsTrue, IfOk};
 ghost use Rattle.block_pair.specs.Pair.{AreInverse};
 ghost use Rattle.key_wrap_core.specs.Lengths.{IsPaddedTextLength};
-ghost use Rattle.key_wrap_core.specs.BlockCalls.{block_calls};
 ghost use Rattle.key_wrap_core.specs.BufferCalls.{RefusesLength};
-ghost use Rattle.key_wrap_core.specs.StepCalls.{UnwrapBegun};
 ghost use Rattle.key_wrap_core.specs.Rewrap.{HasFault, IsRewrapping};
-ghost use Rattle.key_wrap_steps.specs.RewrapPhases.{CanBegin, RewrapState, RewrapGoes, EndsPhase, EndsPhaseOf, GoesOn, phase_end, phase_start};
+ghost use Rattle.key_wrap_steps.specs.RewrapPhases.{BeginsText, CanBegin, RewrapState, RewrapGoes, EndsPhase, EndsPhaseOf, GoesOn, phase_end, phase_start};
 
 use byteorder::{BigEndian, ByteOrder};
 use key_wrap_core::{
@@ -193,8 +191,7 @@ fn end_of(phase: &RewrapPhase, len: usize) -> u64
 // The number of steps of an unwrapping, and its first block.
 fn begin_text(text: &[u8], steps: &mut u64, block: &mut [u8; 16])
     requires { IsPaddedTextLength (length text.now) }
-    ensures begun { UnwrapBegun (take 8 text.now) steps.new (drop 8 text.now) block.new }
-    ensures all { steps.new ≡ block_calls (length text.now) }
+    ensures { BeginsText text.now steps.new block.new }
 {
     *steps = step_count(text.len() - WORD);
     *block = last_block(BigEndian::read_u64(text), &text[WORD..]);
