@@ -1,5 +1,5 @@
 -- What the rewraps promise, from what is known of the outcome.
-use Rattle.std.proofs.Common.{◌≡◌, ℕ, ◌+◌, pos, List, refl, Result, Ok, Err, false, ◌<◌, arith}
+use Rattle.std.proofs.Common.{◌≡◌, ℕ, ◌+◌, pos, List, refl, Some, Result, Ok, Err, false, ◌<◌, arith}
 use Rattle.std.proofs.lemmas.Bool.Decides.{nat_tests}
 use lib.IntN.{ℤ}
 use Rattle.std.specs.Prelude.{IsErr}
@@ -58,3 +58,6 @@ byte_parts (Err KeyNotPlain) byte e = (8, refl, cc)
 
 pub ok_or_err : {A F P : Type 0} {v : A} {fault : F} → Ok v ≡ Err fault → P
 ok_or_err e = cc
+
+pub some_same : {A : Type 0} {v w : A} → Some v ≡ Some w → v ≡ w
+some_same e = cc

@@ -1,12 +1,14 @@
 //! Rewrapping run by run, for an AES outside the library.
 
-ghost use Rattle.std.specs.Prelude.{◌≡◌, Some, Option, pos, ℕ};
+ghost use Rattle.std.specs.Prelude.{◌≡◌, Some, Option, pos, ℕ, IfSome, IfNone};
+ghost use Rattle.key_wrap_steps.specs.declared.rewrap_steps.RewrapPhase.{RewrapPhase};
+ghost use Rattle.keywrap_calls.specs.Rewraps.{AreFlags, Requests};
 ghost use Rattle.keywrap_calls.specs.RewrapSteps.{BeginsRewrap, ContinuesRewrap, ContinuesRewrapFrom, ReportsNext, end_status, outcome_at, phase_at};
 
 use crate::rewrapping::request_of;
 use crate::status::{ALREADY_NEW, BAD_LENGTH, DONE, INTEGRITY, KEY_NOT_PLAIN};
 use key_wrap_core::{Refusal, Rewrapped};
-use key_wrap_steps::{RewrapNext, RewrapPhase};
+use key_wrap_steps::{RewrapNext, RewrapPhase, RewrapRequest};
 
 /// Begins to rewrap the wrapped key in `text`, as `rewrap` does: `*phase` is the operation of the first
 /// run, `*steps` its number of steps, and `block` the first block for the operation.
@@ -49,12 +51,9 @@ pub fn next_rewrap(
     ensures { ContinuesRewrap flags phase.old phase.new text.old text.new steps.old steps.new
         block.old block.new result }
 {
-    let run = phase_of(*phase);
+    let found = run_of(flags, *phase);
     *phase = 0;
-    let Some(request) = request_of(flags) else {
-        return BAD_LENGTH;
-    };
-    let Some(run) = run else {
+    let Some((request, run)) = found else {
         return BAD_LENGTH;
     };
     match key_wrap_steps::next_rewrap(&request, run, text, steps, block) {
@@ -78,12 +77,9 @@ pub fn next_rewrap_from(
     ensures { ContinuesRewrapFrom flags copy.now phase.old phase.new text.old text.new steps.old steps.new
         block.old block.new result }
 {
-    let run = phase_of(*phase);
+    let found = run_of(flags, *phase);
     *phase = 0;
-    let Some(request) = request_of(flags) else {
-        return BAD_LENGTH;
-    };
-    let Some(run) = run else {
+    let Some((request, run)) = found else {
         return BAD_LENGTH;
     };
     match key_wrap_steps::next_rewrap_from(&request, run, copy, text, steps, block) {
@@ -106,6 +102,17 @@ fn report_next(next: RewrapNext, phase: &mut u32) -> i32
             i32::from(outcome_byte(outcome))
         }
     }
+}
+
+// What the flags request, and the phase of the number.
+fn run_of(flags: u32, number: u32) -> Option<(RewrapRequest, RewrapPhase)>
+    ensures some { IfSome result (λ run. Requests flags run.0 × (phase_at number ≡ Some run.1)) }
+    ensures none { IfNone result ((phase : RewrapPhase)
+        → ¬ (AreFlags flags × (phase_at number ≡ Some phase))) }
+{
+    let request = request_of(flags)?;
+    let run = phase_of(number)?;
+    Some((request, run))
 }
 
 // The number of a phase.
