@@ -67,15 +67,22 @@ class Windows:
         waiting.wait()
 
 
+def may_write_a_file(arguments):
+    """Whether one of these is an option for the output: `--output`, `--output=FILE`, `-o` or `-oFILE`."""
+    return any(word.startswith(("-o", "--output")) for word in arguments)
+
+
 class OnWine(Program):
     """A program that wine starts. Of some hundreds of starts one ends with 1 before the program runs, or prints
     nothing. So a run that wine may have lost is started again. keywrap has no status 1.
+
+    A run that may have written a file is not started again: the file could be its own input.
     """
 
     def __call__(self, args=(), *more, **options):
         ended = super().__call__(args, *more, **options)
         is_silent = not ended.stdout and not ended.stderr
-        prints = not {"-o", "--output"} & {*words(args), *more}
+        prints = not may_write_a_file([*words(args), *more])
         if is_silent and (ended.status == 1 or prints):
             return super().__call__(args, *more, **options)
         return ended
