@@ -13,13 +13,14 @@ import pytest
 
 import test_rust
 from builds import ROOT, run
-from commands import INTO_FILES
+from checks import NO_OUTPUT, keeps
+from commands import INTO_FILES, WRAP
 from machines import EXPORTS, shown
 from program import Ended, Program, evidence, finish, refused, slow, wait_for
 from test_command import DRILL, DRILLED, FILES, rows, works
 from test_random_arguments import Lines, make_files, state
 from tools import need
-from vectors import KEK16, KEY16, WRAPPED16
+from vectors import KEK16, KEY16, NOT_FLUSHED, WRAPPED16
 from windows import COMPILER, SETTINGS, STRICT, OnWine, linked
 
 HERE = ROOT / "tests/command"
@@ -36,13 +37,18 @@ def program(windows, windows_objects, once):
 
 
 @pytest.fixture(scope="session")
-def host(windows, once):
-    """A function: what tests/command/windows.c prints for these words."""
+def driver(windows, once):
+    """tests/command/windows.c as a program."""
 
     def build(directory):
         link_driver(directory, ROOT / "dist/command/host_windows.c")
 
-    driver = once("host of windows", build) / "windows.exe"
+    return once("host of windows", build) / "windows.exe"
+
+
+@pytest.fixture(scope="session")
+def host(windows, driver):
+    """A function: what the driver prints for these words."""
     return lambda *words: windows.run(driver, *words).strip()
 
 
@@ -116,6 +122,16 @@ class TestUse:
         args = ["wrap", "--kek", kek]
         assert program(args, stdin=KEY16) == Ended(0, f"{WRAPPED16}\n")
 
+    def test_name_on_a_server(self, windows, program):
+        """Two backslashes, the server and its share. Wine has a directory for them."""
+        share = pathlib.Path(windows.env["WINEPREFIX"], "dosdevices/unc/server/share")
+        share.mkdir(parents=True, exist_ok=True)
+        shutil.copy("kek16.hex", share)
+        names = r"--kek \\server\share\kek16.hex -o \\server\share\out"
+        assert program(f"wrap {names}", stdin=KEY16) == Ended(0)
+        assert (share / "out").read_text() == f"{WRAPPED16}\n"
+        (share / "out").unlink()
+
     def test_lines_that_end_in_two_bytes(self, program):
         pathlib.Path("kek").write_bytes(f"{KEK16}\r\n".encode())
         keys = f"{KEY16}\r\n{KEY16}\r\n"
@@ -156,6 +172,51 @@ class TestUse:
         reason = "NUL: is a device, pipe or socket"
         assert ended == refused(6, "output: cannot be opened", reason)
 
+    @pytest.mark.parametrize(
+        "name",
+        [
+            "",
+            ".",
+            "directory",
+            "directory/",
+            "directory/inner/..",
+            "file/",
+            "file/file",
+            "missing/file",
+            "missing/",
+            "*",
+            "a?b",
+            "a\nb",
+            "0" * 256,
+        ],
+        ids=lambda name: repr(name)[:20],
+    )
+    def test_names_that_are_refused(self, program, name):
+        """Directories, names of files that are not there, and names that Windows has not. Nothing changes."""
+        os.mkdir("directory/inner")
+        pathlib.Path("file").write_text("old\n")
+        keeps(
+            program, ["wrap", "--kek", "kek16.hex", "-o", name], NO_OUTPUT, stdin=KEY16
+        )
+
+    def test_half_of_a_letter(self, program, host):
+        """An argument that is not UTF-16 is refused, as one that is not UTF-8 is on Linux. No other file is read."""
+        pathlib.Path("kek\ufffd").write_text(KEK16)
+        path = pathlib.Path(program.path).with_suffix(".exe")
+        assert host("half", path) == "2"
+
+    def test_prompt_on_a_console(self, program):
+        """It names the key that ends what is typed on Windows."""
+        need("import pexpect", "pseudo-terminals")
+        import pexpect
+
+        size = (24, 120)
+        child = pexpect.spawn(program.path, WRAP.split(), dimensions=size, timeout=300)
+        child.expect_exact(
+            "keywrap: reading the input from the terminal; Ctrl-Z ends it"
+        )
+        child.close(force=True)
+
     def test_temporary_name_of_another(self, program):
         """A new file never replaces one that has its temporary name."""
         pathlib.Path("out.part0").write_text("of another")
@@ -193,6 +254,13 @@ class TestAccess:
         assert program("unwrap --kek kek16.hex -o key", stdin=WRAPPED16) == Ended(0)
         assert not is_for_others("key")
 
+    def test_replaced_file_that_is_only_read(self, program):
+        """Its list and the one of a new file have the same length, and differ in a right."""
+        pathlib.Path("wrapped").write_text("old")
+        os.chmod("wrapped", 0o400)
+        assert program("wrap --kek kek16.hex -o wrapped", stdin=KEY16) == Ended(0)
+        assert os.stat("wrapped").st_mode & stat.S_IWUSR == 0
+
     def test_replaced_private_file(self, program):
         pathlib.Path("wrapped").write_text("old")
         os.chmod("wrapped", 0o600)
@@ -212,9 +280,49 @@ class TestAccess:
         assert pathlib.Path("moved.hex").exists()
         assert pathlib.Path("out").read_text() == f"{WRAPPED16}\n"
 
+    def test_file_that_another_program_holds(self, windows, driver, program):
+        """Wine renames as Windows does before Windows 10: the run is refused, and both files stay as they were."""
+        pathlib.Path("key").write_text(KEY16)
+        pathlib.Path("out").write_text("old\n")
+        command = ["wine", driver, "hold", "out"]
+        pipe = subprocess.PIPE
+        args = "wrap --verbose --kek kek16.hex -i key -o out"
+        reason = "out: Permission denied (os error 13)"
+        with subprocess.Popen(
+            command, env=windows.env, stdin=pipe, stdout=pipe
+        ) as holding:
+            assert holding.stdout.readline().startswith(b"held")
+            keeps(program, args, refused(6, NOT_FLUSHED, reason))
+            holding.stdin.close()
+        assert program(args) == Ended(0)
+        assert pathlib.Path("out").read_text() == f"{WRAPPED16}\n"
+
+    def test_flushed_before_it_is_renamed(self, windows, program):
+        """Wine shows the calls of the new file in their order."""
+        pathlib.Path("out").write_text("old\n")
+        path = pathlib.Path(program.path).with_suffix(".exe")
+        command = ["wine", path, *WRAP.split(), "-i", "key.hex", "-o", "out"]
+        env = {**windows.env, "WINEDEBUG": "+relay"}
+        ended = subprocess.run(command, env=env, stderr=subprocess.PIPE)
+        assert ended.returncode == 0
+        assert pathlib.Path("out").read_text() == f"{WRAPPED16}\n"
+        calls = ended.stderr.decode(errors="replace")
+        created = calls.index('out.part0",40060000')
+        named = r"Call KERNEL32\.(WriteFile|FlushFileBuffers|MoveFileExW)\("
+        steps = re.findall(named, calls[created:])
+        assert steps == ["WriteFile", "FlushFileBuffers", "MoveFileExW"]
+
 
 class TestHost:
     """The results of host_windows.c for the module."""
+
+    @pytest.mark.parametrize(
+        "mode, shown", [(0o600, "600"), (0o640, "600"), (0o644, "666"), (0o666, "666")]
+    )
+    def test_mode(self, host, mode, shown):
+        """A file is private if nobody but its user and the system may use it. Wine shows no group."""
+        os.chmod("key.hex", mode)
+        assert host("mode", "key.hex") == shown
 
     def test_size_has_64_bits(self, host):
         with open("large", "wb") as file:
@@ -500,6 +608,27 @@ def sizes_are_right(made):
     host_prints(str((5 << 30) + 3), "size", "large")(made)
 
 
+def modes_are_right(made):
+    TestHost().test_mode(made.host, 0o644, "666")
+
+
+def halves_of_letters_are_refused(made):
+    TestUse().test_half_of_a_letter(made.program, made.host)
+
+
+def servers_are_reached(made):
+    TestUse().test_name_on_a_server(made.windows, made.program)
+
+
+def files_are_flushed(made):
+    TestAccess().test_flushed_before_it_is_renamed(made.windows, made.program)
+
+
+def held_files_are_refused(made):
+    row = TestAccess().test_file_that_another_program_holds
+    row(made.windows, made.driver(), made.program)
+
+
 # The last text of a call that both conversions of a name have.
 NAME_IN_UTF8 = "MultiByteToWideChar(CP_UTF8, MB_ERR_INVALID_CHARS, text, -1, "
 ARGUMENT_IN_UTF8 = "WideCharToMultiByte(CP_UTF8, WC_ERR_INVALID_CHARS, wide, -1, "
@@ -660,6 +789,53 @@ BUGS = [
         found_by(TestUse().test_input_and_output_are_one_file),
     ),
     Planted(
+        "a file of everybody is private",
+        [
+            (
+                "if (!EqualSid(who, user()) && !EqualSid(who, system)) return 0;",
+                "if (!EqualSid(who, user()) && !EqualSid(who, system)\n"
+                "            && !IsWellKnownSid(who, WinWorldSid)) return 0;",
+            )
+        ],
+        modes_are_right,
+    ),
+    Planted(
+        "lists of one length are one",
+        [(" && !memcmp(one, other, one->AclSize);", ";")],
+        found_by(TestAccess().test_replaced_file_that_is_only_read),
+    ),
+    Planted(
+        "nothing is flushed",
+        [("return FlushFileBuffers(handle) ? 0 : fail();", "return 0;")],
+        files_are_flushed,
+    ),
+    Planted(
+        "half of a letter becomes another letter",
+        [
+            (
+                f"{ARGUMENT_IN_UTF8}{rest}",
+                f"{ARGUMENT_IN_UTF8}{rest}".replace("WC_ERR_INVALID_CHARS", "0"),
+            )
+            for rest in ("NULL", "text")
+        ],
+        halves_of_letters_are_refused,
+    ),
+    Planted(
+        "a server is a directory",
+        [(r'return L"\\\\?\\UNC";', r'return L"\\\\?\\";')],
+        servers_are_reached,
+    ),
+    Planted(
+        "a rename that fails is done",
+        [
+            (
+                "free(new_name);\n    return done ? 0 : (u32)-1;",
+                "free(new_name);\n    return 0;",
+            )
+        ],
+        held_files_are_refused,
+    ),
+    Planted(
         "a missing file is denied",
         [("{ERROR_FILE_NOT_FOUND, NO_FILE}", "{ERROR_FILE_NOT_FOUND, DENIED}")],
         names_are_right,
@@ -675,10 +851,14 @@ class Made(NamedTuple):
     program: Program
     directory: pathlib.Path
 
-    def host(self, *words):
+    def driver(self):
         """As the fixture of this name, over the host with the bug."""
         link_driver(self.directory, self.directory / "host_windows.c")
-        return self.windows.run(self.directory / "windows.exe", *words).strip()
+        return self.directory / "windows.exe"
+
+    def host(self, *words):
+        """As the fixture of this name, over the host with the bug."""
+        return self.windows.run(self.driver(), *words).strip()
 
 
 @evidence
