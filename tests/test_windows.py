@@ -456,27 +456,59 @@ def test_random_command_lines(program, in_c):
 FILES_LEFT_OUT = {
     "allocations": "a library that Linux loads before the program makes allocations fail",
     "filesystem": "mounts, limits, signals and calls of Linux; test_killed has the kills",
-    "lines_files": "limits of memory, and streams of Linux that fail",
-    "output": "closed streams, and pipes without a reader",
-    "output_file": "owners, modes and links of Linux; TestUse and TestAccess have those of Windows",
+    "output": "another HOME and TMPDIR, in which wine starts again and leaves files",
     "page": "modes of files, and limits of Linux",
-    "published": "thousands of starts",
-    "random_arguments": "modes of files; test_random_command_lines has such command lines",
+    "random_arguments": "modes of files, and longer arguments than Windows takes; test_random_command_lines has others",
     "reading": "named pipes, sockets and /dev/fd, at which wine hangs",
-    "terminal": "terminals of Linux",
+    "terminal": "a console of Wine gets control characters between the words; TestUse has a prompt",
 }
 TABLE = "reasons.py::TestReasons::test_refusals_of_the_table[rewrap --kek kek16.hex --new-kek kek32.hex -i wrapped.hex"
+LOADED = "a library that Linux loads makes calls of C fail, and the program makes calls of Windows"
+NO_NAME = "Windows has no such name, which TestUse has"
+ANOTHER_USER = "Wine runs only for the user who made its directory"
 # The rows of the other files that are left out, by how their names begin, and why.
 LEFT_OUT = [
     (
         "arguments.py::TestRefusals::test_refused[args38",
-        "Wine converts an argument that is not UTF-8",
+        "Wine converts an argument that is not UTF-8; TestUse has one that is not UTF-16",
     ),
     ("arguments.py::TestHelp::test_examples_of_the_page", "modes of files"),
     (
         "lines.py::TestLines::test_no_line",
         "a closed standard input, of which Windows says an error",
     ),
+    (
+        "lines_files.py::TestFaults::test_read_error",
+        "Wine waits for more bytes of a pipe at which a read of Linux fails",
+    ),
+    (
+        "lines_files.py::TestFaults::test_memory_does_not_grow",
+        "Wine itself takes more memory than lines that are kept, which this row would not see",
+    ),
+    ("lines_files.py::TestFaults::test_growing_memory", LOADED),
+    ("lines_files.py::TestFaults::test_each_call_that_fails", LOADED),
+    (r"output_file.py::TestContent::test_names['a\\n", NO_NAME),
+    ("output_file.py::TestContent::test_names['*'", NO_NAME),
+    (
+        "output_file.py::TestContent::test_names_that_are_refused[wrap --kek kek16.hex -i",
+        "Wine shows symbolic links as what they lead to; TestUse has the other names",
+    ),
+    (
+        "output_file.py::TestContent::test_kek_file_that_only_standard_input_still_reads",
+        ANOTHER_USER,
+    ),
+    ("output_file.py::test_directory_that_cannot_be_written", ANOTHER_USER),
+    ("output_file.py::TestOwner", "owners of files"),
+    ("output_file.py::test_owner_and_mode", "owners and modes of files"),
+    (
+        "output_file.py::test_directory_whose_files_others_may_read",
+        "modes of files",
+    ),
+    (
+        "output_file.py::test_steps_of_the_picture",
+        "calls of Linux; TestAccess has the calls of Windows",
+    ),
+    ("published.py::TestProgram::test_nist", "thousands of starts"),
     (
         f"{TABLE} -o-6-output: cannot be opened-link",
         "Wine shows a symbolic link as what it leads to",
