@@ -401,6 +401,49 @@ def test_makefile(copied):
     assert sorted(directory_files(copied)) == before
 
 
+def test_makefile_for_macos(copied):
+    """A compiler that names Darwin gets its options and names, not those of Linux. Nothing is compiled."""
+    pathlib.Path("compiler").write_text(
+        '#!/bin/sh\n[ "$1" != -dumpmachine ] || echo arm64-apple-darwin22.6.0\n'
+    )
+    os.chmod("compiler", 0o755)
+    words = "shared", "install", f"CC={os.getcwd()}/compiler", "prefix=/opt"
+    shown = run("make", "-n", "-C", copied, *words)
+    (line,) = re.findall(r"^.*compiler .*-o libkeywrap\.1\.dylib .*$", shown, re.M)
+    assert "-dynamiclib -install_name '/opt/lib/libkeywrap.1.dylib'" in line
+    assert "-Wl" not in line
+    assert "ln -sf libkeywrap.1.dylib '/opt/lib/libkeywrap.dylib'" in shown
+
+
+# What keywrap.c uses of the system's headers, which are not here for macOS.
+HEADERS_OF_APPLE = {
+    "string.h": """#include <stddef.h>
+void *memcpy(void *, const void *, size_t);
+void *memmove(void *, const void *, size_t);
+void *memset(void *, int, size_t);
+int memcmp(const void *, const void *, size_t);
+""",
+    "stdlib.h": "void abort(void);\n",
+}
+
+
+@slow
+@pytest.mark.needs("clang")
+@pytest.mark.parametrize(
+    "machine, instruction", [("arm64", "aese"), ("x86_64", "aesenc")]
+)
+def test_aes_instructions_of_apple(portable, machine, instruction):
+    """Both processors of Apple get AES instructions: `__linux__` is not asked for there."""
+    os.mkdir("headers")
+    for name, text in HEADERS_OF_APPLE.items():
+        pathlib.Path("headers", name).write_text(text)
+    target = f"--target={machine}-apple-macos11"
+    options = ["-std=c99", "-O1", "-ffreestanding", "-nostdlibinc", "-Iheaders", "-S"]
+    run("clang", target, *options, f"{portable}/keywrap.c", "-o", "keywrap.s")
+    code = pathlib.Path("keywrap.s").read_text()
+    assert len(re.findall(rf"^\s+{instruction}\b", code, re.M)) >= 4
+
+
 @slow
 def test_makefile_for_another_machine(copied):
     """The line of README, after a build for this one."""
