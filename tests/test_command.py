@@ -187,16 +187,16 @@ SCRIPT = "generate/command.py"
 RUNTIME = "dist/command/module.h"
 TRANSLATION = [
     (SCRIPT, '"sub": "-"', '"sub": "+"'),
-    (SCRIPT, 'if operation == "shr_s":', 'if operation == "shr":'),
-    (SCRIPT, "(u32)(({signed})({one}) {", "(u32)(({one}) {"),
+    (SCRIPT, "(({signed})({{}}) >>", "(({{}}) >>"),
+    (SCRIPT, "(u32)(({signed})({{}}) {", "(u32)(({{}}) {"),
     (
         SCRIPT,
         '"i64.extend_i32_s": ("i64", "(u64)(s64)(s32)',
         '"i64.extend_i32_s": ("i64", "(u64)',
     ),
     (SCRIPT, "(u32)(s32)(s8)({})", "(u32)(u8)({})"),
-    (SCRIPT, "int(kind[1:]) - 1}", "int(kind[1:]) - 2}"),
-    (SCRIPT, "numbers.get('offset', 0)", "0"),
+    (SCRIPT, "int(kind[1:]) - 1", "int(kind[1:]) - 2"),
+    (SCRIPT, 'numbers.get("offset", 0)', "0"),
     (RUNTIME, "LOAD(i32_load16_u, u16, u32)", "LOAD(i32_load16_u, u8, u32)"),
     (RUNTIME, "LOAD(i64_load32_u, u32, u64)", "LOAD(i64_load32_u, s32, u64)"),
     (RUNTIME, "STORE(i64_store32, u32, u64)", "STORE(i64_store32, u64, u64)"),

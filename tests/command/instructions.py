@@ -53,18 +53,6 @@ EDGES = {
     ],
     "f64": ["0", "1", "-1", "0.5", "3", "12345678.25", "-inf", "inf"],
 }
-WHOLE = "i32", "i64"
-SIGNED = set()
-for kind in WHOLE:
-    for name in "lt", "gt", "le", "ge":
-        SIGNED |= {f"{kind}.{name}_s", f"{kind}.{name}_u"}
-OF_WHOLE = "add sub mul and or xor shl shr_u shr_s rotl rotr eq ne".split()
-OF_FLOATS = "add sub mul div eq ne lt gt le ge".split()
-BINARY = [f"{kind}.{name}" for kind in WHOLE for name in OF_WHOLE]
-BINARY += sorted(SIGNED)
-BINARY += command.FUNCTIONS
-BINARY += [f"f64.{name}" for name in OF_FLOATS]
-
 WIDTHS = {
     "i32": {"": 4, "8_u": 1, "8_s": 1, "16_u": 2, "16_s": 2, "8": 1, "16": 2},
     "f64": {"": 8},
@@ -90,10 +78,7 @@ OPERANDS_OF_CONVERSIONS = {
 def types_of(name):
     """The types of the operand and the result of an instruction."""
     kind, _, operation = name.partition(".")
-    if name not in command.UNARY:
-        compares = operation.partition("_")[0] in command.COMPARISONS
-        return kind, "i32" if compares else kind
-    result = command.UNARY[name][0]
+    result, _ = command.INSTRUCTIONS[name]
     for conversion, operand in OPERANDS_OF_CONVERSIONS.items():
         if operation.startswith(conversion):
             return operand, result
@@ -129,7 +114,7 @@ def loads_and_stores(kind):
 
 def cases():
     """The result of each function, and its text."""
-    for name in [*command.UNARY, *BINARY]:
+    for name in command.INSTRUCTIONS:
         _, result = types_of(name)
         for operands in operands_of(name):
             yield result, f"({name} {operands})"
