@@ -5,6 +5,7 @@ gaps. The calls for many keys rewrap a batch in its place. Each new text is read
 under the new KEK.
 """
 
+import argparse
 import base64
 import binascii
 import contextlib
@@ -497,6 +498,11 @@ def rewrapped_rows(
     if found.digest is not None:
         found.digest = _digest_of(values, found.digest)
     return writes
+
+
+def digest_of_none(options: argparse.Namespace) -> Optional[str]:
+    """Returns the digest of no values, to which those of rows are added, or None if the run compares none."""
+    return "0" if options.report or options.verify_record else None
 
 
 def _digest_of(values: Sequence[Any], before: str) -> str:

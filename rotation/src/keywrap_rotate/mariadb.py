@@ -20,7 +20,7 @@ from typing import Any, Dict, Iterator, List, NamedTuple, Optional, Sequence, Se
 from . import signs
 from .found import Failure, Found, PassEnds, Refused, Unanswered
 from .keks import Rings
-from .keys import LONGEST, ROWS, Notation, rewrapped_rows, next_batch
+from .keys import LONGEST, ROWS, Notation, digest_of_none, next_batch, rewrapped_rows
 from .limits import limited
 from .listing import Listing, Names, ListedUnit, Unit
 from .server_table import NotKept, ServerTable
@@ -650,11 +650,7 @@ class _Listing(Listing):
             warnings.append(
                 "whether transactions are older than this run is not seen without the right PROCESS"
             )
-        if self.store.older:
-            warnings.append(
-                f"{len(self.store.older)} transactions are older than this run and still open: they may write old keys. "
-                "Wait for their end, then --verify"
-            )
+        warnings += self.store.warnings_of_open_transactions()
         if self.table.has_history:
             warnings.append(
                 f"{self.store.table} is system-versioned: its history keeps old keys"
@@ -670,14 +666,13 @@ def open_store(
     options: argparse.Namespace, notation: Notation, names: Names
 ) -> Mariadb:
     """Makes the store of a table of MariaDB or MySQL."""
-    digest = "0" if options.report or options.verify_record else None
     return Mariadb(
         options.mariadb,
         options.column,
         notation,
         options.kek_name,
         _option_file(options.defaults_file),
-        digest,
+        digest_of_none(options),
         options.timeout,
     )
 

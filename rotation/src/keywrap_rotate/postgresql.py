@@ -19,7 +19,7 @@ from typing import Any, Iterator, List, NamedTuple, Optional, Set, Tuple
 from . import signs
 from .found import Found, PassEnds, Refused, Unanswered
 from .keks import Rings
-from .keys import KEY, ROWS, Notation, quoted, rewrapped_rows
+from .keys import KEY, ROWS, Notation, digest_of_none, quoted, rewrapped_rows
 from .limits import limited
 from .listing import Listing, Names, ListedUnit, Unit
 from .server_table import NotKept, ServerTable
@@ -421,12 +421,7 @@ class _Listing(Listing):
             self.connection.close()
 
     def warnings(self) -> List[str]:
-        if not self.store.older:
-            return []
-        return [
-            f"{len(self.store.older)} transactions are older than this run and still open: they may write old keys. "
-            "Wait for their end, then --verify"
-        ]
+        return self.store.warnings_of_open_transactions()
 
     def is_quiet(self, found: Found) -> bool:
         """The ranges must have all rows of the snapshot."""
@@ -443,12 +438,11 @@ def open_store(
     options: argparse.Namespace, notation: Notation, names: Names
 ) -> Postgresql:
     """Makes the store of a table of PostgreSQL."""
-    digest = "0" if options.report or options.verify_record else None
     return Postgresql(
         options.postgresql,
         options.column,
         notation,
         options.kek_name,
-        digest,
+        digest_of_none(options),
         options.timeout,
     )

@@ -1,6 +1,6 @@
-"""The column of a table that a server has: what the stores of PostgreSQL and MariaDB have in common."""
+"""The column of a table that a server has: the common part of the stores of PostgreSQL and MariaDB."""
 
-from typing import Optional, Set
+from typing import List, Optional, Set
 
 from .keys import Notation
 
@@ -34,3 +34,12 @@ class ServerTable:
             self.older = names
         else:
             self.older &= names
+
+    def warnings_of_open_transactions(self) -> List[str]:
+        """Returns a warning if transactions that were open before the run still are."""
+        if not self.older:
+            return []
+        return [
+            f"{len(self.older)} transactions are older than this run and still open: they may write old keys. "
+            "Wait for their end, then --verify"
+        ]

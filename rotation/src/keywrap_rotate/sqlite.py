@@ -13,7 +13,15 @@ from typing import Any, ContextManager, List, Optional, Sequence, Tuple
 from . import signs
 from .found import Found, Gone, Refused, Unanswered
 from .keks import Rings
-from .keys import KEY, Notation, Row, quoted, rewrapped_rows, next_batch
+from .keys import (
+    KEY,
+    Notation,
+    Row,
+    digest_of_none,
+    next_batch,
+    quoted,
+    rewrapped_rows,
+)
 from .listing import FileListing, Listing, Names, Sightings, Unit
 from .replacing import at_once
 
@@ -329,7 +337,7 @@ class Sqlite:
 
 def open_store(options: argparse.Namespace, notation: Notation, names: Names) -> Sqlite:
     """Makes the store of SQLite databases."""
-    digest = "0" if options.report or options.verify_record else None
+    digest = digest_of_none(options)
     return Sqlite(
         options.table, options.column, notation, names, options.kek_name, digest
     )
