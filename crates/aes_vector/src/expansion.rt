@@ -5,7 +5,7 @@ ghost use Rattle.fips197.specs.SBox.{s_box};
 
 use crate::lanes::linear;
 use crate::tables::*;
-use crate::tower::{inverted, looked_up};
+use crate::tower::{inverted, lookup_xor};
 use fips197::SubWord;
 use std::simd::prelude::*;
 
@@ -28,5 +28,5 @@ fn substituted(bytes: u8x16) -> u8x16
     let by_low = u8x16::from_array(TOWER_LOW);
     let by_high = u8x16::from_array(TOWER_HIGH);
     let at = inverted(linear(by_low, by_high, bytes));
-    looked_up(u8x16::from_array(S_I), u8x16::from_array(S_J), at) ^ u8x16::splat(0x63)
+    lookup_xor(u8x16::from_array(S_I), u8x16::from_array(S_J), at) ^ u8x16::splat(0x63)
 }

@@ -9,7 +9,7 @@ use std::simd::prelude::*;
 
 // The table's entry at each place, and 0 at infinity.
 #[inline(always)]
-pub(crate) fn look(table: u8x16, at: u8x16) -> u8x16
+pub(crate) fn lookup(table: u8x16, at: u8x16) -> u8x16
     requires { Each1 IsPlace at }
     ensures { result ≡ map (slice_index table) at }
 {
@@ -35,7 +35,7 @@ pub(crate) fn high(v: u8x16) -> u8x16
 pub(crate) fn linear(by_low: u8x16, by_high: u8x16, v: u8x16) -> u8x16
     ensures { result ≡ map (linear by_low by_high) v }
 {
-    look(by_low, low(v)) ^ look(by_high, high(v))
+    lookup(by_low, low(v)) ^ lookup(by_high, high(v))
 }
 
 // The lanes of a block, lent as a slice: of an array by value a proof doesn't know that all of its

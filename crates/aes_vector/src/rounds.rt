@@ -13,7 +13,7 @@ use crate::rows::{
     InvRows, inv_rows_0, inv_rows_1, inv_rows_2, inv_rows_3, rows_0, rows_1, rows_2, rows_3,
 };
 use crate::tables::*;
-use crate::tower::{inverted, looked_up};
+use crate::tower::{inverted, lookup_xor};
 use std::simd::prelude::*;
 
 // The block with round key 0.
@@ -30,8 +30,8 @@ pub(crate) fn round(key: u8x16, state: u8x16) -> u8x16
     ensures { map element result ≡ round (map key_byte key) (map element state) }
 {
     let at = inverted(state);
-    let one = looked_up(u8x16::from_array(ONE_I), u8x16::from_array(ONE_J), at);
-    let two = looked_up(u8x16::from_array(TWO_I), u8x16::from_array(TWO_J), at);
+    let one = lookup_xor(u8x16::from_array(ONE_I), u8x16::from_array(ONE_J), at);
+    let two = lookup_xor(u8x16::from_array(TWO_I), u8x16::from_array(TWO_J), at);
     let three = one ^ two;
     ((rows_0(two) ^ key) ^ rows_1(three)) ^ (rows_2(one) ^ rows_3(one))
 }
@@ -42,7 +42,7 @@ pub(crate) fn last_round(key: u8x16, state: u8x16) -> u8x16
     ensures { result ≡ last_round (map last_key_byte key) (map element state) }
 {
     let at = inverted(state);
-    rows_0(looked_up(u8x16::from_array(S_I), u8x16::from_array(S_J), at)) ^ key
+    rows_0(lookup_xor(u8x16::from_array(S_I), u8x16::from_array(S_J), at)) ^ key
 }
 
 // The block with the last round key.
@@ -67,18 +67,18 @@ pub(crate) fn inv_round(rows: InvRows, key: u8x16, state: u8x16) -> u8x16
         ≡ add_round_key (map affine_element key) (inv_mix_columns substituted) }
 {
     let at = inverted(state);
-    let fourteen = looked_up(
+    let fourteen = lookup_xor(
         u8x16::from_array(FOURTEEN_I),
         u8x16::from_array(FOURTEEN_J),
         at,
     );
-    let eleven = looked_up(u8x16::from_array(ELEVEN_I), u8x16::from_array(ELEVEN_J), at);
-    let thirteen = looked_up(
+    let eleven = lookup_xor(u8x16::from_array(ELEVEN_I), u8x16::from_array(ELEVEN_J), at);
+    let thirteen = lookup_xor(
         u8x16::from_array(THIRTEEN_I),
         u8x16::from_array(THIRTEEN_J),
         at,
     );
-    let nine = looked_up(u8x16::from_array(NINE_I), u8x16::from_array(NINE_J), at);
+    let nine = lookup_xor(u8x16::from_array(NINE_I), u8x16::from_array(NINE_J), at);
     ((inv_rows_0(fourteen, rows.by_0) ^ key) ^ inv_rows_1(eleven, rows.by_1))
         ^ (inv_rows_2(thirteen, rows.by_2) ^ inv_rows_3(nine, rows.by_3))
 }
@@ -91,6 +91,6 @@ pub(crate) fn inv_last_round(rows: InvRows, key: u8x16, state: u8x16) -> u8x16
         ≡ add_round_key key (inv_sub_bytes (inv_shift_rows (map affine_element state))) }
 {
     let at = inverted(state);
-    let found = looked_up(u8x16::from_array(INV_S_I), u8x16::from_array(INV_S_J), at);
+    let found = lookup_xor(u8x16::from_array(INV_S_I), u8x16::from_array(INV_S_J), at);
     inv_rows_0(found, rows.by_0) ^ key
 }

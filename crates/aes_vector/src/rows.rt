@@ -5,7 +5,7 @@ ghost use Rattle.std.specs.Prelude.{◌≡◌};
 ghost use Rattle.fips197.specs.Rounds.{inv_shift_rows, shift_rows};
 ghost use Rattle.aes_vector.specs.Turned.{turned};
 
-use crate::lanes::look;
+use crate::lanes::lookup;
 use crate::tables::{INV_ROWS_0, INV_ROWS_1, INV_ROWS_2, INV_ROWS_3};
 use std::simd::prelude::*;
 
@@ -52,7 +52,7 @@ pub(crate) fn inv_rows_0(v: u8x16, places: u8x16) -> u8x16
     requires { places ≡ INV_ROWS_0 }
     ensures { result ≡ inv_shift_rows v }
 {
-    look(v, places)
+    lookup(v, places)
 }
 
 #[inline(always)]
@@ -60,7 +60,7 @@ pub(crate) fn inv_rows_1(v: u8x16, places: u8x16) -> u8x16
     requires { places ≡ INV_ROWS_1 }
     ensures { result ≡ turned 1 (inv_shift_rows v) }
 {
-    look(v, places)
+    lookup(v, places)
 }
 
 #[inline(always)]
@@ -68,7 +68,7 @@ pub(crate) fn inv_rows_2(v: u8x16, places: u8x16) -> u8x16
     requires { places ≡ INV_ROWS_2 }
     ensures { result ≡ turned 2 (inv_shift_rows v) }
 {
-    look(v, places)
+    lookup(v, places)
 }
 
 #[inline(always)]
@@ -76,7 +76,7 @@ pub(crate) fn inv_rows_3(v: u8x16, places: u8x16) -> u8x16
     requires { places ≡ INV_ROWS_3 }
     ensures { result ≡ turned 3 (inv_shift_rows v) }
 {
-    look(v, places)
+    lookup(v, places)
 }
 
 #[inline(always)]

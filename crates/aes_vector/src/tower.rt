@@ -4,7 +4,7 @@ ghost use Rattle.std.specs.Prelude.{◌≡◌, map, slice_index, bit_xor};
 ghost use Rattle.std.specs.Simd.Lanes.{Each1, zip2};
 ghost use Rattle.aes_vector.specs.Tables.{IsPlace, place_i, place_j};
 
-use crate::lanes::{high, look, low};
+use crate::lanes::{high, lookup, low};
 use crate::tables::{INV, INVA};
 use std::simd::prelude::*;
 
@@ -27,21 +27,21 @@ pub(crate) fn inverted(y: u8x16) -> Inverse
     let k = low(y);
     let i = high(y);
     let j = i ^ k;
-    let scaled = look(inva, k);
-    let over_i = look(inv, i) ^ scaled;
-    let over_j = look(inv, j) ^ scaled;
+    let scaled = lookup(inva, k);
+    let over_i = lookup(inv, i) ^ scaled;
+    let over_j = lookup(inv, j) ^ scaled;
     Inverse {
-        i: look(inv, over_i) ^ j,
-        j: look(inv, over_j) ^ i,
+        i: lookup(inv, over_i) ^ j,
+        j: lookup(inv, over_j) ^ i,
     }
 }
 
-// What two output tables give for the inverses.
+// The look-ups in two output tables at the inverses, xored.
 #[inline(always)]
-pub(crate) fn looked_up(by_i: u8x16, by_j: u8x16, at: Inverse) -> u8x16
+pub(crate) fn lookup_xor(by_i: u8x16, by_j: u8x16, at: Inverse) -> u8x16
     requires i { Each1 IsPlace at.i }
     requires j { Each1 IsPlace at.j }
     ensures { result ≡ zip2 bit_xor (map (slice_index by_i) at.i) (map (slice_index by_j) at.j) }
 {
-    look(by_i, at.i) ^ look(by_j, at.j)
+    lookup(by_i, at.i) ^ lookup(by_j, at.j)
 }

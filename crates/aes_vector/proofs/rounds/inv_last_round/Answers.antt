@@ -6,5 +6,5 @@ use Rattle.aes_vector.proofs.rounds.inv_last_round.Goals as goal
 pub returns : goal.returns
 returns c =
     let at = c.inverted-at.ensures in
-    inv_last_round_of c.args.key c.args.state c.looked_up-found.result c.fits-key c.fits-state
-    (finds INV_S_I INV_S_J c.args.state at.i at.j c.looked_up-found.ensures) c.inv_rows_0.ensures
+    inv_last_round_of c.args.key c.args.state c.lookup_xor-found.result c.fits-key c.fits-state
+    (finds INV_S_I INV_S_J c.args.state at.i at.j c.lookup_xor-found.ensures) c.inv_rows_0.ensures

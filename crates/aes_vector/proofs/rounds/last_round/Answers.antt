@@ -6,4 +6,4 @@ use Rattle.aes_vector.proofs.rounds.last_round.Goals as goal
 pub returns : goal.returns
 returns c =
     let at = c.inverted-at.ensures in
-    last_round_of c.args.key c.args.state c.looked_up.result c.fits-key c.fits-state (finds S_I S_J c.args.state at.i at.j c.looked_up.ensures) c.rows_0.ensures
+    last_round_of c.args.key c.args.state c.lookup_xor.result c.fits-key c.fits-state (finds S_I S_J c.args.state at.i at.j c.lookup_xor.ensures) c.rows_0.ensures

@@ -4,8 +4,8 @@ use Rattle.aes_vector.specs.Turned.{turned}
 use Rattle.aes_vector.proofs.rows.inv_rows_2.Goals as goal
 use Rattle.std.proofs.Common.{refl}
 
-pub look-requires : goal.look-requires
-look-requires c = rw c.requires (
+pub lookup-requires : goal.lookup-requires
+lookup-requires c = rw c.requires (
   refl,
   (
     refl,
@@ -15,4 +15,4 @@ look-requires c = rw c.requires (
 
 pub returns : goal.returns
 unfolding inv_shift_rows turned
-returns c = c.look.ensures ∙ ap (map (slice_index c.args.v)) c.requires
+returns c = c.lookup.ensures ∙ ap (map (slice_index c.args.v)) c.requires

@@ -7,30 +7,30 @@ use Rattle.aes_vector.proofs.Vectors.{each_place, looks}
 use Rattle.aes_vector.proofs.Computed.{low-places, high-places, other-places, over_i-places, over_j-places, place_i-places, place_j-places}
 use Rattle.aes_vector.proofs.tower.inverted.Goals as goal
 
-pub look-scaled-requires : goal.look-scaled-requires
-look-scaled-requires c = each_place low c.args.y _ low-places c.fits-y.1 c.low-k.ensures
+pub lookup-scaled-requires : goal.lookup-scaled-requires
+lookup-scaled-requires c = each_place low c.args.y _ low-places c.fits-y.1 c.low-k.ensures
 
-pub look-requires : goal.look-requires
-look-requires c = each_place high c.args.y _ high-places c.fits-y.1 c.high-i.ensures
+pub lookup-requires : goal.lookup-requires
+lookup-requires c = each_place high c.args.y _ high-places c.fits-y.1 c.high-i.ensures
 
-pub look-requires-2 : goal.look-requires-2
-look-requires-2 c = each_place other c.args.y _ other-places c.fits-y.1 (zip2_of_maps bit_xor high low c.args.y c.high-i.ensures c.low-k.ensures)
+pub lookup-requires-2 : goal.lookup-requires-2
+lookup-requires-2 c = each_place other c.args.y _ other-places c.fits-y.1 (zip2_of_maps bit_xor high low c.args.y c.high-i.ensures c.low-k.ensures)
 
-pub look-requires-3 : goal.look-requires-3
+pub lookup-requires-3 : goal.lookup-requires-3
 unfolding over_i
-look-requires-3 c =
+lookup-requires-3 c =
     each_place over_i c.args.y _ over_i-places c.fits-y.1
     (zip2_of_maps bit_xor (λ x. slice_index INV (high x)) (λ x. slice_index INVA (low x)) c.args.y
-    (looks INV high c.args.y c.look.ensures c.high-i.ensures) (looks INVA low c.args.y c.look-scaled.ensures c.low-k.ensures))
+    (looks INV high c.args.y c.lookup.ensures c.high-i.ensures) (looks INVA low c.args.y c.lookup-scaled.ensures c.low-k.ensures))
 
-pub look-requires-4 : goal.look-requires-4
+pub lookup-requires-4 : goal.lookup-requires-4
 unfolding over_j
-look-requires-4 c =
+lookup-requires-4 c =
     let y = c.args.y in
     let j = zip2_of_maps bit_xor high low y c.high-i.ensures c.low-k.ensures in
     each_place over_j y _ over_j-places c.fits-y.1
     (zip2_of_maps bit_xor (λ x. slice_index INV (other x)) (λ x. slice_index INVA (low x)) y
-    (looks INV other y c.look-2.ensures j) (looks INVA low y c.look-scaled.ensures c.low-k.ensures))
+    (looks INV other y c.lookup-2.ensures j) (looks INVA low y c.lookup-scaled.ensures c.low-k.ensures))
 
 pub returns-clause-i : goal.returns-clause-i
 unfolding over_i place_i
@@ -39,8 +39,8 @@ returns-clause-i c =
     let j = zip2_of_maps bit_xor high low y c.high-i.ensures c.low-k.ensures in
     let over =
     zip2_of_maps bit_xor (λ x. slice_index INV (high x)) (λ x. slice_index INVA (low x)) y
-    (looks INV high y c.look.ensures c.high-i.ensures) (looks INVA low y c.look-scaled.ensures c.low-k.ensures) in
-    zip2_of_maps bit_xor (λ x. slice_index INV (over_i x)) other y (looks INV over_i y c.look-3.ensures over) j
+    (looks INV high y c.lookup.ensures c.high-i.ensures) (looks INVA low y c.lookup-scaled.ensures c.low-k.ensures) in
+    zip2_of_maps bit_xor (λ x. slice_index INV (over_i x)) other y (looks INV over_i y c.lookup-3.ensures over) j
 
 pub returns-clause-j : goal.returns-clause-j
 unfolding over_j place_j
@@ -49,8 +49,8 @@ returns-clause-j c =
     let j = zip2_of_maps bit_xor high low y c.high-i.ensures c.low-k.ensures in
     let over =
     zip2_of_maps bit_xor (λ x. slice_index INV (other x)) (λ x. slice_index INVA (low x)) y
-    (looks INV other y c.look-2.ensures j) (looks INVA low y c.look-scaled.ensures c.low-k.ensures) in
-    zip2_of_maps bit_xor (λ x. slice_index INV (over_j x)) high y (looks INV over_j y c.look-4.ensures over) c.high-i.ensures
+    (looks INV other y c.lookup-2.ensures j) (looks INVA low y c.lookup-scaled.ensures c.low-k.ensures) in
+    zip2_of_maps bit_xor (λ x. slice_index INV (over_j x)) high y (looks INV over_j y c.lookup-4.ensures over) c.high-i.ensures
 
 pub returns-clause-places_i : goal.returns-clause-places_i
 returns-clause-places_i c = each_place place_i c.args.y _ place_i-places c.fits-y.1 (returns-clause-i c)
