@@ -35,6 +35,7 @@ HEADLINES = [
             "keywrap_cli/src/operation.rt": None,
             "keywrap_io/src/disk.rt": None,
             "keywrap/src/session.rt": None,
+            "keywrap/src/program.rt": None,
             "keywrap/src/cli.rt": ["command"],
         },
     ),

@@ -1,3 +1,4 @@
 -- Lemmas on how a run ends.
 mod Buffers
 mod Committed
+mod Ending
