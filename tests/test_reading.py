@@ -411,6 +411,14 @@ class TestFiles:
     def test_input_is_not_read_without_an_output(self, keywrap, args):
         leaves_input(keywrap, args, refused(6, NOT_OPENED))
 
+    @pytest.mark.parametrize(
+        "args", ["wrap --kek missing -i pipe", "rewrap --kek missing --new-kek pipe"]
+    )
+    def test_nothing_is_opened_after_a_missing_kek(self, keywrap, args):
+        """Nobody writes to the pipe, so a run that opened it would wait."""
+        os.mkfifo("pipe")
+        assert keywrap(args, prefix=["timeout", "60"]) == NO_KEK
+
     def test_both_keks_are_opened_before_either_is_read(self, keywrap):
         """The writer of the old KEK waits until the new KEK is read."""
         sh("mkfifo kek new")
