@@ -114,11 +114,12 @@ def test_what_must_be_believed_is_counted():
     files = [name for row in rows for name in re.findall("`([^`]*)`", row)]
     only_to_test = {"hints.py", "second.py", "test_checker.py"}
     assert {*files} | only_to_test == {path.name for path in CHECKER.glob("*.py")}
-    lines = [
-        line for name in files for line in (CHECKER / name).read_text().split("\n")
-    ]
-    said = int(re.search(r"about ([\d,]+) lines", believed)[1].replace(",", ""))
-    assert abs(sum(map(bool, map(str.strip, lines))) - said) <= 50
+    count = 0
+    for name in files:
+        lines = (CHECKER / name).read_text().splitlines()
+        count += len([line for line in lines if line.strip()])
+    stated = re.search(r"about ([\d,]+) lines", believed)[1].replace(",", "")
+    assert abs(count - int(stated)) <= 50
 
 
 @pytest.mark.parametrize("name", all_of(list(OBJECTS), [], in_gate=["keywrap.wasm"]))
@@ -129,10 +130,10 @@ def test_checker(made, name):
     )
 
 
-def branching(said):
+def branching(output):
     """The calls that branch on input bytes, by the lines of the output."""
     found = set()
-    for line in said.splitlines():
+    for line in output.splitlines():
         if line.startswith("[") and "branches: none" not in line:
             name = line.split()[1].removesuffix(":")
             for suffix in "_at_every_length", "_of_any_other_kek":
@@ -143,15 +144,13 @@ def branching(said):
 
 def test_short_list():
     """As dist/README has it."""
-    said = run("make", "-s", "-C", ROOT / "dist", "check-all-inputs")
-    passed, listed = re.search(r"^(\d+) of (\d+) calls pass", said, re.M).groups()
-    assert passed == listed and {name for name, *_ in bugs.lists.short_list()} == {
-        *bugs.calls.CALLS
-    }
-    assert branching(said) == BRANCHING - {
-        "begin_wrap_many",
-        "end_unwrap_many",
-    }  # which the module does not have
+    output = run("make", "-s", "-C", ROOT / "dist", "check-all-inputs")
+    passed, listed = re.search(r"^(\d+) of (\d+) calls pass", output, re.M).groups()
+    assert passed == listed
+    names = {name for name, *_ in bugs.lists.short_list()}
+    assert names == {*bugs.calls.CALLS}
+    # The module does not have these two.
+    assert branching(output) == BRANCHING - {"begin_wrap_many", "end_unwrap_many"}
 
 
 @pytest.mark.parametrize(
@@ -159,19 +158,17 @@ def test_short_list():
 )
 def test_short_list_of_each_object(made, name):
     """AES by instructions or shuffles looks up no table, and AES by instructions shuffles no secret."""
-    said = check(made(name))
-    assert branching(said) <= BRANCHING
-    tables = {
-        "keywrap.c by gcc": "none",
-        "libkeywrap": "none",
-        "libkeywrap_hw": "none",
-    }.get(name, ".*")
-    assert re.search(f"^look-ups in tables: {tables}$", said, re.M)
-    with_aes = [line for line in said.splitlines() if ", a processor that" not in line]
-    shuffling = set(
-        re.findall(r"^\[\S+ (\w+).* [1-9]\d* in registers", "\n".join(with_aes), re.M)
-    )
-    assert name != "libkeywrap_hw" or shuffling == set()
+    output = check(made(name))
+    assert branching(output) <= BRANCHING
+    has_no_tables = name in ("keywrap.c by gcc", "libkeywrap", "libkeywrap_hw")
+    tables = "none" if has_no_tables else ".*"
+    assert re.search(f"^look-ups in tables: {tables}$", output, re.M)
+    with_aes = [
+        line for line in output.splitlines() if ", a processor that" not in line
+    ]
+    shuffles = r"^\[\S+ (\w+).* [1-9]\d* in registers"
+    shuffling = re.findall(shuffles, "\n".join(with_aes), re.M)
+    assert name != "libkeywrap_hw" or shuffling == []
 
 
 @pytest.mark.parametrize("name", all_of(list(OBJECTS), ["keywrap.wasm"]))
@@ -359,9 +356,9 @@ def test_back_doors_in_machine_code_are_refused(made, name):
     missed = []
     for bug in planted.OBJECTS[name]:
         assert bug.call in IS_IN_THE_SHORT_LIST
-        said = checked.refusals(bug.call)
-        if not any(re.search(bug.said, text) for text in said):
-            missed.append((bug.name, said))
+        refusals = checked.refusals(bug.call)
+        if not any(re.search(bug.refusal, text) for text in refusals):
+            missed.append((bug.name, refusals))
     assert not missed
 
 
@@ -388,9 +385,9 @@ IN_C = [
 @slow
 @pytest.mark.needs("gcc")
 @pytest.mark.parametrize(
-    "call, said, export, begins, edit", IN_C, ids=["a variable", "flags of 64 bits"]
+    "call, message, export, begins, edit", IN_C, ids=["a variable", "flags of 64 bits"]
 )
-def test_bug_in_machine_code_is_refused(tmp_path, call, said, export, begins, edit):
+def test_bug_in_machine_code_is_refused(tmp_path, call, message, export, begins, edit):
     for name in "keywrap.c", "keywrap.h", "keywrap_steps.h":
         text = (ROOT / "dist" / name).read_text()
         if name == "keywrap.c":
@@ -408,14 +405,14 @@ def test_bug_in_machine_code_is_refused(tmp_path, call, said, export, begins, ed
         tmp_path / "bug.so",
     )
     ended = checker(tmp_path / "bug.so", *call.split())
-    assert ended.returncode == 1 and f"REFUSED: {said}" in ended.stdout, ended.stdout
+    assert ended.returncode == 1 and f"REFUSED: {message}" in ended.stdout, ended.stdout
 
 
 @pytest.fixture
 def addresses(made):
     """The addresses of the exports of keywrap.c by gcc."""
-    said = run("nm", "-D", "--defined-only", made("keywrap.c by gcc"))
-    return {name: int(at, 16) for at, _, name in map(str.split, said.splitlines())}
+    output = run("nm", "-D", "--defined-only", made("keywrap.c by gcc"))
+    return {name: int(at, 16) for at, _, name in map(str.split, output.splitlines())}
 
 
 @slow
@@ -437,7 +434,7 @@ def test_code_is_what_the_loader_takes(made, addresses, tmp_path):
     relocated = run("objdump", "-R", made("keywrap.c by gcc"))
     place = int(re.search(r"^(\w+) R_X86_64_RELATIVE", relocated, re.M)[1], 16)
     path = tmp_path / "object.so"
-    for changed, said in (
+    for changed, message in (
         (
             planted.with_other_code(content, at, b"\x31\xc0\xc3"),
             "the loader puts there",
@@ -449,7 +446,7 @@ def test_code_is_what_the_loader_takes(made, addresses, tmp_path):
     ):
         path.write_bytes(changed)
         ended = checker(path, "wrap", "16", "16")
-        assert ended.returncode == 2 and said in ended.stderr, ended
+        assert ended.returncode == 2 and message in ended.stderr, ended
 
 
 @slow
@@ -529,11 +526,11 @@ def test_look_ups_can_be_refused():
 
 def test_same_seed_same_places():
     """A run with the seed that another one printed has its lines, but for their seconds."""
-    said = check(MODULE, "unwrap", "16", "16")
-    seed = re.search("--seed=\\d+", said)[0]
+    output = check(MODULE, "unwrap", "16", "16")
+    seed = re.search("--seed=\\d+", output)[0]
     again = check(MODULE, "unwrap", "16", "16", seed)
     without_seconds = [
-        re.sub(r"[\d.]+ s( of|$)", "", text, flags=re.M) for text in (said, again)
+        re.sub(r"[\d.]+ s( of|$)", "", text, flags=re.M) for text in (output, again)
     ]
     assert without_seconds[0] == without_seconds[1]
 
@@ -576,11 +573,11 @@ def test_wrong_arguments(tmp_path, name):
     text = tmp_path / "text"
     text.write_text("no object")
     paths = {"OBJECT": MODULE, "TEXT": text, "MISSING": tmp_path / "missing"}
-    line, said = WRONG_ARGUMENTS[name]
+    line, message = WRONG_ARGUMENTS[name]
     ended = checker(*(paths.get(word, word) for word in line.split()))
     assert ended.returncode == 2
     assert ended.stdout == ""
-    assert said in ended.stderr
+    assert message in ended.stderr
     assert "Traceback" not in ended.stderr
 
 

@@ -42,7 +42,7 @@ class Bug:
     def __init__(self, row):
         self.name = row["name"]
         self.call = row["call"]
-        self.said = row.get("says", USUAL)
+        self.refusal = row.get("says", USUAL)
         self.export = row.get("export", self.call.split()[0])
         if self.export == "rewrap_same_kek":
             self.export = "rewrap"
