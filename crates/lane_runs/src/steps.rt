@@ -1,15 +1,15 @@
 //! All steps of many wrappings or unwrappings of one length, over their blocks side by side.
 
-ghost use Rattle.std.specs.Prelude.{◌≡◌, ℕ, ◌/◌, ◌<◌, List, length, take};
+ghost use Rattle.std.specs.Prelude.{ℕ, ◌/◌, ◌<◌, List, length};
 ghost use Rattle.key_wrap_core.specs.BlockCalls.{block_calls};
 ghost use Rattle.key_wrap_core.specs.Steps.{WrapState, UnwrapState};
-ghost use Rattle.key_wrap_lanes.specs.Lanes.{AreLanes, block_at, part_at, registers_at};
+ghost use Rattle.key_wrap_lanes.specs.Lanes.{AreLanes, block_at, registers_at};
 
 use block_lanes::BlockLanes;
 use key_wrap_core::{WORD, step_count};
 use key_wrap_lanes::{step_unwrap_many, step_wrap_many};
 
-// Makes all steps of wrappings that have begun. The first 8 bytes of each text stay as they are.
+// Makes all steps of wrappings that have begun.
 pub(crate) fn make_steps<B: BlockLanes>(
     pair: &B,
     texts: &mut [u8],
@@ -17,9 +17,7 @@ pub(crate) fn make_steps<B: BlockLanes>(
     blocks: &mut [u8],
 )
     requires { AreLanes text_len texts.old blocks.old }
-    ensures firsts { (i : ℕ) → i < length blocks.old / 16
-        → take 8 (part_at text_len i texts.new) ≡ take 8 (part_at text_len i texts.old) }
-    ensures steps { (i : ℕ) → i < length blocks.old / 16 → (iv : ℕ) (key : List ℕ)
+    ensures { (i : ℕ) → i < length blocks.old / 16 → (iv : ℕ) (key : List ℕ)
         → WrapState (B.encrypted pair.now) iv key 0
         (registers_at text_len i texts.old) (block_at i blocks.old)
         → WrapState (B.encrypted pair.now) iv key (block_calls text_len)
@@ -32,7 +30,7 @@ pub(crate) fn make_steps<B: BlockLanes>(
     }
 }
 
-// Undoes all steps of unwrappings that have begun. The first 8 bytes of each text stay as they are.
+// Undoes all steps of unwrappings that have begun.
 pub(crate) fn undo_steps<B: BlockLanes>(
     pair: &B,
     texts: &mut [u8],
@@ -40,9 +38,7 @@ pub(crate) fn undo_steps<B: BlockLanes>(
     blocks: &mut [u8],
 )
     requires { AreLanes text_len texts.old blocks.old }
-    ensures firsts { (i : ℕ) → i < length blocks.old / 16
-        → take 8 (part_at text_len i texts.new) ≡ take 8 (part_at text_len i texts.old) }
-    ensures steps { (i : ℕ) → i < length blocks.old / 16 → (text : List ℕ)
+    ensures { (i : ℕ) → i < length blocks.old / 16 → (text : List ℕ)
         → UnwrapState (B.encrypted pair.now) text (block_calls text_len)
         (registers_at text_len i texts.old) (block_at i blocks.old)
         → UnwrapState (B.encrypted pair.now) text 0

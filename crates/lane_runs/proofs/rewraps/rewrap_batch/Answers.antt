@@ -75,7 +75,7 @@ returns-clause-rewrapped g c = λ i below.
           let leads = fits.ends_phase pass_new text E D F G inv inv' (old_length, state) in
           let begun : WrapState F leads.iv leads.key 0 (registers_at n place (take (n * wrapped) lanes)) (block_at place (take (16 * wrapped) blocks)) =
           rw (part_front n place wrapped lanes in_front room, part_front 16 place wrapped blocks in_front room') leads.state in
-          let made = c.make_steps.ensures.steps place (rw front.1 in_front) leads.iv leads.key begun in
+          let made = c.make_steps.ensures place (rw front.1 in_front) leads.iv leads.key begun in
           let part : length (part_at n place stepped) ≡ n =
           part_length n (n * place) n stepped refl (part_room n place wrapped (length stepped) in_front size') in
           let calls : block_calls n ≡ block_calls (8 + length (drop 8 (part_at n place stepped))) =

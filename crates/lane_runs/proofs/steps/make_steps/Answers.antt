@@ -1,5 +1,5 @@
 -- A step of each lane, over the blocks that were encrypted side by side.
-use Rattle.std.proofs.Common.{rules, ◌≡◌, ℕ, ◌+◌, ◌-◌, ◌<◌, length, refl, ◌∙◌, arith}
+use Rattle.std.proofs.Common.{rules, ◌≡◌, ℕ, ◌+◌, ◌-◌, ◌<◌, length, refl, arith}
 use Rattle.key_wrap_core.specs.BlockCalls.{block_calls}
 use Rattle.key_wrap_core.specs.Steps.{WrapState}
 use Rattle.key_wrap_lanes.specs.Lanes.{AreLanes, registers_at, block_at}
@@ -7,7 +7,7 @@ use Rattle.lane_runs.proofs.Legal.{given}
 use Rattle.lane_runs.proofs.steps.make_steps.Goals as goal
 
 pub loop-step-init : goal.loop-step-init
-loop-step-init g c = record { count = refl; firsts = λ i below. refl; states = λ i below iv key begun. begun }
+loop-step-init g c = record { count = refl; states = λ i below iv key begun. begun }
 
 pub loop-step-preserved : goal.loop-step-preserved
 loop-step-preserved g c =
@@ -27,7 +27,6 @@ loop-step-preserved g c =
     let counts : c.step_wrap_many-stepped.new.done ≡ c.loop-step.done + 1 = given stepped.refused legal stepped.counts in
     let count : c.step_wrap_many-stepped.new.done ≡ c.loop-step._step + 1 = omega (arith, counts, so_far.count) in record {
       count = count;
-      firsts = λ i below. given stepped.refused legal stepped.firsts i (rw same below) ∙ so_far.firsts i below;
       states = λ i below iv key begun.
           let state : WrapState E iv key c.loop-step.done (registers_at n i c.loop-step.texts) (block_at i c.loop-step.blocks) =
           rw so_far.count (so_far.states i below iv key begun) in
@@ -36,11 +35,8 @@ loop-step-preserved g c =
           rw count at next;
     }
 
-pub returns-clause-firsts : goal.returns-clause-firsts
-returns-clause-firsts g c = c.loop-step.invariant.firsts
-
-pub returns-clause-steps : goal.returns-clause-steps
-returns-clause-steps g c = λ i below iv key begun.
+pub returns : goal.returns
+returns g c = λ i below iv key begun.
     let n : ℕ = c.args.text_len in
     let back : 8 + (n - 8) ≡ n = omega (arith, c.requires.0.1) in
     let all : c.step_count-step-end.result ≡ block_calls n = rw back at c.step_count-step-end.ensures in

@@ -16,7 +16,6 @@ loop-step-init g c =
     let all : c.step_count-left.result ≡ block_calls n = rw back at c.step_count-left.ensures in record {
       count = omega (arith, all);
       bytes = each_byte c.args.blocks.now (search rules);
-      firsts = λ i below. refl;
       states = λ i below text begun. rw all begun;
     }
 
@@ -38,7 +37,6 @@ loop-step-preserved g c =
     let counts : c.loop-step.left ≡ c.step_unwrap_many-stepped.new.left + 1 = given stepped.refused legal stepped.counts in record {
       count = omega (arith, counts, so_far.count);
       bytes = each_byte c.step_unwrap_many-stepped.new.blocks (search rules);
-      firsts = λ i below. given stepped.refused legal stepped.firsts i (rw same below) ∙ so_far.firsts i below;
       states = λ i below text begun.
           let b : List ℕ = block_at i c.loop-step.blocks in
           let whole : IsBlock b = record {
@@ -50,11 +48,8 @@ loop-step-preserved g c =
           given stepped.refused legal stepped.steps i (rw same below) E text b (so_far.states i below text begun) again;
     }
 
-pub returns-clause-firsts : goal.returns-clause-firsts
-returns-clause-firsts g c = c.loop-step.invariant.firsts
-
-pub returns-clause-steps : goal.returns-clause-steps
-returns-clause-steps g c = λ i below text begun.
+pub returns : goal.returns
+returns g c = λ i below text begun.
     let n : ℕ = c.args.text_len in
     let back : 8 + (n - 8) ≡ n = omega (arith, c.requires.0.1) in
     let all : c.step_count-left.result ≡ block_calls n = rw back at c.step_count-left.ensures in

@@ -15,5 +15,5 @@ returns g c = λ i below.
     let n : ℕ = c.args.text_len in
     let same : length c.begin_unwrap_many-begun.new.blocks ≡ length c.args.blocks.now = search rules in
     let all = given begun.refused c.requires begun.all_left in
-    c.undo_steps.ensures.steps i (rw same below) (part_at n i c.args.texts.now)
+    c.undo_steps.ensures i (rw same below) (part_at n i c.args.texts.now)
     (rw all at (given begun.refused c.requires begun.begins i below (g.B.BlockPair.encrypted c.args.pair.now)))

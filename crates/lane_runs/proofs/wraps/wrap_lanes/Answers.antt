@@ -31,5 +31,5 @@ returns g c = λ i below.
     let legal : IsPlainKeyLength (length key) =
     (omega (arith, dropped, c.requires.0.0, c.requires.0.1), omega (arith, dropped, c.requires.0.1), omega (arith, dropped, c.requires.0.2)) in
     let first = given begun.refused c.requires begun.begins i below E in
-    let last = c.make_steps.ensures.steps i (rw same below) c.args.iv.now key first in
+    let last = c.make_steps.ensures i (rw same below) c.args.iv.now key first in
     given ended.refused (lanes, all) ended.plain i (rw after below) E c.args.iv.now key legal (rw all last)

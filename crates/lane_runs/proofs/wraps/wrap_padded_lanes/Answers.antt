@@ -29,5 +29,5 @@ returns g c = λ i below.
     let size : length key ≡ m = omega (arith, length-take m registers, dropped, c.requires.room.1) in
     let legal : IsPaddedKeyLength (length key) = rw size c.requires.room.0 in
     let last = subst (λ (k : ℕ). WrapState E (aiv k) (padded key) (block_calls n) (registers_at n i c.make_steps.new.texts) (block_at i c.make_steps.new.blocks))
-    (sym size) (c.make_steps.ensures.steps i (rw same below) _ _ (c.pad_lanes.ensures i below E)) in
+    (sym size) (c.make_steps.ensures i (rw same below) _ _ (c.pad_lanes.ensures i below E)) in
     given ended.refused (lanes, all) ended.padded i (rw after below) E key legal (rw all last)
