@@ -452,15 +452,17 @@ def test_random_command_lines(program, in_c):
             compared += 1
 
 
+CONSOLE = (
+    "a console of Wine gets control characters between the words; TestUse has a prompt"
+)
 # The files of the program's rows that are left out over keywrap.exe, and why.
 FILES_LEFT_OUT = {
     "allocations": "a library that Linux loads before the program makes allocations fail",
     "filesystem": "mounts, limits, signals and calls of Linux; test_killed has the kills",
     "output": "another HOME and TMPDIR, in which wine starts again and leaves files",
-    "page": "modes of files, and limits of Linux",
     "random_arguments": "modes of files, and longer arguments than Windows takes; test_random_command_lines has others",
     "reading": "named pipes, sockets and /dev/fd, at which wine hangs",
-    "terminal": "a console of Wine gets control characters between the words; TestUse has a prompt",
+    "terminal": CONSOLE,
 }
 TABLE = "reasons.py::TestReasons::test_refusals_of_the_table[rewrap --kek kek16.hex --new-kek kek32.hex -i wrapped.hex"
 LOADED = "a library that Linux loads makes calls of C fail, and the program makes calls of Windows"
@@ -508,6 +510,11 @@ LEFT_OUT = [
         "output_file.py::test_steps_of_the_picture",
         "calls of Linux; TestAccess has the calls of Windows",
     ),
+    ("page.py::test_temporary_file", "modes of files"),
+    ("page.py::test_status[cannot get the owner", LOADED),
+    ("page.py::test_status[refuses statx", LOADED),
+    ("page.py::test_status[refused only at the rename", LOADED),
+    ("page.py::test_order_of_errors", CONSOLE),
     ("published.py::TestProgram::test_nist", "thousands of starts"),
     (
         f"{TABLE} -o-6-output: cannot be opened-link",
