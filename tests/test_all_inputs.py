@@ -136,7 +136,7 @@ def branching(output):
     for line in output.splitlines():
         if line.startswith("[") and "branches: none" not in line:
             name = line.split()[1].removesuffix(":")
-            for suffix in "_at_every_length", "_of_any_other_kek":
+            for suffix in bugs.check.SUFFIXES:
                 name = name.removesuffix(suffix)
             found.add(name)
     return found
@@ -248,6 +248,46 @@ def test_every_length_of_c(made, name):
         assert checked.refusals(call) == []
 
 
+REWRAPS_OF_C = [
+    "rewrap_at_every_length 16 24 0",
+    "rewrap_at_every_length 16 24 9",
+    "rewrap_at_every_length 184 16 12",
+    "rewrap_in_place_at_every_length 32 16 1",
+    "rewrap_of_any_other_flags 16 24",
+    "rewrap_in_place_of_any_other_kek",
+]
+
+
+@slow
+@pytest.mark.parametrize("call", REWRAPS_OF_C)
+def test_rewrap_at_every_length_of_c(made, call):
+    """The short list of this object has more KEKs and flags."""
+    checked = bugs.Loaded(made("keywrap.c by clang for wasm32"))
+    assert checked.refusals(call) == []
+
+
+def test_way_back_is_under_the_same_kek():
+    """A wrap of what an unwrap has left ends with the text, but under another KEK the checker refuses to say so."""
+    lengths = bugs.every_length.lengths
+    bugs.calls.terms.forget()
+    lengths.begin(lengths.Facts(bugs.every_length.LEGAL))
+    text = lengths.Content("text")
+
+    def unwrap(kek):
+        words = bugs.calls.standard.key_expansion(bugs.calls.any_bytes(kek, 16))
+        return lengths.Process(words, text.bytes(0, 8), text, 8, True)
+
+    way_back = unwrap("kek").before_the_end().way_back()
+    a, registers = way_back.before_the_end().after()
+    assert a == text.bytes(0, 8)
+    size = 8 * lengths.N_REGISTERS
+    wanted = lengths.Content("none").with_copy(0, size, text, 8)
+    assert lengths.first_difference(registers, wanted, size) is None
+    way_back.back = unwrap("another")
+    with pytest.raises(bugs.Refused):
+        way_back.before_the_end()
+
+
 # A call of the checker, and when the call of keywrap.c does something else: at legal lengths or at others.
 IN_C_AT_SOME_LENGTHS = [
     ("wrap_at_every_length 16", "wrapped_len == 1000000"),
@@ -261,6 +301,9 @@ IN_C_AT_SOME_LENGTHS = [
     ("unwrap_any_at_every_length 184", "wrapped_len == 32"),
     ("kind_at_every_length 16", "room == 777"),
     ("wrap_of_any_other_kek", "kek_len == 20"),
+    ("rewrap_at_every_length 16 24 8", "wrapped_len == 4008"),
+    ("rewrap_in_place_at_every_length 16 24 1", "wrapped_len == 24"),
+    ("rewrap_of_any_other_flags 16 24", "flags == 1048577"),
 ]
 
 
@@ -270,7 +313,7 @@ HARMLESS = '__asm__ volatile("");'  # an answer that the compiler does not leave
 
 def object_with_a_question(directory, call, question, answer):
     """Returns keywrap.c for wasm32 with the function of a call that asks something about its arguments first."""
-    call = re.sub("_at_every_length.*|_of_any_other_kek", "", call)
+    call = re.sub("_(at_every_length|of_any_other_).*", "", call)
     header = (ROOT / "dist/keywrap.h").read_text().replace("KEYWRAP_RESTRICT ", "")
     declaration = rf"^int32_t keywrap_{call}\(([^;]*)\);"
     parameters = re.search(declaration, header, re.M)[1]

@@ -71,6 +71,8 @@ EXPORT_OF = {
     "unwrap_of_kek": "unwrap",
     "rewrap_same_kek": "rewrap",
 }
+# After the name of the export, in the names of every_length.py.
+SUFFIXES = "_at_every_length", "_of_any_other_kek", "_of_any_other_flags"
 MADE_WITH_OTHERS = {
     "keywrap_next_rewrap",
     "keywrap_next_rewrap_from",
@@ -93,7 +95,7 @@ OF_A_MODULE = {"memory", "__heap_base", "__stack_pointer", "__in_call"}
 
 def export_of(name):
     name = name.removeprefix("uneven_")
-    for suffix in "_at_every_length", "_of_any_other_kek":
+    for suffix in SUFFIXES:
         name = name.removesuffix(suffix)
     return "keywrap_" + EXPORT_OF.get(name, name)
 
@@ -226,7 +228,12 @@ def all_todo(module, which, numbers):
     else:
         calls = list(dict.fromkeys(lists.LISTS[which]()))
         if is_module:
-            calls = [call for call in calls if not lists.is_covered(*call)]
+            listed_calls = {*calls}
+            calls = [
+                call
+                for call in calls
+                if lists.at_every_length(*call) not in listed_calls
+            ]
         else:
             calls = [call for call in calls if call[0] not in EVERY_LENGTH]
         first = list(lists.short_list() if which == "full" else lists.one_of_each())

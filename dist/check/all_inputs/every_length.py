@@ -10,15 +10,22 @@ from calls import (
     BAD_KEK,
     BAD_LENGTH,
     INTEGRITY,
+    KEEP_FORM,
     KEPT_KEKS,
+    KEY_NOT_PLAIN,
+    NEW_PADDED,
     OK,
+    OLD_PADDED,
     PADDED,
+    PASS_NEW,
     PLAIN,
     STACK,
     Call,
     any_bytes,
     any_kek,
+    forms_of,
     is_reserved,
+    little,
 )
 from lengths import Array, Content, Process, Run, State, first_difference
 from linear import Facts, Undecided, plus, times, unknown
@@ -75,8 +82,15 @@ class LongCall(Call):
             for kek, a, *more in self.processes
         ]
 
+    def next_process(self, path):
+        """Returns what the standard makes in the next loop of this path, or None."""
+        done = len(path.state.done)
+        return self.processes[done] if done < len(self.processes) else None
+
     def run(self, loops):
-        return Run(self.module, self.inputs, STACK, self.arrays, loops, self.processes)
+        return Run(
+            self.module, self.inputs, STACK, self.arrays, loops, self.next_process
+        )
 
     def ends_of(self, run):
         """Runs the call. Yields each path at its end, with the status."""
@@ -164,24 +178,18 @@ def cells(values):
     return list(map(cell_of, values))
 
 
-def last_step(path):
-    if not path.state.done:
+def last_step(path, number=0):
+    """Returns the last step of the loop with this number."""
+    if number >= len(path.state.done):
         raise Refused("it does not make the steps of the standard")
-    return path.state.done[0]
+    return path.state.done[number]
 
 
 def wrapped_content(step):
     """Returns the wrapped key after the last step."""
-    a, register = step.made()
-    registers = step.registers.with_cells(times(step.i, 8), cells(register))
+    a, registers = step.after()
     content = Content("none").with_copy(8, 8 * n, registers, 0)
     return content.with_cells(0, cells(a))
-
-
-def unwrapped(step):
-    """Returns A and the registers after the last step."""
-    a, register = step.made()
-    return a, step.registers.with_cells(times(step.i, 8), cells(register))
 
 
 def zeros(size):
@@ -191,10 +199,6 @@ def zeros(size):
 def number_cells(given, v):
     """Returns the bytes of a size_t."""
     return lengths.number_bytes(v)[::-1][: given.module.size_bytes]
-
-
-def little(v, size):
-    return lengths.number_bytes(v)[::-1][:size]
 
 
 def check_forks(path, most):
@@ -218,11 +222,11 @@ def padded_length(a, registers, is_zero):
     return None
 
 
-def form_of(a, registers, is_zero):
-    """Returns the form and the length of the key, or None."""
-    if standard.is_plain(a, is_zero):
+def form_of(a, registers, is_zero, forms=(PLAIN, PADDED)):
+    """Returns the form and the length of the key, or None if it has none of these forms."""
+    if PLAIN in forms and standard.is_plain(a, is_zero):
         return PLAIN, 8 * n
-    length = padded_length(a, registers, is_zero)
+    length = padded_length(a, registers, is_zero) if PADDED in forms else None
     return None if length is None else (PADDED, length)
 
 
@@ -280,7 +284,7 @@ def unwrap(given, kek_len, iv_len=None):
                 check_forks(path, 1)
                 call.expect(path, status, BAD_IV, {})
                 return
-            a, registers = unwrapped(last_step(path))
+            a, registers = last_step(path).after()
             if standard.is_plain(a, path.is_zero, iv):
                 call.expect(path, status, OK, {"key": registers})
             else:
@@ -324,7 +328,7 @@ def unwrap_in_place(given, kek_len):
 
         def check(path, status):
             check_forks(path, 1)
-            a, registers = unwrapped(last_step(path))
+            a, registers = last_step(path).after()
             after = zeros(8 * n + 8)
             if standard.is_plain(a, path.is_zero):
                 after = after.with_copy(8, 8 * n, registers, 0)
@@ -380,7 +384,7 @@ def unwrap_padded(given, kek_len):
 
         def check(path, status):
             check_forks(path, 1)
-            a, registers = unwrapped(last_step(path))
+            a, registers = last_step(path).after()
             length = padded_length(a, registers, path.is_zero)
             if length is None:
                 call.expect(
@@ -406,7 +410,7 @@ def unwrap_padded_in_place(given, kek_len):
 
         def check(path, status):
             check_forks(path, 1)
-            a, registers = unwrapped(last_step(path))
+            a, registers = last_step(path).after()
             length = padded_length(a, registers, path.is_zero)
             after = zeros(8 * n + 8)
             if length is None:
@@ -437,7 +441,7 @@ def unwrap_any(given, kek_len, name="keywrap_unwrap_any"):
 
         def check(path, status):
             check_forks(path, 1)
-            a, registers = unwrapped(last_step(path))
+            a, registers = last_step(path).after()
             found = form_of(a, registers, path.is_zero)
             if found is None:
                 numbers = [0] * 4 + given.size(0)
@@ -455,6 +459,118 @@ def unwrap_any(given, kek_len, name="keywrap_unwrap_any"):
 
 def kind(given, kek_len):
     unwrap_any(given, kek_len, "keywrap_kind")
+
+
+# Rewraps. The old and the new wrapped key are in one buffer.
+
+
+class RewrapCall(LongCall):
+    """A rewrap of `text`. It unwraps under the old KEK. Then it wraps the key that it found under the new KEK. If it
+    found none, then it goes back to the text, by wrapping what it found under the old KEK again. With PASS_NEW it then
+    unwraps under the new KEK, and goes back to the text."""
+
+    def __init__(self, given, name, old_len, new_len, flags):
+        super().__init__(given, name)
+        self.old_kek = any_kek("kek", old_len)
+        self.new_kek = any_kek("new", new_len)
+        self.flags = flags
+        self.reads(self.old_kek).reads(self.new_kek)
+        self.array("text", 8 * n + 8, True).number32(flags)
+        self.old_words = self.new_words = None
+
+    def begun(self):
+        super().begun()
+        self.old_words = standard.key_expansion(self.old_kek)
+        self.new_words = standard.key_expansion(self.new_kek)
+
+    def next_process(self, path):
+        done = path.state.done
+        if len(done) == 0:
+            return unwrap_of_text(self.old_words)
+        found = self.found_under_old(path)
+        if len(done) == 1:
+            if found and self.new_iv(*found):
+                return self.wrap_under_new(path, *found)
+            return done[0].way_back()
+        if found or not self.flags & PASS_NEW:
+            return None
+        if len(done) == 2:
+            return unwrap_of_text(self.new_words)
+        return done[2].way_back() if len(done) == 3 else None
+
+    def found_under_old(self, path):
+        """Returns the form and the length of the key under the old KEK, or None."""
+        forms = forms_of(self.flags, OLD_PADDED)
+        return form_of(*last_step(path).after(), path.is_zero, forms)
+
+    def found_under_new(self, path):
+        """Returns the same for a text that is under the new KEK already."""
+        forms = forms_of(self.flags, NEW_PADDED)
+        return form_of(*last_step(path, 2).after(), path.is_zero, forms)
+
+    def new_iv(self, form, length):
+        """Returns the initial value of the new wrapped key, or None if its form has no key of this length."""
+        keeps_form = self.flags & KEEP_FORM
+        is_padded = form == PADDED if keeps_form else self.flags & NEW_PADDED
+        if is_padded:
+            return aiv(length)
+        return standard.DEFAULT_IV if length == 8 * n else None
+
+    def wrap_under_new(self, path, form, length):
+        _, registers = last_step(path).after()
+        padding = 8 * n - length
+        if padding:
+            registers = registers.with_bytes(length, padding, 0)
+        return Process(self.new_words, self.new_iv(form, length), registers, 0, False)
+
+    def expected(self, path):
+        """Returns the status, the content of the buffer afterwards, and whether it was new already."""
+        text = Content("text")
+        found = self.found_under_old(path)
+        check_forks(path, 1 if found or not self.flags & PASS_NEW else 2)
+        if found:
+            if self.new_iv(*found):
+                return OK, wrapped_content(last_step(path, 1)), 0
+            return KEY_NOT_PLAIN, text, 0
+        if self.flags & PASS_NEW and self.found_under_new(path):
+            return OK, text, 1
+        return INTEGRITY, text, 0
+
+
+def unwrap_of_text(words):
+    text = Content("text")
+    return Process(words, text.bytes(0, 8), text, 8, True)
+
+
+def rewrap(given, old_len, new_len, flags):
+    def legal_call():
+        call = RewrapCall(given, "keywrap_rewrap", old_len, new_len, flags)
+        call.changes_numbers(any_bytes("form", 4))
+
+        def check(path, status):
+            wanted, after, already = call.expected(path)
+            call.expect(path, status, wanted, {"text": after}, little(already, 4))
+
+        return call, check
+
+    for_all(given, LEGAL, legal_call)
+
+
+def rewrap_in_place(given, old_len, new_len, flags):
+    def legal_call():
+        call = RewrapCall(given, "keywrap_rewrap_in_place", old_len, new_len, flags)
+
+        def check(path, status):
+            wanted, after, _ = call.expected(path)
+            if wanted == KEY_NOT_PLAIN:
+                wanted = BAD_LENGTH
+            if wanted != OK:
+                after = zeros(8 * n + 8)
+            call.expect(path, status, wanted, {"text": after})
+
+        return call, check
+
+    for_all(given, LEGAL, legal_call)
 
 
 # Lengths that are refused. Any length is 8m + r, another one 8u + v, where r and v are less than 8.
@@ -609,6 +725,92 @@ def refuse_keks(name):
     return call
 
 
+# A rewrap is refused for a length, for flags or for one of its KEKs.
+
+f = unknown("f")
+LARGEST_FLAGS = 2**32 - 1
+OTHER_FLAGS = {
+    "rewrap": [[f - 5, 7 - f], [f - 13, LARGEST_FLAGS - f]],
+    "rewrap_in_place": [[f - 4, LARGEST_FLAGS - f]],
+}
+ANY_FLAGS = [f, LARGEST_FLAGS - f]
+
+
+def refuse_rewraps(given, name, with_keks, flags, cases, status):
+    """Proves that a rewrap of a text of any length is refused in these cases. with_keks adds the KEKs to the call."""
+    numbers = [0] * 4 if name == "rewrap" else []
+
+    def build():
+        call = with_keks(LongCall(given, "keywrap_" + name))
+        call.array("text", LENGTH, True).number32(flags)
+        return call.changes_numbers(any_bytes("form", 4)) if numbers else call
+
+    refuse(given, cases, build, status, numbers)
+
+
+def legal_keks(old_len, new_len):
+    """Returns a function that adds two KEKs of these lengths to a call."""
+
+    def with_keks(call):
+        call.reads(any_kek("kek", old_len))
+        return call.reads(any_kek("new", new_len))
+
+    return with_keks
+
+
+def accepts_one_register(flags):
+    """Whether one of the unwraps of a rewrap is of the padded form."""
+    forms = forms_of(flags, OLD_PADDED)
+    if flags & PASS_NEW:
+        forms += forms_of(flags, NEW_PADDED)
+    return PADDED in forms
+
+
+def rewrap_with_refusals(name, legal):
+    """Returns the call with all lengths, legal or not, but that of a key of one register."""
+
+    def call(given, old_len, new_len, flags):
+        legal(given, old_len, new_len, flags)
+        cases = NO_TEXT if accepts_one_register(flags) else NO_PLAIN_TEXT
+        keks = legal_keks(old_len, new_len)
+        refuse_rewraps(given, name, keks, flags, cases, BAD_LENGTH)
+
+    return call
+
+
+def refuse_flags(name):
+    """Returns the call with any flags that it does not have, for any length."""
+
+    def call(given, old_len, new_len):
+        keks = legal_keks(old_len, new_len)
+        refuse_rewraps(given, name, keks, f, OTHER_FLAGS[name], BAD_LENGTH)
+
+    return call
+
+
+def refuse_keks_of_rewrap(name):
+    """Returns the call with an old or a new KEK of no legal length, for any flags and any length of the text."""
+
+    def call(given):
+        largest = 256**given.module.size_bytes - 1
+        cases = [case + ANY_FLAGS for case in other_keks(largest)]
+        new = unknown("new_len")
+
+        def with_other_old(call):
+            return call.array("kek", k, False).array("new", new, False)
+
+        with_any_new = [case + [new, largest - new] for case in cases]
+        refuse_rewraps(given, name, with_other_old, f, with_any_new, BAD_KEK)
+        for old_len in LEGAL_KEKS:
+
+            def with_other_new(call):
+                return call.reads(any_kek("kek", old_len)).array("new", k, False)
+
+            refuse_rewraps(given, name, with_other_new, f, cases, BAD_KEK)
+
+    return call
+
+
 def with_refusals(name, legal):
     """Returns the call with all lengths, legal or not."""
 
@@ -638,3 +840,8 @@ for _call in FOR_ONE_KEY:
     _name = _call.__name__
     EVERY_LENGTH[f"{_name}_at_every_length"] = with_refusals(_name, _call)
     EVERY_LENGTH[f"{_name}_of_any_other_kek"] = refuse_keks(_name)
+for _call in rewrap, rewrap_in_place:
+    _name = _call.__name__
+    EVERY_LENGTH[f"{_name}_at_every_length"] = rewrap_with_refusals(_name, _call)
+    EVERY_LENGTH[f"{_name}_of_any_other_flags"] = refuse_flags(_name)
+    EVERY_LENGTH[f"{_name}_of_any_other_kek"] = refuse_keks_of_rewrap(_name)

@@ -74,7 +74,11 @@ def as_bytes(v):
     count, high = few_bytes(v)
     if count is None:
         raise Refused(f"the bytes of a number that may be large: {v}")
-    return value_of(v, count, high)
+    if high:
+        value = or_(as_bytes(v - high), high)
+        _number_of[value] = v
+        return value
+    return value_of(v, count)
 
 
 def few_bytes(v):
@@ -85,17 +89,16 @@ def few_bytes(v):
     return None, None
 
 
-def value_of(v, count, high):
-    """Returns a number as a value: `count` atoms, and `high` above them, which follow from the number and the facts. It
-    is made once: its atoms are as old as the first request, which LongCall.begun relies on.
-    """
+def value_of(v, count):
+    """Returns a number of this many bytes as a value of atoms. It is made once: its atoms are as old as the first
+    request, which LongCall.begun relies on."""
     if (v, count) not in _value_of:
         made = 0
         for i in range(count):
             made = or_(made, shl(input_byte(("number", v), i), 8 * i, 64))
         if all(k % WORD == 0 for _, k in v.factors):  # the lowest bits are known
             made = or_(and_(made, 2**64 - WORD), v.constant % WORD)
-        _value_of[v, count] = or_(made, high)
+        _value_of[v, count] = made
         _number_of[_value_of[v, count]] = v
     return _value_of[v, count]
 
@@ -164,11 +167,15 @@ def small_number(v, limit):
     return next(i for i in range(limit) if equal(v, i))
 
 
-def shift_left(a, k, w):
+def shift_count(k, w):
+    """Returns by how many bits a shift shifts. A compiler asks for one of a few numbers by the bits of a mask."""
     if isinstance(k, Lin) and Facts.now.is_between(k, 0, w - 1):
-        k = small_number(
-            k, w
-        )  # clang asks for some of a few lengths by the bits of a mask
+        return small_number(k, w)
+    return k
+
+
+def shift_left(a, k, w):
+    k = shift_count(k, w)
     if isinstance(a, Lin) and isinstance(k, int) and k < 8:  # more moves bytes
         if Facts.now.is_between(a, 0, (2**w - 1) >> k):
             return times(a, 1 << k)
@@ -176,6 +183,7 @@ def shift_left(a, k, w):
 
 
 def shift_right(a, k, w):
+    k = shift_count(k, w)
     found = split(a, 1 << k) if isinstance(a, Lin) and isinstance(k, int) else None
     return found[0] if found else shr(as_bytes(a), as_bytes(k), w)
 
@@ -486,7 +494,7 @@ def difference_between(a, b, low, high):
             if not Facts.now.are_possible():
                 continue
             try:
-                if a.bytes(place, 1) != b.bytes(place, 1):
+                if not Known.now.are_equal(*a.bytes(place, 1), *b.bytes(place, 1)):
                     return place
             except Undecided as question:
                 waiting += [(facts, place) for facts in Facts.now.cases(question.total)]
@@ -514,20 +522,25 @@ class State(wasm.State):
         self.contents = contents
         self.done = done
 
+    def add(self, step):
+        """Adds the last step of a loop."""
+        step.made()
+        self.done += (step,)
+
     def copy(self):
         other = super().copy()
         return State(other.frames, other.globals, dict(self.contents), self.done)
 
 
 class Run(wasm.Run):
-    """`loops` are the loops at which a run stops: (function, place). `processes` are what the standard makes in them,
-    one after the other."""
+    """`loops` are the loops at which a run stops: (function, place). next_process(path) returns what the standard
+    makes in the next loop of a path, or None if it makes nothing more."""
 
-    def __init__(self, module, inputs, stack, arrays, loops, processes):
+    def __init__(self, module, inputs, stack, arrays, loops, next_process):
         super().__init__(module, inputs, stack)
         self.arrays = {array.name: array for array in arrays}
         self.loops = loops
-        self.processes = processes
+        self.next_process = next_process
         # For each loop, by the depth of its frame and its place: whether it began again, and the look-ups before it.
         self.has_begun_again = {}
         self.lookups_before = {}
@@ -653,35 +666,92 @@ class Run(wasm.Run):
 
     def ends(self, path):
         """Yields each path at the end of the call."""
-        if few_registers():
-            path.state.done = tuple(p.last_step() for p in self.processes)
         waiting = [path]
         while waiting:
             path = waiting.pop()
             path.stopped = None
             for path in list(self.paths(path)):
-                if getattr(path, "stopped", None):
+                Known.now = path.known
+                if path.stopped:
                     waiting.append(Loop(self, path).at_the_end())
-                else:
-                    yield path
+                    continue
+                if few_registers():
+                    self.make_all_steps(path)
+                yield path
+
+    def make_all_steps(self, path):
+        """Makes the steps of the standard for few registers. The code has made its own, without a stop."""
+        process = self.next_process(path)
+        while process:
+            # The code unwraps before it knows something of what it finds.
+            Known.now = Known() if process.undo else path.known
+            path.state.add(process.last_step())
+            Known.now = path.known
+            process = self.next_process(path)
 
 
 # Key wrap's loop
 
 
 class Process:
-    """The steps of a key wrap by the standard, from A and the registers of a content on."""
+    """The steps of a key wrap by the standard, from A and the registers of a content on. `back` is None, or an unwrap
+    whose steps this process takes back: it begins with what the unwrap has left, and ends with what it began with.
+    """
 
-    def __init__(self, words, a, content, offset, undo):
+    def __init__(self, words, a, content, offset, undo, back=None):
         self.words = words
         self.a = a
         self.content = content
         self.offset = offset
         self.undo = undo
+        self.back = back
+
+    def registers(self):
+        """Returns the registers at the beginning."""
+        return Content("none").with_copy(0, 8 * N_REGISTERS, self.content, self.offset)
+
+    def first_place(self):
+        return (5 * N_REGISTERS, N_REGISTERS - 1) if self.undo else (0, 0)
+
+    def last_place(self):
+        return (0, 0) if self.undo else (5 * N_REGISTERS, N_REGISTERS - 1)
 
     def begin(self, registers, q, i):
         """Returns the first step, over these registers."""
         return Step(self, self.a, registers, q, i)
+
+    def any_step(self, q, i):
+        """Returns a step at this place, over A and registers of any value."""
+        a = [fresh("A", k) for k in range(8)]
+        return Step(self, a, Content(("registers", next(_serial))), q, i)
+
+    def before_the_end(self):
+        """Returns the last step. What is known before it may be any value. Only of a way back it is known: it is what
+        the other process had after its first step."""
+        if not self.back:
+            return self.any_step(*self.last_place())
+        self.check_way_back()
+        first = self.back.begin(self.back.registers(), *self.back.first_place())
+        return Step(self, *first.after(), *self.last_place())
+
+    def check_way_back(self):
+        """Checks that a step of the other process and the step of this one at the same place change nothing, at any
+        place and for any values.
+
+        So each step of the way back leaves what the other process had before it undid the step. That is an induction:
+        the way back begins with what the other process has left, and goes through its places in the opposite order.
+        """
+        q = unknown("q")
+        i = unknown("i")
+        before = Facts.now
+        Facts.now = before.with_(q, 5 * N_REGISTERS - q, i, N_REGISTERS - 1 - i)
+        try:
+            undone = self.back.any_step(q, i)
+            again = Step(self, *undone.after(), q, i)
+            if again.made() != (undone.a, undone.register()):
+                raise Refused("a way back whose steps do not take back the others")
+        finally:
+            Facts.now = before
 
     def last_step(self):
         """Returns the last step for few registers, after all steps before it."""
@@ -689,8 +759,7 @@ class Process:
         places = [(count * j, i) for j in range(6) for i in range(count)]
         if self.undo:
             places.reverse()
-        registers = Content("none").with_copy(0, 8 * count, self.content, self.offset)
-        step = self.begin(registers, *places[0])
+        step = self.begin(self.registers(), *places[0])
         for place in places[1:]:
             step = step.following(*place)
         return step
@@ -711,9 +780,9 @@ class OtherLocal(NotInvariant):
 
 
 class OtherMemory(NotInvariant):
-    def __init__(self, at):
-        super().__init__(f"memory at {at:#x} is not as before")
-        self.at = at
+    def __init__(self, places):
+        super().__init__(f"memory at {places[0]:#x} is not as before")
+        self.places = places
 
 
 def any_value():
@@ -724,6 +793,13 @@ def number_bytes(v):
     """Returns the 8 bytes of a number, the highest first."""
     v = as_bytes(v)
     return [and_(shr(v, 8 * k, 64), 255) for k in range(7, -1, -1)]
+
+
+def is_known(v, wanted):
+    """Whether a local has this value: a number, or a value under what is known on the path."""
+    if isinstance(v, Lin) or isinstance(wanted, Lin):
+        return v == wanted
+    return Known.now.are_equal(v, wanted)
 
 
 class Step:
@@ -738,12 +814,19 @@ class Step:
         self.i = i
         # Steps that are done or, if they are undone, left.
         self.t = plus(plus(q, i), int(process.undo))
+        self.has_made = None
 
     def register(self):
         return self.registers.bytes(times(self.i, 8), 8)
 
     def made(self):
-        """Returns A and the register that the step makes."""
+        """Returns A and the register that the step makes. It makes them once, under what is known then: afterwards they
+        are the same atoms over which the code has decided."""
+        if self.has_made is None:
+            self.has_made = self.make()
+        return self.has_made
+
+    def make(self):
         number = number_bytes(self.t if self.process.undo else plus(self.t, 1))
         a, words = self.a, self.process.words
         if self.process.undo:
@@ -754,13 +837,20 @@ class Step:
         block = standard.cipher(words, a + self.register())
         return [xor(x, y) for x, y in zip(block[:8], number)], block[8:]
 
+    def after(self):
+        """Returns A and the registers after the step."""
+        a, register = self.made()
+        cells = list(map(cell_of, register))
+        return a, self.registers.with_cells(times(self.i, 8), cells)
+
+    def way_back(self):
+        """Returns the process that makes the steps again that were undone up to this one, the last one."""
+        process = self.process
+        return Process(process.words, *self.after(), 0, not process.undo, process)
+
     def following(self, q, i):
         """Returns the next step, which is at this place."""
-        a, register = self.made()
-        registers = self.registers.with_cells(
-            times(self.i, 8), list(map(cell_of, register))
-        )
-        return Step(self.process, a, registers, q, i)
+        return Step(self.process, *self.after(), q, i)
 
     def words(self):
         """Returns what code may keep of it in a local, by its name."""
@@ -796,6 +886,11 @@ class Invariant(NamedTuple):
     roles: list
     changing: frozenset
 
+    def as_guess(self):
+        """Returns what Loop.guess returns."""
+        options = [[role] for role in self.roles]
+        return self.array, self.offset, options, self.changing
+
 
 class Loop:
     """A run that has reached the loop of the next process."""
@@ -806,13 +901,11 @@ class Loop:
         self.run = run
         self.path = path
         self.function, self.pc = path.stopped
-        done = len(path.state.done)
-        if done == len(run.processes):
+        self.process = run.next_process(path)
+        if not self.process:
             raise Refused(f"{self.name()}, for which the standard has no steps")
-        self.process = run.processes[done]
         self.local = path.state.frames[-1][4]
-        self.first = (5 * N_REGISTERS, N_REGISTERS - 1) if self.process.undo else (0, 0)
-        self.last = (0, 0) if self.process.undo else (5 * N_REGISTERS, N_REGISTERS - 1)
+        self.first = self.process.first_place()
 
     def name(self):
         names = self.run.module.names
@@ -827,34 +920,41 @@ class Loop:
     def at_the_end(self):
         """Proves the invariant, and returns the path before the last step."""
         invariant = self.proved()
-        path, step = self.path_at(invariant, *self.last)
-        path.state.done += (step,)
+        step = self.process.before_the_end()
+        path = self.path_before(invariant, step)
+        path.state.add(step)
         return path
 
     def proved(self):
-        """Returns an invariant that holds. A local that is not what was guessed is the next thing that it may be."""
+        """Returns an invariant that holds: the one that was found last, or another one."""
         key = self.function, self.pc, self.process.undo
         known = Loop.known.get(key)
         if known and known.array in self.path.state.contents:
             try:
-                return self.check(known)
+                return self.first_that_holds(known.as_guess())
             except Refused:
                 pass
-        array, offset, options, changing = self.guess()
+        try:
+            Loop.known[key] = self.first_that_holds(self.guess())
+        except Refused as refused:
+            raise Refused(f"{self.name()} is not recognised: {refused}")
+        return Loop.known[key]
+
+    def first_that_holds(self, guess):
+        """Returns an invariant. A local that is not the first of its options is the next one. Memory that is not as
+        before is what changes."""
+        array, offset, options, changing = guess
         while True:
             roles = [option[0] for option in options]
             invariant = Invariant(array, offset, roles, changing)
             try:
-                Loop.known[key] = self.check(invariant)
-                return invariant
+                return self.check(invariant)
             except OtherLocal as other:
                 if len(options[other.local]) == 1:
-                    raise Refused(f"{self.name()} is not recognised: {other}")
+                    raise
                 del options[other.local][0]
             except OtherMemory as other:
-                changing |= {other.at - self.stack_pointer()}
-            except Refused as refused:
-                raise Refused(f"{self.name()} is not recognised: {refused}")
+                changing |= {at - self.stack_pointer() for at in other.places}
 
     def check(self, invariant):
         self.check_entry(invariant)
@@ -873,7 +973,10 @@ class Loop:
         """
         depth = len(path.state.frames)
         path.stopped = None
-        ended = list(self.run.paths(path))
+        try:
+            ended = list(self.run.paths(path))
+        finally:
+            Known.now = self.path.known
         after = ended[0]
         if len(ended) > 1 or not after.stopped or len(after.state.frames) != depth:
             raise NotInvariant("it does not begin again")
@@ -924,9 +1027,11 @@ class Loop:
         """Returns what a local may be that has these values before and after the first step, the likeliest first."""
         if old == new:
             return [Role("same"), Role("any")]
-        names = [
-            name for name in words[0] if words[0][name] == old and words[1][name] == new
-        ]
+        before, behind = words
+        names = []
+        for name in before:
+            if is_known(old, before[name]) and is_known(new, behind[name]):
+                names.append(name)
         found = [Role(name) for name in names[:1]]
         if isinstance(old, (int, Lin)) and isinstance(new, (int, Lin)):
             growth = plus(new, times(old, -1))
@@ -944,22 +1049,19 @@ class Loop:
 
     # The invariant
 
-    def path_at(self, invariant, q, i):
-        """Returns the path before any step at this place, and the step."""
+    def path_before(self, invariant, step):
+        """Returns the path before this step."""
         path = self.started()
-        a = [fresh("A", k) for k in range(8)]
-        registers = Content(("registers", next(_serial)))
         contents = path.state.contents
         contents[invariant.array] = contents[invariant.array].with_copy(
-            invariant.offset, 8 * N_REGISTERS, registers, 0
+            invariant.offset, 8 * N_REGISTERS, step.registers, 0
         )
-        step = Step(self.process, a, registers, q, i)
         local = path.state.frames[-1][4]
         for k, v in enumerate(self.values(invariant, step)):
             local[k] = any_value() if v is ANY else v
         for offset in invariant.changing:
             path.memory[self.stack_pointer() + offset] = fresh("left"), 0
-        return path, step
+        return path
 
     def values(self, invariant, step):
         """Returns what the locals have to be before a step, or ANY."""
@@ -981,19 +1083,16 @@ class Loop:
 
     def check_locals(self, invariant, step, local):
         for k, (v, wanted) in enumerate(zip(local, self.values(invariant, step))):
-            if wanted is not ANY and v != wanted:
+            if wanted is not ANY and not is_known(v, wanted):
                 raise OtherLocal(k, invariant.roles[k].kind)
 
     def check_entry(self, invariant):
         registers = self.seen(invariant.array, invariant.offset)
-        process = self.process
-        wanted = Content("none").with_copy(
-            0, 8 * N_REGISTERS, process.content, process.offset
-        )
+        wanted = self.process.registers()
         place = first_difference(registers, wanted, 8 * N_REGISTERS)
         if place is not None:
             raise NotInvariant(f"the registers at the beginning, at {place}")
-        step = process.begin(registers, *self.first)
+        step = self.process.begin(registers, *self.first)
         self.check_locals(invariant, step, self.local)
 
     def cases(self):
@@ -1023,7 +1122,8 @@ class Loop:
             Facts.now = before
 
     def check_one(self, invariant, place, next_place):
-        path, step = self.path_at(invariant, *place)
+        step = self.process.any_step(*place)
+        path = self.path_before(invariant, step)
         memory = dict(path.memory)
         state = path.state.copy()
         after = self.after_one_step(path)
@@ -1037,9 +1137,10 @@ class Loop:
         if not same:
             raise NotInvariant("the stack is not what it was")
         changing = {self.stack_pointer() + offset for offset in invariant.changing}
-        for at, cell in after.memory.items():
-            if at not in changing and memory.get(at) != cell:
-                raise OtherMemory(at)
+        changed = [at for at, cell in after.memory.items() if memory.get(at) != cell]
+        others = [at for at in changed if at not in changing]
+        if others:
+            raise OtherMemory(others)
         self.check_contents(invariant, step, state.contents, after.state.contents)
 
     def check_contents(self, invariant, step, old, new):

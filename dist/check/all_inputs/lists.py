@@ -82,25 +82,51 @@ def parsed(text):
 
 
 def every_length_list():
-    """The calls for one key at every length, of a module."""
+    """The calls for one key at every length, of a module, but rewraps."""
     for kek, name in itertools.product((*KEKS, *KEPT), FOR_ONE_KEY):
         yield f"{name}_at_every_length", kek
     for name in FOR_ONE_KEY:
         yield (f"{name}_of_any_other_kek",)
 
 
-def is_covered(name, *numbers):
-    """Whether a call is one of those at every length: of a key of two registers or more, with the right lengths."""
-    if name not in FOR_ONE_KEY or len(numbers) != 2:
-        return False
-    kek, length = numbers
+def rewraps_at_every_length(pairs, flags=FLAGS):
+    """Rewraps with these pairs of KEKs, of a module."""
+    for (old, new), flag in itertools.product(pairs, flags):
+        yield "rewrap_at_every_length", old, new, flag
+        if flag < 4:
+            yield "rewrap_in_place_at_every_length", old, new, flag
+
+
+def short_rewraps_at_every_length():
+    """Rewraps with all flags, and with each KEK as the old one and as the new one."""
+    yield from rewraps_at_every_length([(16, 24)])
+    for pair, flag in zip(((24, 32), (32, 184), (184, 216), (216, 248)), (0, 1, 2, 3)):
+        yield from rewraps_at_every_length([pair], [flag])
+    yield from rewraps_at_every_length([(248, 16)], [4])
+    for name in "rewrap", "rewrap_in_place":
+        yield f"{name}_of_any_other_flags", 16, 24
+        yield (f"{name}_of_any_other_kek",)
+
+
+def at_every_length(name, *numbers):
+    """Returns the call at every length that is about this call, too, or None. It is about the right lengths only, for
+    a key of two registers or more."""
+    if name in FOR_ONE_KEY and len(numbers) == 2:
+        keks, length = numbers[:1], numbers[1]
+    elif name in ("rewrap", "rewrap_in_place"):
+        keks, length = (*numbers[:2], numbers[3]), numbers[2] - 8
+    else:
+        return None
     is_whole = name.startswith("wrap_padded") or length % 8 == 0
-    return kek in (*KEKS, *KEPT) and is_whole and 8 < length <= LONGEST
+    if not is_whole or not 8 < length <= LONGEST:
+        return None
+    return f"{name}_at_every_length", *keks
 
 
 def short_list():
     yield from parsed(SHORT)
     yield from every_length_list()
+    yield from short_rewraps_at_every_length()
 
 
 def one_of_each():
@@ -310,6 +336,7 @@ def refusals_list():
 
 def long_list():
     yield from every_length_list()
+    yield from short_rewraps_at_every_length()
     yield from middle_list()
     yield from kept_list()
     yield from lengths_list(KEKS, 24, 16)
@@ -325,6 +352,8 @@ def long_list():
 
 def full_list():
     yield from every_length_list()
+    yield from short_rewraps_at_every_length()
+    yield from rewraps_at_every_length(itertools.product((*KEKS, *KEPT), repeat=2))
     yield from parsed(FAR)
     yield from middle_list()
     yield from kept_list()

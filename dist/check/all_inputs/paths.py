@@ -277,13 +277,14 @@ class Machine:
 
     def paths(self, path):
         """Yields each path at the end of the call."""
+        before = Known.now
         waiting = [path]
         while waiting:
             path = waiting.pop()
             Known.now = path.known
             if self.run(path, waiting):
                 yield path
-        Known.now = Known()
+        Known.now = before
 
     def reached(self, path):
         """Returns the bytes of the stack that the path wrote."""

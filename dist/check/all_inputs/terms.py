@@ -640,6 +640,16 @@ class Known:
                 replaced = xor(replaced, change)
         return replaced
 
+    def are_equal(self, v, other):
+        """Whether two values are equal. Only Known.now may be asked, as rewritten() says."""
+        if v == other:
+            return True
+        if not self.rows:
+            return False
+        if self.reduced(xor(self.reduced(v), other)) == 0:
+            return True
+        return xor(self.rewritten(v), self.rewritten(other)) == 0
+
     def with_zero(self, v):
         """Returns the equations with v == 0, or None if that is a contradiction."""
         v = self.reduced(v)
