@@ -11,7 +11,7 @@ import sys
 
 import pytest
 
-from builds import run
+from builds import program_in_c, run
 from commands import ANSWERS, REFUSALS
 from program import IN_C, Ended, Program, all_of, evidence, slow
 from test_random_arguments import Lines, make_files, state
@@ -126,10 +126,10 @@ def test_version(in_c, keywrap):
     """A second line says that this is the program in C."""
     ended = keywrap("--version")
     first_line = ended.stdout.splitlines(True)[0]
-    program_in_c = Program(in_c)
-    ended_in_c = program_in_c("--version")
+    translated = Program(in_c)
+    ended_in_c = translated("--version")
     assert ended_in_c == ended._replace(stdout=first_line + IN_C)
-    assert program_in_c("wrap --version").stdout == first_line
+    assert translated("wrap --version").stdout == first_line
 
 
 def assert_rows(path, file, record_property, with_slow=True):
@@ -150,6 +150,21 @@ def test_rows(in_c, record_property, file):
 def test_rows_for_other_systems(in_c_for_others, record_property, file):
     """Linux runs what host.c has for other systems: their numbers of errors, and the names of standard streams."""
     assert_rows(in_c_for_others, file, record_property, with_slow=False)
+
+
+@slow
+@pytest.mark.needs("strace")
+def test_flush_of_macos(once):
+    """Where the system has F_FULLFSYNC, it flushes the new file before the rename. Here its number is F_GETOWN's."""
+    name = "program in C that flushes as on macOS"
+    program = program_in_c(once, name, "-DF_FULLFSYNC=F_GETOWN")
+    for file in "kek", "key":
+        pathlib.Path(file).write_text("00112233445566778899aabbccddeeff\n")
+    strace = "strace -f -o calls -e trace=fcntl,fsync,rename".split()
+    run(*strace, program, *"wrap --kek kek -i key -o wrapped".split())
+    calls = pathlib.Path("calls").read_text()
+    assert calls.index("F_GETOWN") < calls.index("rename(")
+    assert "fsync(" not in calls
 
 
 STRICTLY = "-Wall -Wextra -Werror"
