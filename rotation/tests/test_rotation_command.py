@@ -142,23 +142,17 @@ class TestStatus:
         done = rotate("--report", "report", *names(store), str(store / "none"))
         assert done == 5
         assert sorted(done.messages[:-1]) == [
-            f"keywrap-rotate: {store}/{what}"
-            for what in (
-                "3: line 1: under no KEK of this rotation",
-                "3: line 2: under no KEK of this rotation",
-                "5: no key",
-                "none: No such file or directory",
-            )
+            f"keywrap-rotate: {store}/3: line 1: under no KEK of this rotation",
+            f"keywrap-rotate: {store}/3: line 2: under no KEK of this rotation",
+            f"keywrap-rotate: {store}/5: no key",
+            f"keywrap-rotate: {store}/none: No such file or directory",
         ]
         not_new = [file for file, end in enumerate(found_in(store)) if end != "new"]
         assert not_new == [3, 5]
         expected = foreign + lines_under(NEW_KEK, KEYS[3][2:])
         assert (store / "3").read_bytes() == expected
-        named = [
-            line["named"]
-            for line in report_of("report")[:-1]
-            if line["unit"].endswith("3")
-        ]
+        units = report_of("report")[:-1]
+        named = [unit["named"] for unit in units if unit["unit"].endswith("3")]
         assert named[-1] == [
             ["line 1", "under no KEK of this rotation"],
             ["line 2", "under no KEK of this rotation"],
@@ -453,13 +447,17 @@ class TestRecord:
         first, again = map(report_of, ("record", "again"))
         assert first[-1]["status"] == 0
         assert first[0]["digest"] == again[0]["digest"]
-        assert [line["keys"] for line in first[:-1]] == [1 if kind == "one-key" else 30]
+        count = 1 if kind == "one-key" else 30
+        assert [unit["keys"] for unit in first[:-1]] == [count]
         assert os.stat("record").st_mode & 0o777 == 0o600
         assert len(os.listdir()) == 5
         assert rotate("--verify-record", "record", *words) == 0
         keys = KEYS[0]
-        changes = [[*keys[:-1], b"another" * 3], keys[:-1], [*keys, b"another" * 3]]
-        for change in changes if kind != "one-key" else [keys[1:]]:
+        other = b"another" * 3
+        changes = [[*keys[:-1], other], keys[:-1], [*keys, other]]
+        if kind == "one-key":
+            changes = [keys[1:]]
+        for change in changes:
             of_kind(path, kind, NEW_KEK, change)
             done = rotate("--verify-record", "record", *words)
             assert done == 5

@@ -264,36 +264,32 @@ class TestNames:
     )
     def test_names_choose_the_kek(self, kind, one):
         words, content = NAMED[kind]
-        of_keks = tables()[:2] if one else tables()
+        of_keks = tables()
+        challenge = "keks/new"
+        new = NEW_OF_TABLE
+        if one:
+            of_keks = of_keks[:2]
+            challenge = "new-kek.challenge"
+            new = dict.fromkeys(OF_TABLE, NEW_KEK)
         assert rotated("--make-challenges", *words, *of_keks) == 0
-        write_lines(
-            "keks/new",
-            [f"{name}=new-table{at}.challenge" for at, name in enumerate(OF_TABLE)],
-        )
-        guard = ["--new-challenge", "new-kek.challenge" if one else "keks/new"]
+        challenges = [
+            f"{name}=new-table{at}.challenge" for at, name in enumerate(OF_TABLE)
+        ]
+        write_lines("keks/new", challenges)
+        guard = ["--new-challenge", challenge]
         write_lines("store", content(OF_TABLE))
-        new = dict.fromkeys(OF_TABLE, NEW_KEK) if one else NEW_OF_TABLE
         for again in (False, True):
             done = rotated(*words, *guard, *of_keks, "store")
             assert done.status == 0
             assert read("store") == content(new)
             assert done.counts["rewrapped"] == (0 if again else 12)
-            assert again or done.messages[:3] == [
-                f"keywrap-rotate: 4 keys were under {name}" for name in OF_TABLE
-            ]
-            assert (
-                one
-                or rotated(
-                    *words,
-                    *guard,
-                    "--keks",
-                    "keks/new-table",
-                    "--new-keks",
-                    "keks/table",
-                    "store",
-                )
-                == 3
-            )
+            if not again:
+                assert done.messages[:3] == [
+                    f"keywrap-rotate: 4 keys were under {name}" for name in OF_TABLE
+                ]
+            if not one:
+                exchanged = ["--keks", "keks/new-table", "--new-keks", "keks/table"]
+                assert rotated(*words, *guard, *exchanged, "store") == 3
         os.unlink("keks/table0.hex")  # To verify, nobody reads the old ones.
         assert rotated("--verify", *words, *of_keks, "store") == 0
         write_lines("store", content(OF_TABLE))

@@ -121,11 +121,13 @@ def test_random_kills(filled, tmp_path, number, count):
     kills = 0
     with Writer(store, source) as acknowledged:
         while kills < 4:
-            halves = count == 2 and store.has_shards and source.randrange(2) == 0
-            runs = dict(
-                begun(store, source, *(["--shard", f"{at}/2"] if halves else []))
-                for at in range(1, count + 1)
-            )
+            may_have_halves = count == 2 and store.has_shards
+            has_halves = may_have_halves and source.randrange(2) == 0
+            runs = {}
+            for half in range(1, count + 1):
+                words = ["--shard", f"{half}/2"] if has_halves else []
+                report, running = begun(store, source, *words)
+                runs[report] = running
             if source.randrange(3) == 0:
                 replace_kek(source, runs)
             for running in runs.values():
@@ -133,23 +135,23 @@ def test_random_kills(filled, tmp_path, number, count):
             for running in runs.values():
                 end(running)
     done, counts = last(store, source)
-    for path in (
-        left := list(tmp_path.rglob(".rotating.*"))
-    ):  # Written twice around an exchange: a person decides.
+    written = dict(acknowledged)
+    every_key = {*keys.values(), *(key for _, key in acknowledged)}
+    # A file that was written twice around an exchange: a person decides.
+    left = list(tmp_path.rglob(".rotating.*"))
+    for path in left:
         assert done.has(
             f"{path}: a run left it, and others wrote the file since: compare it with the file"
         )
-        found = {
-            key_and_kek(bytes.fromhex(text))[0] for text in path.read_text().split()
-        }
-        assert found <= {*keys.values(), *(key for _, key in acknowledged)}
+        texts = path.read_text().split()
+        found = {key_and_kek(bytes.fromhex(text))[0] for text in texts}
+        assert found <= every_key
         path.unlink()
     if left and done == 5:
         done, counts = last(store, source)
     held = {place: key_and_kek(wrapped) for place, wrapped in store.held().items()}
-    assert held == {
-        place: (key, NEW_KEK) for place, key in {**keys, **dict(acknowledged)}.items()
-    }
+    expected = {**keys, **written}
+    assert held == {place: (key, NEW_KEK) for place, key in expected.items()}
     assert done.status == 0
     assert counts["keys"] == len(keys)
     assert counts["new"] == len(keys)

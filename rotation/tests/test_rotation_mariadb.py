@@ -193,18 +193,18 @@ class TestColumns:
         ],
     )
     def test_names_of_a_strange_table(self, mariadb, schema, table, column):
-        names = [
-            "`" + name.replace("`", "``") + "`" for name in (schema, table, column)
-        ]
-        title = "{0}.{1}".format(*names)
+        quoted = {}
+        for name in schema, table, column:
+            quoted[name] = "`" + name.replace("`", "``") + "`"
+        title = f"{quoted[schema]}.{quoted[table]}"
         mariadb.sql(
-            f"CREATE OR REPLACE DATABASE {names[0]};"
-            f"CREATE TABLE {title} (id varchar(9) PRIMARY KEY, {names[2]} text);"
+            f"CREATE OR REPLACE DATABASE {quoted[schema]};"
+            f"CREATE TABLE {title} (id varchar(9) PRIMARY KEY, {quoted[column]} text);"
             f"INSERT INTO {title} VALUES ('x', '{OLD[10].hex()}'), ('y', NULL)"
         )
         done = rotated("--column", column, table=f"{schema}.{table}")
-        found = mariadb.sql(f"SELECT {names[2]} FROM {title} ORDER BY id")
-        mariadb.sql(f"DROP DATABASE {names[0]}")
+        found = mariadb.sql(f"SELECT {quoted[column]} FROM {title} ORDER BY id")
+        mariadb.sql(f"DROP DATABASE {quoted[schema]}")
         assert done.status == 0, done
         assert done.counts["rewrapped"] == 1, done
         assert found == [(NEW[10].hex(),), (None,)]
@@ -229,12 +229,8 @@ class TestColumns:
 
     def test_names_of_keks_in_a_column(self, mariadb):
         other = bytes([7]) * 16
-        for name, kek in (
-            ("ada", KEK),
-            ("bob", other),
-            ("ada-new", NEW_KEK),
-            ("bob-new", bytes(32)),
-        ):
+        keks = {"ada": KEK, "bob": other, "ada-new": NEW_KEK, "bob-new": bytes(32)}
+        for name, kek in keks.items():
             write_lines(name, [kek.hex()])
         for table, ending in (("old", ""), ("new", "-new")):
             write_lines(table, [f"ada=ada{ending}", f"bob=bob{ending}"])

@@ -416,19 +416,15 @@ class TestSystem:
         done = subprocess.run(command, check=False, capture_output=True)
         if b"ptrace" in done.stderr:
             pytest.skip("strace is not allowed here")
-        found = [
-            line.split(None, 1)[1]
-            for line in log.read_text().splitlines()
-            if "= 0" in line
-        ]
-        kinds = [
-            line.split("(")[0]
-            + " directory" * (f"<{file.parent}>" in line.split(")")[0])
-            for line in found
-        ]
-        kinds = [
-            kind.split()[0] if kind.startswith("rename") else kind for kind in kinds
-        ]
+        kinds = []
+        for line in log.read_text().splitlines():
+            if "= 0" in line:
+                _, call = line.split(None, 1)
+                kind, _, arguments = call.partition(")")[0].partition("(")
+                is_of_directory = f"<{file.parent}>" in arguments
+                if is_of_directory and not kind.startswith("rename"):
+                    kind += " directory"
+                kinds.append(kind)
         # The owner before the mode: otherwise others could read the new file meanwhile.
         assert kinds == [
             "fchown",

@@ -96,6 +96,7 @@ class Found:
     def __init__(self, lost: Optional[str] = None) -> None:
         #: How many keys were under each other KEK: what a rotation wrote, or would write.
         self.old: Counter[str] = collections.Counter()
+        #: The first places of keys that are refused, and of units that are lost, with their reasons.
         self.named: List[Tuple[str, str]] = []
         if lost is not None:
             self.lose("", lost)

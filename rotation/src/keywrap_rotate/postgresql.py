@@ -204,6 +204,7 @@ class Postgresql(ServerTable):
             raise Refused(self._why(error, shows_words)) from None
 
     def _why(self, error: Any, shows_words: bool = False) -> str:
+        """Returns the message of an error. The server's words are only shown where they can have no key in them."""
         words = error.diag.message_primary or str(error).strip().split("\n")[0]
         text = words if shows_words and words else type(error).__name__
         state = f" ({error.sqlstate})" if error.sqlstate else ""
