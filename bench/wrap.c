@@ -140,6 +140,7 @@ static void add_way(const struct peer *peer, int call, int at) {
     const int unwraps = call % 2;
     const size_t len = LENS[at], lens[] = {len, len + 8};
     const uint8_t *both[] = {key, texts[at]};
+    /* Some peers lack some calls. */
     if (peer->calls[call])
         ways[way_count++] =
             (struct way){peer,          peer->calls[call], call > 1,      unwraps,       len,

@@ -139,11 +139,9 @@ class TestCompared:
 @pytest.mark.parametrize("words", [[], ["MODULESDIR=/opt/modules"]])
 def test_installed_and_removed(library, words):
     """In OpenSSL's directory of modules, or in another: one file, which make uninstall-provider removes."""
-    directory = (
-        "/opt/modules"
-        if words
-        else re.search('"(.*)"', run("openssl", "version", "-m"))[1]
-    )
+    directory = "/opt/modules"
+    if not words:
+        directory = re.search('"(.*)"', run("openssl", "version", "-m"))[1]
     workdir = os.getcwd()
     made = [
         "make",
@@ -156,10 +154,9 @@ def test_installed_and_removed(library, words):
     ]
     run(*made, "install-provider", "-o", "library", *words)
     stage = pathlib.Path("stage")
-    assert [path for path in stage.rglob("*") if path.is_file()] == [
-        stage / directory[1:] / "keywrap.so"
-    ]
-    assert (stage / directory[1:] / "keywrap.so").stat().st_mode & 0o777 == 0o644
+    module = stage / directory[1:] / "keywrap.so"
+    assert [path for path in stage.rglob("*") if path.is_file()] == [module]
+    assert module.stat().st_mode & 0o777 == 0o644
     run(*made, "uninstall-provider", *words)
     assert not [path for path in stage.rglob("*") if path.is_file()]
 
@@ -170,16 +167,8 @@ def configured(name, path):
         r"^    openssl_conf = .*?^    default_properties = .*?$", PAGE, re.M | re.S
     )[0]
     lines = [line.removeprefix("    ") for line in configuration.splitlines()]
-    assert (
-        len(
-            [
-                line
-                for line in lines
-                if re.match("module|activate|providers|nodejs_conf", line)
-            ]
-        )
-        == 5
-    )
+    settings = re.compile("module|activate|providers|nodejs_conf")
+    assert len([line for line in lines if settings.match(line)]) == 5
     lines = [
         f"module = {path}" if line.startswith("module = ") else line for line in lines
     ]

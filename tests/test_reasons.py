@@ -26,38 +26,41 @@ from vectors import (
 NO_FILE = "No such file or directory (os error 2)"
 
 
+MORE_FILES = {
+    "one.hex": b"00\n",
+    "raw17": bytes(17),
+    "colons": b"00:11:22\n",
+    "two.64": b"AA==\nAA==",
+    "wrapped23.hex": zeros(23).encode(),
+    "key.long": bytes(1048577),
+    "wrapped.long": bytes(1048592),
+    "kek.base64": in_base64(KEK16).encode(),
+    "kek16.base64": in_base64(KEK16).encode() + b"\n",
+    "kek17.base64": in_base64(KEK[:34]).encode(),
+    "kek.digits": KEK16.encode(),
+    "kek.line": KEK[:23].encode() + b"\n",
+    "kek.crlf": KEK[:30].encode() + b"\r\n",
+    "kek.ends": b"\n" * 16,
+    "kek.url": b"AAEC-wQ_BgcICQoL",
+    "kek.nul": KEK[:15].encode() + b"\0",
+    "kek.words": b"correct horse ba",
+    "kek.other": KEK[:30].encode() + b"ff",
+    "kek.newline": b"correct horse ba\n",
+    "kek.short": b"0123456789abcdef\n",
+    "typo.hex": KEK16.replace("0", "O", 2).replace("O", "0", 1).encode(),
+    "kek.letters": b"correcthorsebatterystapletoogood\n",
+    "line.url": b"AAEC-wQ_BgcICQoL\n",
+    "two_keys.hex": f"{KEY16}\r\n\n{KEY16}".encode(),
+    "two_wrapped.hex": f"{WRAPPED16}\n{WRAPPED16}\n".encode(),
+    "uneven.hex": f"{WRAPPED16}\n{WRAPPED16[:32]}\n".encode(),
+    "wrapped.digits": WRAPPED16.encode(),
+    "wrapped.base64": in_base64(WRAPPED16).encode(),
+}
+
+
 @pytest.fixture(autouse=True)
 def more_files():
-    for name, content in {
-        "one.hex": b"00\n",
-        "raw17": bytes(17),
-        "colons": b"00:11:22\n",
-        "two.64": b"AA==\nAA==",
-        "wrapped23.hex": zeros(23).encode(),
-        "key.long": bytes(1048577),
-        "wrapped.long": bytes(1048592),
-        "kek.base64": in_base64(KEK16).encode(),
-        "kek16.base64": in_base64(KEK16).encode() + b"\n",
-        "kek17.base64": in_base64(KEK[:34]).encode(),
-        "kek.digits": KEK16.encode(),
-        "kek.line": KEK[:23].encode() + b"\n",
-        "kek.crlf": KEK[:30].encode() + b"\r\n",
-        "kek.ends": b"\n" * 16,
-        "kek.url": b"AAEC-wQ_BgcICQoL",
-        "kek.nul": KEK[:15].encode() + b"\0",
-        "kek.words": b"correct horse ba",
-        "kek.other": KEK[:30].encode() + b"ff",
-        "kek.newline": b"correct horse ba\n",
-        "kek.short": b"0123456789abcdef\n",
-        "typo.hex": KEK16.replace("0", "O", 2).replace("O", "0", 1).encode(),
-        "kek.letters": b"correcthorsebatterystapletoogood\n",
-        "line.url": b"AAEC-wQ_BgcICQoL\n",
-        "two_keys.hex": f"{KEY16}\r\n\n{KEY16}".encode(),
-        "two_wrapped.hex": f"{WRAPPED16}\n{WRAPPED16}\n".encode(),
-        "uneven.hex": f"{WRAPPED16}\n{WRAPPED16[:32]}\n".encode(),
-        "wrapped.digits": WRAPPED16.encode(),
-        "wrapped.base64": in_base64(WRAPPED16).encode(),
-    }.items():
+    for name, content in MORE_FILES.items():
         pathlib.Path(name).write_bytes(content)
     sh("mkdir to; ln -s old link; mkfifo pipe")
 

@@ -208,31 +208,26 @@ class TestPage:
         (line,) = re.findall(f"^    (cargo add .*--{way} .*)", PAGE, re.M)
         pathlib.Path("program/src").mkdir(parents=True)
         pathlib.Path("program/.cargo").mkdir()
-        pathlib.Path("program/.cargo/config.toml").write_text(
-            "".join(re.findall(r"^    (source\..*\n)", PAGE, re.M))
-        )
+        sources = re.findall(r"^    (source\..*\n)", PAGE, re.M)
+        pathlib.Path("program/.cargo/config.toml").write_text("".join(sources))
         pathlib.Path("program/Cargo.toml").write_text(PACKAGE)
         pathlib.Path("program/src/main.rs").write_text(
             "fn main() -> Result<(), Box<dyn std::error::Error>> {\nlet (bytes, key) = ([7; 32], [5; 16]);\n"
             f'{example}\nprintln!("done");\nOk(())\n}}\n'
         )
         run("git", "clone", "-q", ROOT, "clone")
-        given = {
+        env = {
             **cargo.env,
             "CARGO_HOME": os.path.abspath("empty"),
             "CARGO_TARGET_DIR": os.path.abspath("out"),
             "KEYWRAP": os.path.abspath("clone/dist"),
             "REPOSITORY": f"file://{os.path.abspath('clone')}",
         }
-        output = run(
-            *alone([line, "cargo build", "cargo run --offline"], **given), cwd="program"
-        )
-        assert output == "done\n"
+        lines = [line, "cargo build", "cargo run --offline"]
+        assert run(*alone(lines, **env), cwd="program") == "done\n"
         # No C was compiled.
-        assert not [
-            *pathlib.Path("out").rglob("cc-*"),
-            *pathlib.Path("out").rglob("libkeywrap.a"),
-        ]
+        out = pathlib.Path("out")
+        assert not [*out.rglob("cc-*"), *out.rglob("libkeywrap.a")]
 
     def test_version(self):
         """RUST.md and Cargo.toml have the same oldest Rust."""
@@ -426,13 +421,10 @@ def test_rustcrypto(cargo, crate):
         ("padded", vectors.KEK5649, vectors.KEY20, vectors.WRAPPED20),
         ("padded", vectors.KEK5649, vectors.KEY7, vectors.WRAPPED7),
     ]
-    given = pathlib.Path("vectors")
-    given.write_text("".join(" ".join(line) + "\n" for line in lines))
-    output = cargo(
-        *["test", "--offline", "--", "--nocapture"],
-        cwd=directory,
-        env={"VECTORS": str(given.absolute())},
-    )
+    file = pathlib.Path("vectors")
+    file.write_text("".join(" ".join(line) + "\n" for line in lines))
+    words = ["test", "--offline", "--", "--nocapture"]
+    output = cargo(*words, cwd=directory, env={"VECTORS": str(file.absolute())})
     assert f"{len(lines)} vectors\n" in output
 
 

@@ -139,6 +139,7 @@ def planted(file, name, directory):
         if count != 1:
             raise SystemExit(f"bugs.py: {count} times: {old}")
         at = content.index(before) + len(before)
+        # `new` has the bits to flip in the bytes after `old`.
         for mask in bytes.fromhex(new):
             content[at] ^= mask
             at += 1
