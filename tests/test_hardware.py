@@ -219,8 +219,8 @@ class TestLeaves:
         line = "  " + use.format('"aes_leaves::leaves::encrypt"')
         ended = self.substituted(LEAVES, more=line)
         assert ended.returncode == 1
-        said = f"substitute.py: encrypt: another use: {line.strip()}\n"
-        assert ended.stderr == said
+        message = f"substitute.py: encrypt: another use: {line.strip()}\n"
+        assert ended.stderr == message
 
     @pytest.mark.parametrize("name", LEAVES)
     def test_leaf_that_nothing_calls_is_refused(self, name):

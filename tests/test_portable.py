@@ -325,8 +325,8 @@ def symbols(tools, *flags):
 
 # The functions of the C library that a caller without one has to give.
 IMPORTS = {"memcpy", "memmove", "memset", "memcmp", "abort", "getauxval"}
-# Machines on which a word says whether the AES instructions work.
-TEST_INSTRUCTIONS = [*NATIVE, "an old x86-64", "aarch64"]
+# The machines for which keywrap.c has AES by instructions, and a variable that says whether they work.
+WITH_AES_INSTRUCTIONS = [*NATIVE, "an old x86-64", "aarch64"]
 
 
 @pytest.mark.parametrize("only", all_of(["", "-DKEYWRAP_STEPS_ONLY"], [""]))
@@ -347,7 +347,7 @@ def test_object(portable, name, only):
     sizes = run(f"{tools}size", "keywrap.o").splitlines()[1].split()
     _, data, bss = map(int, sizes[:3])
     assert data == 0
-    has_word = name in TEST_INSTRUCTIONS and not only
+    has_word = name in WITH_AES_INSTRUCTIONS and not only
     assert bss <= (4 if has_word else 0)
 
 
