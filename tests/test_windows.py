@@ -11,6 +11,7 @@ from typing import Callable, NamedTuple
 
 import pytest
 
+import faces
 import test_rust
 from builds import ROOT, run
 from checks import NO_OUTPUT, keeps
@@ -572,6 +573,42 @@ class TestLibrary:
         run(COMPILER, *here, "-o", "dist/linked.exe")
         said = windows.run("./linked.exe", cwd="dist")
         assert "8 vectors and the self test: right" in said
+
+    def test_aes_instructions(self, windows):
+        """The processor's are used."""
+        need("the processor's AES")
+        pathlib.Path("chosen.c").write_text(
+            '#include "keywrap.c"\n'
+            "int main(void) { return keywrap_aes_available() ? 0 : 1; }\n"
+        )
+        run(COMPILER, f"-I{ROOT}/dist", "chosen.c", "-o", "chosen.exe")
+        windows.run("./chosen.exe")
+
+    def test_install_and_clean(self, windows):
+        """`make install` puts the DLL beside what links with it, and `make clean` leaves no file that was made."""
+        of_linux = shutil.ignore_patterns("keywrap", "keywrap.built_from")
+        shutil.copytree(ROOT / "dist", "dist", ignore=of_linux)
+        before = sorted(os.listdir("dist"))
+        make = ["make", "-s", "-C", "dist", f"CC={COMPILER}", "CFLAGS=-O0", "RUN=wine"]
+        goals = ["check", "install", f"prefix={os.getcwd()}/there"]
+        run(*make, *goals, env=windows.env)
+        assert sorted(os.listdir("there/include")) == ["keywrap.h", "keywrap_steps.h"]
+        libraries = ["keywrap.dll", "libkeywrap.a", "libkeywrap.dll.a", "pkgconfig"]
+        assert sorted(os.listdir("there/lib")) == libraries
+        run(*make, "clean", env=windows.env)
+        assert sorted(os.listdir("dist")) == before
+
+    @pytest.mark.needs("<openssl/evp.h>")
+    def test_rows(self, windows):
+        """The rows of keywrap.h without the long ones, and the published cases."""
+        includes = [f"-I{ROOT}/dist", f"-I{ROOT}/tests/reference"]
+        sources = [ROOT / "tests/rows.c", ROOT / "dist/keywrap.c"]
+        run(COMPILER, "-std=c99", *STRICT, *includes, *sources, "-o", "rows.exe")
+
+        def program(text):
+            return windows.run("./rows.exe", input=text)
+
+        faces.check("c", program, "short", "foreign")
 
     @evidence
     def test_go(self, windows, tmp_path):

@@ -13,6 +13,7 @@ from tools import need
 
 COMPILER = "x86_64-w64-mingw32-gcc"
 STRICT = ["-O1", "-Wall", "-Wextra", "-Werror"]
+MUST_WORK = "-DKEYWRAP_AES_INSTRUCTIONS_MUST_WORK"
 # Without the parts for .NET and HTML, which would have to be installed. Names of files are UTF-8.
 SETTINGS = {
     "WINEDEBUG": "-all",
@@ -109,13 +110,15 @@ def windows(once):
 
 @pytest.fixture(scope="session")
 def windows_objects(once):
-    """A directory with dist/command and its objects for Windows."""
+    """A directory with dist/command and its objects for Windows. The program ends where it cannot use the processor's
+    AES."""
     need(COMPILER)
 
     def build(directory):
         shutil.copytree(ROOT / "dist/command", directory, dirs_exist_ok=True)
         for source in directory.glob("*.c"):
-            run(COMPILER, *STRICT, "-c", source, "-o", source.with_suffix(".o"))
+            options = [*STRICT, MUST_WORK]
+            run(COMPILER, *options, "-c", source, "-o", source.with_suffix(".o"))
 
     return once("objects for windows", build)
 
