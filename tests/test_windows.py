@@ -635,7 +635,7 @@ class TestLibrary:
         words = ["test", "--offline", "--features", "zeroize", "--target", target]
         cargo = test_rust.Cargo("debian", tmp_path)
         said = cargo(*words, "--lib", "--tests", cwd="crate", env=env)
-        expected = test_rust.tests_of(test_rust.DEFAULT | {"zeroize"})
+        expected = test_rust.names_of(test_rust.DEFAULT | {"zeroize"})
         assert test_rust.passed(said) == expected
 
 
