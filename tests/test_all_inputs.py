@@ -250,11 +250,9 @@ def test_every_length_of_c(made, name):
 
 REWRAPS_OF_C = [
     "rewrap_at_every_length 16 24 0",
-    "rewrap_at_every_length 16 24 9",
-    "rewrap_at_every_length 184 16 12",
     "rewrap_in_place_at_every_length 32 16 1",
     "rewrap_of_any_other_flags 16 24",
-    "rewrap_in_place_of_any_other_kek",
+    "rewrap_in_place_of_any_other_flags 16 24",
 ]
 
 
@@ -301,9 +299,6 @@ IN_C_AT_SOME_LENGTHS = [
     ("unwrap_any_at_every_length 184", "wrapped_len == 32"),
     ("kind_at_every_length 16", "room == 777"),
     ("wrap_of_any_other_kek", "kek_len == 20"),
-    ("rewrap_at_every_length 16 24 8", "wrapped_len == 4008"),
-    ("rewrap_in_place_at_every_length 16 24 1", "wrapped_len == 24"),
-    ("rewrap_of_any_other_flags 16 24", "flags == 1048577"),
 ]
 
 
