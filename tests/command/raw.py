@@ -65,14 +65,42 @@ def of_numbers(function):
 
 
 def divided(a, b, w):
-    quotient = abs(signed(a, w)) // abs(signed(b, w))
-    return (
-        -quotient if (signed(a, w) < 0) != (signed(b, w) < 0) else quotient
-    ) % 2**w
+    """The quotient of signed numbers, rounded towards 0."""
+    x = signed(a, w)
+    y = signed(b, w)
+    quotient = abs(x) // abs(y)
+    if (x < 0) != (y < 0):
+        quotient = -quotient
+    return quotient % 2**w
 
 
 def remainder(a, b, w):
-    return (signed(a, w) - signed(divided(a, b, w), w) * signed(b, w)) % 2**w
+    x = signed(a, w)
+    y = signed(b, w)
+    quotient = signed(divided(a, b, w), w)
+    return (x - quotient * y) % 2**w
+
+
+def compared(a, b, w, compare):
+    is_true = compare(signed(a, w), signed(b, w))
+    return int(is_true)
+
+
+def shifted_with_sign(a, b, w):
+    return (signed(a, w) >> b % w) % 2**w
+
+
+def zeros_above(v, w):
+    return w - v.bit_length()
+
+
+def zeros_below(v, w):
+    lowest = v & -v
+    return lowest.bit_length() - 1 if v else w
+
+
+def ones(v):
+    return bin(v).count("1")
 
 
 def extended(v, n, w):
@@ -82,28 +110,20 @@ def extended(v, n, w):
 
 BINARY = dict(wasm.BINARY)
 UNARY = dict(wasm.UNARY)
+SIGNED_COMPARISONS = (operator.lt, operator.gt, operator.le, operator.ge)
 for first_comparison, first_arithmetic, first_unary, width in (
     (0x48, 0x6A, 0x67, 32),
     (0x53, 0x7C, 0x79, 64),
 ):
-    for place, compare in enumerate(
-        (operator.lt, operator.gt, operator.le, operator.ge)
-    ):
-        BINARY[first_comparison + 2 * place] = of_numbers(
-            lambda a, b, w=width, compare=compare: int(
-                compare(signed(a, w), signed(b, w))
-            )
-        )
+    for place, compare in enumerate(SIGNED_COMPARISONS):
+        function = partial(compared, w=width, compare=compare)
+        BINARY[first_comparison + 2 * place] = of_numbers(function)
     BINARY[first_arithmetic + 3] = of_numbers(partial(divided, w=width))
     BINARY[first_arithmetic + 5] = of_numbers(partial(remainder, w=width))
-    BINARY[first_arithmetic + 11] = of_numbers(
-        lambda a, b, w=width: (signed(a, w) >> b % w) % 2**w
-    )
-    UNARY[first_unary] = of_numbers(lambda v, w=width: w - v.bit_length())
-    UNARY[first_unary + 1] = of_numbers(
-        lambda v, w=width: (v & -v).bit_length() - 1 if v else w
-    )
-    UNARY[first_unary + 2] = of_numbers(lambda v: bin(v).count("1"))
+    BINARY[first_arithmetic + 11] = of_numbers(partial(shifted_with_sign, w=width))
+    UNARY[first_unary] = of_numbers(partial(zeros_above, w=width))
+    UNARY[first_unary + 1] = of_numbers(partial(zeros_below, w=width))
+    UNARY[first_unary + 2] = of_numbers(ones)
 UNARY[0xAC] = of_numbers(lambda v: extended(v, 32, 64))
 SIGNED_LOADS = {
     0x2C: (1, 32),
@@ -158,14 +178,18 @@ class Run(wasm.Run):
         self.aes = module.exports["ideal_aes"][1]
         self.schedules = {}
 
+    def is_memory(self, at, n):
+        end = self.module.heap + 16 * ROOM
+        return 0 < at <= at + n <= end
+
     def cells(self, path, at, n):
-        if not 0 < at <= at + n <= self.module.heap + 16 * ROOM:
+        if not self.is_memory(at, n):
             raise Refused(f"a load at {at:#x}")
         constants = self.module.constants
         return [path.memory.get(i, constants.get(i, 0)) for i in range(at, at + n)]
 
     def store(self, path, at, cells):
-        if not 0 < at <= at + len(cells) <= self.module.heap + 16 * ROOM:
+        if not self.is_memory(at, len(cells)):
             raise Refused(f"a store at {at:#x}")
         path.memory.update(enumerate(cells, at))
 
@@ -213,16 +237,19 @@ class Command:
         kek, input_, output, errors, lengths = range(at, at + 5 * ROOM, ROOM)
         memory = dict(enumerate(map(cell_of, self.kek), kek))
         memory.update(enumerate(map(cell_of, self.input), input_))
-        for i, n in enumerate((len(self.kek), len(self.input), ROOM, ROOM)):
+        rooms = (len(self.kek), len(self.input), ROOM, ROOM)
+        for i, n in enumerate(rooms):
             memory.update(enumerate(n.to_bytes(4, "little"), lengths + 4 * i))
+
+        def written(path, where, place):
+            """The bytes of a buffer whose length has this place among the lengths."""
+            n = run.place(path, run.load(path, lengths, 4 * place, 4))
+            return run.bytes(path, where, n)
+
         args = [self.number, self.module.planted, kek, input_, output, errors, lengths]
         for path, status in run.call("run", args, memory):
-            written = [
-                run.place(path, run.load(path, lengths, 4 * i, 4)) for i in (2, 3)
-            ]
-            yield path, run.place(path, status), *(
-                run.bytes(path, where, n) for where, n in zip((output, errors), written)
-            )
+            outputs = written(path, output, 2), written(path, errors, 3)
+            yield path, run.place(path, status), *outputs
 
     def check(self, wanted, branches):
         """Returns the exit statuses. Raises Refused if a path is wrong."""
