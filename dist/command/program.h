@@ -2,7 +2,7 @@
  * `make dist-sources` of the repository writes this file; do not edit it. */
 
 #define TOP 1048576u
-#define SIZE 1078954u
+#define SIZE 1079098u
 
 u32 host_fcntl(u32, u32, u64);
 u32 host_rattle_errno(void);

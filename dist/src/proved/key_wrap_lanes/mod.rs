@@ -1,7 +1,7 @@
 // Written by generate/erase.py from crates/key_wrap_lanes/src/lib.rt, which has the contracts.
 
-//! The steps of many wrappings and unwrappings at once, of as many bytes each: for an AES outside
-//! the program that works on many blocks side by side.
+//! The steps of many wrappings of one length at once, or of many unwrappings: for an AES outside the
+//! program that works on many blocks side by side.
 //!
 //! The texts follow each other in one buffer, and each has its block of 16 bytes in another.
 //! A text is 8 bytes and the registers. The calls of `key_wrap_core` for one text are made
@@ -9,8 +9,8 @@
 //! the length `text_len`, there are not as many texts as blocks (and statuses), or the number of
 //! steps is not one at which the call can be made.
 
-mod lane_turns;
 mod lanes;
+mod stepping;
 mod unwrap_many;
 mod wrap_many;
 

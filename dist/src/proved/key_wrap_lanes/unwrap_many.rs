@@ -2,8 +2,8 @@
 
 //! Unwrapping many texts of one length, step by step.
 
-use crate::proved::key_wrap_lanes::lane_turns::turn_lanes;
 use crate::proved::key_wrap_lanes::lanes::{BLOCK, lane_steps, lanes_ok};
+use crate::proved::key_wrap_lanes::stepping::step_lanes;
 use crate::proved::key_wrap_core::{InPlaceFault, InitialValue, WORD, register_before};
 use crate::proved::key_wrap_steps::{begin_unwrap, end_unwrap};
 
@@ -47,7 +47,7 @@ pub fn step_unwrap_many(
     let n = (text_len / WORD - 1) as u32;
     let own = (*left as u32 % n) as usize;
     let next = register_before(own, n as usize);
-    turn_lanes(texts, text_len, *left, own, next, blocks);
+    step_lanes(texts, text_len, *left, own, next, blocks);
     Ok(())
 }
 

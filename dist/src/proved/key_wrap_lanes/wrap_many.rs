@@ -2,8 +2,8 @@
 
 //! Wrapping many keys of one length, step by step.
 
-use crate::proved::key_wrap_lanes::lane_turns::turn_lanes;
 use crate::proved::key_wrap_lanes::lanes::{BLOCK, lane_steps, lanes_ok};
+use crate::proved::key_wrap_lanes::stepping::step_lanes;
 use crate::proved::key_wrap_core::{InPlaceFault, InitialValue, WORD, register_after};
 use crate::proved::key_wrap_steps::begin_wrap;
 
@@ -40,7 +40,7 @@ pub fn step_wrap_many(
     let own = (*done as u32 % n) as usize;
     *done += 1;
     let next = register_after(own, n as usize);
-    turn_lanes(texts, text_len, *done, own, next, blocks);
+    step_lanes(texts, text_len, *done, own, next, blocks);
     Ok(())
 }
 

@@ -8,8 +8,8 @@ mod unwrap_steps;
 mod wrap_steps;
 
 pub use rewrap_steps::{
-    RewrapNext, RewrapPhase, RewrapRequest, begin_rewrap, next_rewrap, next_rewrap_from, turn_new,
-    turn_old,
+    RewrapNext, RewrapPhase, RewrapRequest, begin_rewrap, end_unwrap_new, end_unwrap_old,
+    next_rewrap, next_rewrap_from,
 };
 pub use unwrap_steps::{
     begin_unwrap, begin_unwrap_padded, end_unwrap, end_unwrap_any, end_unwrap_padded, step_unwrap,

@@ -83,13 +83,13 @@ pub fn next_rewrap(
         return Err(InPlaceFault::BadLength);
     }
     match phase {
-        RewrapPhase::UnwrapOld => Ok(RewrapNext::Run(turn_old(&request.forms, text, block))),
+        RewrapPhase::UnwrapOld => Ok(RewrapNext::Run(end_unwrap_old(&request.forms, text, block))),
         RewrapPhase::WrapOld(fault) => {
             put_first(text, block);
             Ok(after_old(request, fault, text, steps, block))
         }
         RewrapPhase::UnwrapNew(fault) => {
-            let outcome = turn_new(&request.forms, fault, text, block);
+            let outcome = end_unwrap_new(&request.forms, fault, text, block);
             Ok(RewrapNext::Run(RewrapPhase::WrapNew(outcome)))
         }
         RewrapPhase::WrapNew(outcome) => {
@@ -115,7 +115,7 @@ pub fn next_rewrap_from(
         return Err(InPlaceFault::BadLength);
     }
     match phase {
-        RewrapPhase::UnwrapOld => match turn_old(&request.forms, text, block) {
+        RewrapPhase::UnwrapOld => match end_unwrap_old(&request.forms, text, block) {
             RewrapPhase::WrapOld(fault) => {
                 text.copy_from_slice(copy);
                 Ok(after_old(request, fault, text, steps, block))
@@ -123,7 +123,7 @@ pub fn next_rewrap_from(
             next => Ok(RewrapNext::Run(next)),
         },
         RewrapPhase::UnwrapNew(fault) => {
-            let outcome = turn_new(&request.forms, fault, text, block);
+            let outcome = end_unwrap_new(&request.forms, fault, text, block);
             text.copy_from_slice(copy);
             Ok(RewrapNext::Done(outcome))
         }
@@ -166,7 +166,7 @@ fn put_first(text: &mut [u8], block: &[u8; 16]) {
 
 /// Returns what follows the unwrapping under the old pair: what was found is wrapped under the new one if
 /// it is a key that fits, or else under the old one again. The block becomes the first one of that run.
-pub fn turn_old(forms: &RewrapForms, text: &[u8], block: &mut [u8; 16]) -> RewrapPhase {
+pub fn end_unwrap_old(forms: &RewrapForms, text: &[u8], block: &mut [u8; 16]) -> RewrapPhase {
     let found = BigEndian::read_u64(&block[..]);
     let registers = &text[WORD..];
     let difference = old_difference(forms, found, registers);
@@ -204,7 +204,7 @@ fn after_old(
 /// Returns the outcome after the unwrapping under the new pair of a text that has this fault: the text is
 /// new if a key was found. The block becomes the first one of a run that restores the text under the new
 /// pair. A text that is restored in another way needs no run.
-pub fn turn_new(
+pub fn end_unwrap_new(
     forms: &RewrapForms,
     fault: Refusal,
     text: &[u8],

@@ -5,7 +5,7 @@
 use crate::proved::keywrap_calls::rewrapping::request_of;
 use crate::proved::keywrap_calls::status::{ALREADY_NEW, BAD_LENGTH, DONE, INTEGRITY, KEY_NOT_PLAIN};
 use crate::proved::key_wrap_core::{Refusal, Rewrapped};
-use crate::proved::key_wrap_steps::{RewrapNext, RewrapPhase};
+use crate::proved::key_wrap_steps::{RewrapNext, RewrapPhase, RewrapRequest};
 
 /// Begins to rewrap the wrapped key in `text`, as `rewrap` does: `*phase` is the operation of the first
 /// run, `*steps` its number of steps, and `block` the first block for the operation.
@@ -43,16 +43,13 @@ pub fn next_rewrap(
     steps: &mut u64,
     block: &mut [u8; 16],
 ) -> i32 {
-    let run = phase_of(*phase);
+    let found = run_of(flags, *phase);
     *phase = 0;
-    let request = if let Some(request) = request_of(flags) { request } else {
-        return BAD_LENGTH;
-    };
-    let run = if let Some(run) = run { run } else {
+    let (request, run) = if let Some((request, run)) = found { (request, run) } else {
         return BAD_LENGTH;
     };
     match crate::proved::key_wrap_steps::next_rewrap(&request, run, text, steps, block) {
-        Ok(next) => tell(next, phase),
+        Ok(next) => report_next(next, phase),
         Err(_) => BAD_LENGTH,
     }
 }
@@ -69,22 +66,19 @@ pub fn next_rewrap_from(
     steps: &mut u64,
     block: &mut [u8; 16],
 ) -> i32 {
-    let run = phase_of(*phase);
+    let found = run_of(flags, *phase);
     *phase = 0;
-    let request = if let Some(request) = request_of(flags) { request } else {
-        return BAD_LENGTH;
-    };
-    let run = if let Some(run) = run { run } else {
+    let (request, run) = if let Some((request, run)) = found { (request, run) } else {
         return BAD_LENGTH;
     };
     match crate::proved::key_wrap_steps::next_rewrap_from(&request, run, copy, text, steps, block) {
-        Ok(next) => tell(next, phase),
+        Ok(next) => report_next(next, phase),
         Err(_) => BAD_LENGTH,
     }
 }
 
 // Writes the number of the next phase, or 0, and returns the status.
-fn tell(next: RewrapNext, phase: &mut u32) -> i32 {
+fn report_next(next: RewrapNext, phase: &mut u32) -> i32 {
     match next {
         RewrapNext::Run(run) => {
             *phase = number_of(run);
@@ -95,6 +89,13 @@ fn tell(next: RewrapNext, phase: &mut u32) -> i32 {
             i32::from(outcome_byte(outcome))
         }
     }
+}
+
+// What the flags request, and the phase of the number.
+fn run_of(flags: u32, number: u32) -> Option<(RewrapRequest, RewrapPhase)> {
+    let request = request_of(flags)?;
+    let run = phase_of(number)?;
+    Some((request, run))
 }
 
 // The number of a phase.

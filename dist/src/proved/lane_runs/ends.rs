@@ -12,8 +12,8 @@ pub(crate) const DONE: u8 = 0;
 // The status of a text that is no wrapped key.
 pub(crate) const INTEGRITY: u8 = 5;
 
-// Ends each unwrapping of a turn.
-pub(crate) fn end_turn(
+// Ends each unwrapping of a batch.
+pub(crate) fn end_batch(
     form: Form,
     texts: &mut [u8],
     text_len: usize,

@@ -23,10 +23,10 @@ pub fn kind_texts<B: BlockLanes>(
     let mut blocks = [0; BLOCK * LANES];
     let mut copies = [0; MAX_COPIED * LANES];
     let count = statuses.len();
-    for turn in 0..count / LANES + 1 {
-        let first = LANES * turn;
+    for batch in 0..count / LANES + 1 {
+        let first = LANES * batch;
         let last = count.min(first + LANES);
-        kind_turn(
+        kind_batch(
             pair,
             &texts[text_len * first..text_len * last],
             text_len,
@@ -39,8 +39,8 @@ pub fn kind_texts<B: BlockLanes>(
     }
 }
 
-// Finds the form of each text of a turn, over copies. These and the blocks become zeros.
-fn kind_turn<B: BlockLanes>(
+// Finds the form of each text of a batch, over copies. These and the blocks become zeros.
+fn kind_batch<B: BlockLanes>(
     pair: &B,
     texts: &[u8],
     text_len: usize,
@@ -57,7 +57,7 @@ fn kind_turn<B: BlockLanes>(
     blocks.fill(0);
 }
 
-// Ends each unwrapping of a turn.
+// Ends each unwrapping of a batch.
 fn end_kinds(
     texts: &mut [u8],
     text_len: usize,

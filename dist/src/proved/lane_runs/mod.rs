@@ -20,5 +20,5 @@ pub use wraps::wrap_texts;
 /// The length of the longest texts that `kind_texts` and `rewrap_texts` take, which copy them.
 pub const MAX_COPIED: usize = 264;
 
-// The texts of one turn: six groups of 8 blocks, for an AES that works on 8 at once.
+// The texts of a batch: six groups of 8 blocks, for an AES that works on 8 at once.
 const LANES: usize = 48;

@@ -8,7 +8,7 @@ use crate::proved::lane_runs::unwraps::undo_lanes;
 use crate::proved::lane_runs::{LANES, MAX_COPIED};
 use crate::proved::block_lanes::{BLOCK, BlockLanes};
 use crate::proved::key_wrap_core::{Refusal, RewrapForms, Rewrapped, WORD};
-use crate::proved::key_wrap_steps::{RewrapPhase, RewrapRequest, turn_new, turn_old};
+use crate::proved::key_wrap_steps::{RewrapPhase, RewrapRequest, end_unwrap_new, end_unwrap_old};
 
 // The place of a lane that is not wrapped under the new pair.
 const NOWHERE: usize = LANES;
@@ -31,10 +31,10 @@ pub fn rewrap_texts<O: BlockLanes, N: BlockLanes>(
     let mut blocks = [0; BLOCK * LANES];
     let mut places = [0; LANES];
     let count = statuses.len();
-    for turn in 0..count / LANES + 1 {
-        let first = LANES * turn;
+    for batch in 0..count / LANES + 1 {
+        let first = LANES * batch;
         let last = count.min(first + LANES);
-        rewrap_turn(
+        rewrap_batch(
             old,
             new,
             request,
@@ -48,8 +48,8 @@ pub fn rewrap_texts<O: BlockLanes, N: BlockLanes>(
     }
 }
 
-// Rewraps each text of a turn. The lanes and the blocks become zeros.
-fn rewrap_turn<O: BlockLanes, N: BlockLanes>(
+// Rewraps each text of a batch. The lanes and the blocks become zeros.
+fn rewrap_batch<O: BlockLanes, N: BlockLanes>(
     old: &O,
     new: &N,
     request: &RewrapRequest,
@@ -62,7 +62,7 @@ fn rewrap_turn<O: BlockLanes, N: BlockLanes>(
 ) {
     lanes.copy_from_slice(texts);
     undo_lanes(old, lanes, text_len, blocks);
-    let wrapped = turn_lanes(&request.forms, lanes, text_len, blocks, places, statuses);
+    let wrapped = place_lanes(&request.forms, lanes, text_len, blocks, places, statuses);
     make_steps(
         new,
         &mut lanes[..text_len * wrapped],
@@ -70,7 +70,7 @@ fn rewrap_turn<O: BlockLanes, N: BlockLanes>(
         &mut blocks[..BLOCK * wrapped],
     );
     put_lanes(texts, text_len, lanes, blocks, places, wrapped);
-    pass_turn(
+    pass_batch(
         new, request, texts, text_len, lanes, blocks, places, wrapped, statuses,
     );
     lanes.fill(0);
@@ -79,7 +79,7 @@ fn rewrap_turn<O: BlockLanes, N: BlockLanes>(
 
 // Ends the unwrapping of each lane under the old pair. The lanes whose keys fit come to the front, ready
 // to be wrapped under the new pair, each at its place. Returns how many they are.
-fn turn_lanes(
+fn place_lanes(
     forms: &RewrapForms,
     lanes: &mut [u8],
     text_len: usize,
@@ -91,7 +91,7 @@ fn turn_lanes(
     for lane in 0..statuses.len() {
         let start = text_len * lane;
         let place = BLOCK * lane;
-        let (fits, status) = turn_lane(
+        let (fits, status) = end_old_lane(
             forms,
             &lanes[start..start + text_len],
             &mut blocks[place..place + BLOCK],
@@ -111,10 +111,10 @@ fn turn_lanes(
 
 // Ends the unwrapping of one lane under the old pair. Returns whether its key fits, and its status. The
 // block becomes the first one of the wrapping under the new pair.
-fn turn_lane(forms: &RewrapForms, lane: &[u8], block: &mut [u8]) -> (bool, u8) {
+fn end_old_lane(forms: &RewrapForms, lane: &[u8], block: &mut [u8]) -> (bool, u8) {
     let mut last = [0; BLOCK];
     last.copy_from_slice(block);
-    match turn_old(forms, lane, &mut last) {
+    match end_unwrap_old(forms, lane, &mut last) {
         RewrapPhase::WrapNew(outcome) => {
             block.copy_from_slice(&last);
             (true, status_of(outcome))
@@ -175,7 +175,7 @@ fn put_lane(text: &mut [u8], lane: &[u8], block: &[u8]) {
 
 // The texts that were refused for their integrity may be new already. Unwraps each under the new pair, if
 // that was requested, and gives those that are new their status.
-fn pass_turn<B: BlockLanes>(
+fn pass_batch<B: BlockLanes>(
     new: &B,
     request: &RewrapRequest,
     texts: &[u8],
@@ -266,5 +266,5 @@ fn pass_lanes(
 fn pass_lane(forms: &RewrapForms, lane: &[u8], block: &[u8]) -> u8 {
     let mut last = [0; BLOCK];
     last.copy_from_slice(block);
-    status_of(turn_new(forms, Refusal::Integrity, lane, &mut last))
+    status_of(end_unwrap_new(forms, Refusal::Integrity, lane, &mut last))
 }

@@ -6,7 +6,7 @@ use crate::proved::block_lanes::BlockLanes;
 use crate::proved::key_wrap_core::{WORD, step_count};
 use crate::proved::key_wrap_lanes::{step_unwrap_many, step_wrap_many};
 
-// Makes all steps of wrappings that have begun. The first 8 bytes of each text stay as they are.
+// Makes all steps of wrappings that have begun.
 pub(crate) fn make_steps<B: BlockLanes>(
     pair: &B,
     texts: &mut [u8],
@@ -20,7 +20,7 @@ pub(crate) fn make_steps<B: BlockLanes>(
     }
 }
 
-// Undoes all steps of unwrappings that have begun. The first 8 bytes of each text stay as they are.
+// Undoes all steps of unwrappings that have begun.
 pub(crate) fn undo_steps<B: BlockLanes>(
     pair: &B,
     texts: &mut [u8],

@@ -3,7 +3,7 @@
 //! Whole unwrappings of many texts.
 
 use crate::proved::lane_runs::LANES;
-use crate::proved::lane_runs::ends::end_turn;
+use crate::proved::lane_runs::ends::end_batch;
 use crate::proved::lane_runs::steps::undo_steps;
 use crate::proved::block_lanes::{BLOCK, BlockLanes};
 use crate::proved::key_wrap_core::Form;
@@ -22,10 +22,10 @@ pub fn unwrap_texts<B: BlockLanes>(
 ) {
     let mut blocks = [0; BLOCK * LANES];
     let count = statuses.len();
-    for turn in 0..count / LANES + 1 {
-        let first = LANES * turn;
+    for batch in 0..count / LANES + 1 {
+        let first = LANES * batch;
         let last = count.min(first + LANES);
-        unwrap_turn(
+        unwrap_batch(
             pair,
             form,
             &mut texts[text_len * first..text_len * last],
@@ -37,8 +37,8 @@ pub fn unwrap_texts<B: BlockLanes>(
     }
 }
 
-// Unwraps each text of a turn. The blocks become zeros.
-fn unwrap_turn<B: BlockLanes>(
+// Unwraps each text of a batch. The blocks become zeros.
+fn unwrap_batch<B: BlockLanes>(
     pair: &B,
     form: Form,
     texts: &mut [u8],
@@ -48,7 +48,7 @@ fn unwrap_turn<B: BlockLanes>(
     statuses: &mut [u8],
 ) {
     undo_lanes(pair, texts, text_len, blocks);
-    end_turn(form, texts, text_len, blocks, key_lens, statuses);
+    end_batch(form, texts, text_len, blocks, key_lens, statuses);
     blocks.fill(0);
 }
 

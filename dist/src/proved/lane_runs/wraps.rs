@@ -20,11 +20,11 @@ pub fn wrap_texts<B: BlockLanes>(
     count: usize,
 ) {
     let mut blocks = [0; BLOCK * LANES];
-    for turn in 0..count / LANES + 1 {
-        let first = LANES * turn;
+    for batch in 0..count / LANES + 1 {
+        let first = LANES * batch;
         let last = count.min(first + LANES);
         let lanes = &mut texts[text_len * first..text_len * last];
-        wrap_turn(
+        wrap_batch(
             pair,
             form,
             key_len,
@@ -35,8 +35,8 @@ pub fn wrap_texts<B: BlockLanes>(
     }
 }
 
-// Wraps the key in each text of a turn.
-fn wrap_turn<B: BlockLanes>(
+// Wraps the key in each text of a batch.
+fn wrap_batch<B: BlockLanes>(
     pair: &B,
     form: Form,
     key_len: usize,

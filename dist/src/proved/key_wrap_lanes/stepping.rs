@@ -1,4 +1,4 @@
-// Written by generate/erase.py from crates/key_wrap_lanes/src/lane_turns.rt, which has the contracts.
+// Written by generate/erase.py from crates/key_wrap_lanes/src/stepping.rt, which has the contracts.
 
 //! One step of each lane, made or undone.
 
@@ -6,8 +6,9 @@ use crate::proved::key_wrap_lanes::lanes::BLOCK;
 use crate::byteorder::{BigEndian, ByteOrder};
 use crate::proved::key_wrap_core::WORD;
 
-// Turns each lane, with the counter and the numbers of the two registers that all lanes share.
-pub(crate) fn turn_lanes(
+// Makes or undoes a step of each lane, with the counter and the numbers of the two registers that all
+// lanes share.
+pub(crate) fn step_lanes(
     texts: &mut [u8],
     text_len: usize,
     counter: u64,
@@ -18,7 +19,7 @@ pub(crate) fn turn_lanes(
     for lane in 0..blocks.len() / BLOCK {
         let start = text_len * lane;
         let place = BLOCK * lane;
-        turn_lane(
+        step_lane(
             &mut texts[start..start + text_len],
             counter,
             own,
@@ -28,16 +29,22 @@ pub(crate) fn turn_lanes(
     }
 }
 
-// Turns one lane.
+// Makes or undoes a step of one lane.
 #[inline(always)]
-fn turn_lane(text: &mut [u8], counter: u64, own: usize, next: usize, block: &mut [u8]) {
-    turn_registers(&mut text[WORD..], counter, own, next, block);
+fn step_lane(text: &mut [u8], counter: u64, own: usize, next: usize, block: &mut [u8]) {
+    step_lane_registers(&mut text[WORD..], counter, own, next, block);
 }
 
-// Turns the registers of a lane. Words are read before they are written: of a copy from one slice to
-// another the compiler tests whether the two overlap.
+// Makes or undoes a step of these registers. Words are read before they are written: of a copy from
+// one slice to another the compiler tests whether the two overlap.
 #[inline(always)]
-fn turn_registers(registers: &mut [u8], counter: u64, own: usize, next: usize, block: &mut [u8]) {
+fn step_lane_registers(
+    registers: &mut [u8],
+    counter: u64,
+    own: usize,
+    next: usize,
+    block: &mut [u8],
+) {
     let a = BigEndian::read_u64(block) ^ counter;
     let half = BigEndian::read_u64(&block[WORD..]);
     let place = WORD * own;
