@@ -79,10 +79,10 @@ def translated(wasm):
         subprocess.run([WASM2C, "-n", "keywrap", wasm, "-o", out], check=True)
         text = out.read_text()
     check_imports(text)
-    # The two globals that the module exports for keywrap.js have no names here.
     names = {
         "Z_keywrap_instance_t* ": "struct instance *",
         "Z_keywrap_instance_t*": "struct instance *",
+        # The module exports these two globals for keywrap.js. The runtime has them by their numbers.
         "w2c___stack_pointer": "w2c_g0",
         "w2c___in_call": "w2c_g1",
     }

@@ -1,5 +1,5 @@
 """A shared object for x86-64 in memory, as the dynamic loader puts it there: by program headers and the dynamic
-section. Nothing is read from sections."""
+section. The table of sections is not read."""
 
 import enum
 import struct
