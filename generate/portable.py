@@ -46,7 +46,7 @@ STEPS = {
 WHOLE_ONLY, WITH_AES = "#ifndef KEYWRAP_STEPS_ONLY\n", "#ifdef WITH_AES\n"
 # The processor's AES, in the order in which one file can have it.
 AES = ["c/aes/aes.h", "c/aes/x86_64.c", "c/aes/aarch64.c", "c/aes/aes.c"]
-# Headers that a file with them includes before.
+# Headers that keywrap.c and the command's aes.c include themselves.
 INCLUDED = r"aes\.h|std(?:int|def)\.h|string\.h"
 
 
@@ -408,7 +408,8 @@ def processor_aes(leaves):
         text = (ROOT / name).read_text()
         text = re.sub(rf"^#include [\"<](?:{INCLUDED})[\">]\n", "", text, flags=re.M)
         if name.endswith(".h"):
-            # A compiler that sees the round keys of an inlined function would keep copies of them on the stack.
+            # A definition is static if its prototype is. It stays apart: a compiler that sees the round keys of
+            # an inlined function would keep copies of them on the stack.
             text = re.sub(
                 r"^(?=(?:bool|void) \w+\()", "static APART ", text, flags=re.M
             )

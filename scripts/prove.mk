@@ -9,7 +9,8 @@
 #
 # CRATES are the crates below the goals that have a directory here, ARCHIVES the goals that are archives, and JOBS is
 # the greatest number of jobs of rattle. The directory LOGS, of the environment, gets the output for crates/NAME:
-# NAME.log while rattle works on it and if it fails, and NAME.proved afterwards.
+# NAME.log while rattle works on it and if it fails, which prove.sh prints, and NAME.proved afterwards: `ls` shows how
+# far a long run is.
 #
 # Rattle's own compiler compiles the program: clang takes a minute and a half, and the result is not faster. The gate
 # runs both.
@@ -103,6 +104,7 @@ $(changed):
 	@mv "$$LOGS/$@.sums" $(kept)
 	$(is_proved)
 
+# What has not changed since it was proved.
 $(filter-out $(changed),$(CRATES) $(ARCHIVES)):
 	@: >"$$LOGS/$@.proved"
 

@@ -325,33 +325,33 @@ def is_slot_length(call, flags, length):
 
 
 def due_of_slots(call, flags, slots):
-    """The statuses and the outputs of a call for many keys. `slots` has the content of each, and what is due of a call
-    for that one key. `flags` is None for a call that has none."""
+    """The statuses and the outputs of a call for many keys. `slots` has the content of each, at least one, and what is
+    due of a call for that one key. `flags` is None for a call that has none."""
     contents = [content for content, _ in slots]
-    alone = [found for _, found in slots]
+    alone = [due for _, due in slots]
     if alone[0]["status"] == Status.BAD_KEK:
         return {"status": Status.BAD_KEK}
     if flags is not None and not are_flags(call, flags):
         return {"status": Status.BAD_LENGTH}
     if not is_slot_length(call, flags, len(contents[0])):
         return {"status": Status.BAD_LENGTH}
-    out = [slot_after(call, content, found) for content, found in slots]
+    outputs = [slot_after(call, content, due) for content, due in slots]
     return {
         "status": Status.OK,
-        "statuses": [slot_status(found) for found in alone],
-        "out": out,
-        "lens": [found.get("len", len(key)) for found, key in zip(alone, out)],
-        "forms": [found.get("form", 0) for found in alone],
-        "already": [found.get("already", 0) for found in alone],
+        "statuses": [slot_status(due) for due in alone],
+        "out": outputs,
+        "lens": [due.get("len", len(output)) for due, output in zip(alone, outputs)],
+        "forms": [due.get("form", 0) for due in alone],
+        "already": [due.get("already", 0) for due in alone],
     }
 
 
-def slot_status(found):
-    return Status.ALREADY_NEW if found.get("already") else found["status"]
+def slot_status(due):
+    return Status.ALREADY_NEW if due.get("already") else due["status"]
 
 
-def slot_after(call, content, found):
+def slot_after(call, content, due):
     """The content of a slot after the call. A refused slot has none, but a rewrap leaves it as it was."""
-    if found["status"] == Status.OK or call == "rewrap_many":
-        return found.get("out", content)
+    if due["status"] == Status.OK or call == "rewrap_many":
+        return due.get("out", content)
     return b""

@@ -63,7 +63,7 @@ class LongCall(Call):
         return self
 
     def wraps(self, kek, a, registers, offset):
-        """The standard wraps these registers. `a` is the initial value, or makes it when the run begins."""
+        """The standard wraps these registers. `a` is the initial value, or a function that `begun` calls to make it."""
         self.processes.append((kek, a, registers, offset, False))
         return self
 
@@ -74,7 +74,9 @@ class LongCall(Call):
 
     def begun(self):
         """Makes what the standard begins with, under the facts of the call."""
-        for k in range(8):  # numbers are older than what is compared with them
+        # Of an equation the youngest unknown is replaced. So the bytes of a number are made first, and the bytes that
+        # are compared with them afterwards.
+        for k in range(8):
             if Facts.now.proves(n - 1):
                 lengths.as_bytes(8 * n - k)
         self.processes = [

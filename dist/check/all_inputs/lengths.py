@@ -388,7 +388,9 @@ class Write(NamedTuple):
 
 
 class Content:
-    """The bytes of an array: writes over the bytes that it had before, which may have any value."""
+    """The bytes of an array: writes over the bytes that it had when the call began, which may have any value. The name
+    `origin` stands for these. An origin that no array has stands for bytes that nobody may read.
+    """
 
     def __init__(self, origin, writes=()):
         self.origin = origin
@@ -407,16 +409,17 @@ class Content:
         return self.with_(Write(offset, size, byte=byte))
 
     def cells(self, offset, n):
-        """Returns n cells."""
+        """Returns n cells, from the newest write that has them."""
         for write in reversed(self.writes):
-            before = plus(plus(write.offset, times(offset, -1)), -n)
-            after = plus(offset, times(plus(write.offset, write.size), -1))
-            if Facts.now.proves(before) or Facts.now.proves(after):
+            ends_before = plus(plus(write.offset, times(offset, -1)), -n)
+            begins_after = plus(offset, times(plus(write.offset, write.size), -1))
+            if Facts.now.proves(ends_before) or Facts.now.proves(begins_after):
                 continue
             inside = plus(offset, times(write.offset, -1))
             room = plus(plus(write.size, times(inside, -1)), -n)
             if not (Facts.now.decides(inside) and Facts.now.decides(room)):
-                if n == 1:  # before or after it, as the facts decide now
+                # One byte that is not inside is outside. If the facts left this open, `decides` raised Undecided.
+                if n == 1:
                     continue
                 return [c for k in range(n) for c in self.cells(plus(offset, k), 1)]
             if write.content is not None:

@@ -154,6 +154,7 @@ def contradict(sums):
         if not rows:
             return False
         name = cheapest(rows)
+        # A row is at least 0. So with a negative factor it bounds the unknown from above, and else from below.
         upper = [row for row in rows if row[1].get(name, 0) < 0]
         lower = [row for row in rows if row[1].get(name, 0) > 0]
         rest = [row for row in rows if not row[1].get(name)]
@@ -175,7 +176,7 @@ def cheapest(rows):
         found = [factors[name] for _, factors in rows if name in factors]
         upper = sum(k < 0 for k in found)
         lower = len(found) - upper
-        # Rounding is of use where an unknown with large factors is left: 8u - 8m >= 1.
+        # An unknown with large factors is eliminated last: then a row like 8u - 8m >= 1 is rounded, to u - m >= 1.
         return max(map(abs, found)) > 1, upper * lower - upper - lower
 
     return min(names, key=cost)
