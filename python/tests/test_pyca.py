@@ -53,10 +53,10 @@ def test_kek_lengths_and_lengths(name):
         kek = rng.randbytes(kek_length)
         for length in range(0, 73):
             given = rng.randbytes(length)
-            if not is_ours_alone(name, given):
-                assert ended(ours, name, kek, given) == ended(
-                    theirs, name, kek, given
-                ), (kek_length, length)
+            if is_ours_alone(name, given):
+                continue
+            expected = ended(theirs, name, kek, given)
+            assert ended(ours, name, kek, given) == expected, (kek_length, length)
 
 
 @pytest.mark.parametrize("name", CALLS)
@@ -71,29 +71,33 @@ def test_messages_contain_theirs(name):
                 refused.add(words)
                 assert words in message_of(ours, name, *given), (kek_length, length)
     # A wrapping key's length, and of the plain form two lengths of key, of the padded one of a wrapped key.
-    assert len(refused - {""}) == {
+    count_of_padded = {
         "aes_key_wrap_with_padding": 1,
         "aes_key_unwrap_with_padding": 2,
-    }.get(name, 3)
+    }
+    assert len(refused - {""}) == count_of_padded.get(name, 3)
+
+
+REFUSED_BY_OURS = [
+    ("aes_key_wrap_with_padding", 0, "ValueError"),
+    ("aes_key_unwrap_with_padding", 17, "InvalidUnwrap"),
+    ("aes_key_wrap", 1048584, "ValueError"),
+    ("aes_key_wrap_with_padding", 1048577, "ValueError"),
+    ("aes_key_unwrap", 1048592, "InvalidUnwrap"),
+    ("aes_key_unwrap_with_padding", 1048592, "InvalidUnwrap"),
+]
 
 
 def test_what_ours_alone_refuses():
-    kek = bytes(16)
-    assert ended(ours, "aes_key_wrap_with_padding", kek, b"") == "ValueError"
-    assert ended(ours, "aes_key_unwrap_with_padding", kek, bytes(17)) == "InvalidUnwrap"
-    assert ended(ours, "aes_key_wrap", kek, bytes(1048584)) == "ValueError"
-    assert ended(ours, "aes_key_wrap_with_padding", kek, bytes(1048577)) == "ValueError"
-    assert ended(ours, "aes_key_unwrap", kek, bytes(1048592)) == "InvalidUnwrap"
-    assert (
-        ended(ours, "aes_key_unwrap_with_padding", kek, bytes(1048592))
-        == "InvalidUnwrap"
-    )
+    for name, length, error in REFUSED_BY_OURS:
+        assert ended(ours, name, bytes(16), bytes(length)) == error, (name, length)
 
 
 def damaged(wrapped):
     """The wrapped key with a random bit changed, without its first register, and with one register more."""
     changed = bytearray(wrapped)
-    changed[rng.randrange(len(wrapped))] ^= 1 << rng.randrange(8)
+    at = rng.randrange(len(wrapped))
+    changed[at] ^= 1 << rng.randrange(8)
     return bytes(changed), wrapped[8:], wrapped + bytes(8)
 
 
@@ -140,6 +144,7 @@ def test_takes_the_backend_and_names(name):
         parameter = "wrapped_key"
         given = wrap(bytes(16), given)
     answer = getattr(theirs, name)(bytes(16), given)
+    call = getattr(ours, name)
     named = {"wrapping_key": bytes(16), parameter: given, "backend": None}
-    assert getattr(ours, name)(**named) == answer
-    assert getattr(ours, name)(bytes(16), given, object()) == answer
+    assert call(**named) == answer
+    assert call(bytes(16), given, object()) == answer

@@ -25,6 +25,14 @@ def text_of(name):
         return file.read().decode()
 
 
+def run(*arguments):
+    """Runs the command. Returns the status and both outputs."""
+    ended = subprocess.run(
+        [sys.executable, "-m", "keywrap.vectors", *arguments], capture_output=True
+    )
+    return ended.returncode, ended.stdout.decode(), ended.stderr.decode()
+
+
 class Files:
     """Runs the command over files."""
 
@@ -37,10 +45,7 @@ class Files:
         """Runs the command over files of these names and texts. Returns the status and both outputs."""
         for name, text in texts.items():
             (self.workdir / name).write_bytes(text.encode())
-        ended = subprocess.run(
-            [sys.executable, "-m", "keywrap.vectors", *texts], capture_output=True
-        )
-        return ended.returncode, ended.stdout.decode(), ended.stderr.decode()
+        return run(*texts)
 
 
 class TestCavp(Files):
@@ -49,19 +54,26 @@ class TestCavp(Files):
     @pytest.mark.parametrize("name", FILES)
     def test_response_to_cavp(self, name):
         text = text_of(f"kwtestvectors/{name}.txt")
-        answer = r"^(P = \w+|FAIL)\r?\n" if "AD" in name else r"^C = \w+\r?\n"
+        answer = r"^C = \w+\r?\n"
+        if "AD" in name:
+            answer = r"^(P = \w+|FAIL)\r?\n"
         request = re.sub(answer, "", text, flags=re.M)
         assert request.count("COUNT") == 500
         assert len(request) < len(text)
-        assert self.command(request=request) == (0, text, "")
+        ended = self.command(request=request)
+        assert ended == (0, text, "")
+
         # The last line of a file may have no end.
-        status, out, err = self.command(request=request.rstrip())
-        assert (status, out.rstrip(), err) == (0, text.rstrip(), "")
+        ended_early = request.rstrip()
+        status, out, err = self.command(request=ended_early)
+        assert (status, err) == (0, "")
+        assert out.rstrip() == text.rstrip()
 
     def test_right_file(self):
         right = text_of("kwtestvectors/KWP_AD_192.txt")
         counts = "500 cases: 400 answered, 100 refused, 0 of them acceptable, 0 wrong"
-        assert self.command(file=right) == (0, f"file: {counts}\n", "")
+        ended = self.command(file=right)
+        assert ended == (0, f"file: {counts}\n", "")
 
     @pytest.mark.parametrize(
         "value, counts",
@@ -80,7 +92,8 @@ class TestCavp(Files):
         )
         case = with_key.search(right, right.index(section))
         at = case.start(value)
-        other_digit = f"{int(right[at], 16) ^ 1:x}"
+        digit = int(right[at], 16)
+        other_digit = f"{digit ^ 1:x}"
         wrong = right[:at] + other_digit + right[at + 1 :]
 
         status, out, err = self.command(file=wrong)
@@ -90,33 +103,31 @@ class TestCavp(Files):
         assert err == f"keywrap.vectors: file: {name}: wrong answer of unwrap_padded\n"
 
     @pytest.mark.parametrize(
-        "name", ["KW_AE_128_inv", "KWP_AD_256_inv", "TKW_AE", "Readme"]
+        "name, message",
+        [
+            ("KW_AE_128_inv", " function is not offered\n"),
+            ("KWP_AD_256_inv", " function is not offered\n"),
+            ("TKW_AE", " function is not offered\n"),
+            ("Readme", "file: not a file of vectors"),
+        ],
+        ids=["KW_AE_128_inv", "KWP_AD_256_inv", "TKW_AE", "Readme"],
     )
-    def test_not_offered(self, name):
-        status, out, err = self.command(file=text_of(f"kwtestvectors/{name}.txt"))
+    def test_not_offered(self, name, message):
+        text = text_of(f"kwtestvectors/{name}.txt")
+        status, out, err = self.command(file=text)
         assert (status, out) == (2, "")
-        assert (
-            "file: not a file of vectors"
-            if name == "Readme"
-            else " function is not offered\n"
-        ) in err
+        assert message in err
 
     def test_usage(self):
-        assert self.command()[:2] == (2, "")
-        assert self.command(file='{"algorithm": "KW", "testGroups": []}') == (
-            2,
-            "",
-            "keywrap.vectors: file: no cases\n",
-        )
-        ended = subprocess.run(
-            [sys.executable, "-m", "keywrap.vectors", "missing"], capture_output=True
-        )
-        assert (ended.returncode, ended.stdout) == (6, b"")
-        ended = subprocess.run(
-            [sys.executable, "-m", "keywrap.vectors", "--help"], capture_output=True
-        )
-        assert ended.returncode == 0
-        assert b"Exit status" in ended.stdout
+        status, out, _ = run()
+        assert (status, out) == (2, "")
+        ended = self.command(file='{"algorithm": "KW", "testGroups": []}')
+        assert ended == (2, "", "keywrap.vectors: file: no cases\n")
+        status, out, _ = run("missing")
+        assert (status, out) == (6, "")
+        status, out, _ = run("--help")
+        assert status == 0
+        assert "Exit status" in out
 
 
 class TestAcvp(Files):
@@ -185,11 +196,10 @@ class TestAcvp(Files):
     )
     def test_wrong_response(self, case, right, wrong):
         response = json.dumps(self.RESPONSE).replace(right, wrong)
-        assert self.command(request=self.REQUEST, response=response) == (
-            5,
-            self.COUNTS.format(1),
-            f"keywrap.vectors: request: tcId {case}: wrong answer of unwrap_padded\n",
-        )
+        status, out, err = self.command(request=self.REQUEST, response=response)
+        assert (status, out) == (5, self.COUNTS.format(1))
+        name = f"request: tcId {case}"
+        assert err == f"keywrap.vectors: {name}: wrong answer of unwrap_padded\n"
 
     def test_response_alone(self):
         status, _, _ = self.command(response=json.dumps(self.RESPONSE))
@@ -219,7 +229,8 @@ class TestAcvp(Files):
         request = self.REQUEST.replace(cipher, inverse, 1)
         refusal = "KWP with kwCipher inverse is not offered"
         message = f"keywrap.vectors: request: {refusal}\n"
-        assert self.command(request=request) == (2, "", message)
+        ended = self.command(request=request)
+        assert ended == (2, "", message)
 
 
 class TestWycheproof(Files):
@@ -248,12 +259,12 @@ class TestWycheproof(Files):
         return json.dumps({"algorithm": "KWP", "testGroups": [{"tests": tests}]})
 
     def test_right_file(self):
-        assert self.command(file=self.file_of(self.TESTS)) == (
-            0,
+        status, out, err = self.command(file=self.file_of(self.TESTS))
+        assert (status, err) == (0, "")
+        assert out == (
             "file: tcId 3 SmallKey: unwrap_padded refuses it; acceptable\n"
             "file: tcId 3 SmallKey: wrap_padded refuses it; acceptable\n"
-            "file: 9 cases: 4 answered, 5 refused, 2 of them acceptable, 0 wrong\n",
-            "",
+            "file: 9 cases: 4 answered, 5 refused, 2 of them acceptable, 0 wrong\n"
         )
 
     @pytest.mark.parametrize(
@@ -261,7 +272,8 @@ class TestWycheproof(Files):
     )
     def test_wrong_verdict(self, right, wrong):
         text = self.file_of(self.TESTS)
-        status, _, _ = self.command(file=text.replace(right, wrong), right=text)
+        wrong_text = text.replace(right, wrong)
+        status, _, _ = self.command(file=wrong_text, right=text)
         assert status == 5
 
     def test_acceptable_case_with_another_answer(self):
@@ -273,4 +285,5 @@ class TestWycheproof(Files):
             "result": "acceptable",
         }
         status, out, _ = self.command(file=self.file_of([other]))
-        assert (status, out.split(", ")[-1]) == (5, "2 wrong\n")
+        assert status == 5
+        assert out.endswith(", 2 wrong\n")
