@@ -18,6 +18,7 @@ from keywrap import pyca, steps
 KEK = bytes(range(16))
 KEY = bytes.fromhex("00112233445566778899aabbccddeeff")
 WRAPPED = keywrap.wrap(KEK, KEY)
+WRAPPED_PADDED = keywrap.wrap_padded(KEK, KEY)
 
 
 class Liar(bytes):
@@ -57,77 +58,80 @@ CALLS = [
     (keywrap.wrap, (KEK, KEY, b"\xa6" * 8), WRAPPED),
     (keywrap.unwrap, (KEK, WRAPPED), KEY),
     (keywrap.unwrap, (KEK, WRAPPED, b"\xa6" * 8), KEY),
-    (keywrap.wrap_padded, (KEK, KEY), keywrap.wrap_padded(KEK, KEY)),
-    (keywrap.unwrap_padded, (KEK, keywrap.wrap_padded(KEK, KEY)), KEY),
+    (keywrap.wrap_padded, (KEK, KEY), WRAPPED_PADDED),
+    (keywrap.unwrap_padded, (KEK, WRAPPED_PADDED), KEY),
     (keywrap.unwrap_any, (KEK, WRAPPED), (KEY, keywrap.Kind.PLAIN)),
     (keywrap.rewrap, (KEK, KEK, WRAPPED), WRAPPED),
     (keywrap.check, (KEK, WRAPPED), keywrap.Kind.PLAIN),
     (keywrap.check_with_length, (KEK, WRAPPED), (keywrap.Kind.PLAIN, 16)),
     (pyca.aes_key_wrap, (KEK, KEY), WRAPPED),
     (pyca.aes_key_unwrap, (KEK, WRAPPED), KEY),
-    (pyca.aes_key_wrap_with_padding, (KEK, KEY), keywrap.wrap_padded(KEK, KEY)),
-    (pyca.aes_key_unwrap_with_padding, (KEK, keywrap.wrap_padded(KEK, KEY)), KEY),
+    (pyca.aes_key_wrap_with_padding, (KEK, KEY), WRAPPED_PADDED),
+    (pyca.aes_key_unwrap_with_padding, (KEK, WRAPPED_PADDED), KEY),
 ]
 # The same without a KEK.
+SWAPPED = steps.wrap(swapped, KEY)
+SWAPPED_PADDED = steps.wrap_padded(swapped, KEY)
 BY_STEPS = [
-    (functools.partial(call, swapped), (given,), call(swapped, given))
-    for call, given in (
-        (steps.wrap, KEY),
-        (steps.wrap_padded, KEY),
-        (steps.unwrap, steps.wrap(swapped, KEY)),
-        (steps.unwrap_padded, steps.wrap_padded(swapped, KEY)),
-    )
+    (functools.partial(steps.wrap, swapped), (KEY,), SWAPPED),
+    (functools.partial(steps.wrap_padded, swapped), (KEY,), SWAPPED_PADDED),
+    (functools.partial(steps.unwrap, swapped), (SWAPPED,), KEY),
+    (functools.partial(steps.unwrap_padded, swapped), (SWAPPED_PADDED,), KEY),
 ]
+
+
 # Calls for many keys, with an item and with all items in one object.
+def wrap_two(kek, key):
+    return keywrap.wrap_many(kek, [KEY, key])
+
+
+def wrap_joined(kek, keys):
+    return keywrap.wrap_many(kek, keys, 16)
+
+
+def unwrap_two(kek, text):
+    return keywrap.unwrap_many(kek, [WRAPPED, text])
+
+
+def unwrap_joined(kek, texts):
+    return keywrap.unwrap_many(kek, texts, 24)
+
+
+def rewrap_listed(kek, new, text):
+    return keywrap.rewrap_many(kek, new, [text])
+
+
+def rewrap_joined(kek, new, text):
+    return keywrap.rewrap_many(kek, new, text, 24)
+
+
+def check_listed(kek, text):
+    return keywrap.check_many(kek, [text])
+
+
+def check_joined(kek, text):
+    return keywrap.check_many(kek, text, 24)
+
+
 MANY = [
-    (
-        lambda kek, key: keywrap.wrap_many(kek, [KEY, key]),
-        (KEK, KEY),
-        [WRAPPED, WRAPPED],
-    ),
-    (
-        lambda kek, keys: keywrap.wrap_many(kek, keys, 16),
-        (KEK, KEY + KEY),
-        [WRAPPED, WRAPPED],
-    ),
-    (
-        lambda kek, text: keywrap.unwrap_many(kek, [WRAPPED, text]),
-        (KEK, WRAPPED),
-        [KEY, KEY],
-    ),
-    (
-        lambda kek, texts: keywrap.unwrap_many(kek, texts, 24),
-        (KEK, WRAPPED + WRAPPED),
-        [KEY, KEY],
-    ),
-    (
-        lambda kek, new, text: keywrap.rewrap_many(kek, new, [text]),
-        (KEK, KEK, WRAPPED),
-        [WRAPPED],
-    ),
-    (
-        lambda kek, new, text: keywrap.rewrap_many(kek, new, text, 24),
-        (KEK, KEK, WRAPPED),
-        [WRAPPED],
-    ),
-    (
-        lambda kek, text: keywrap.check_many(kek, [text]),
-        (KEK, WRAPPED),
-        [keywrap.Kind.PLAIN],
-    ),
-    (
-        lambda kek, text: keywrap.check_many(kek, text, 24),
-        (KEK, WRAPPED),
-        [keywrap.Kind.PLAIN],
-    ),
+    (wrap_two, (KEK, KEY), [WRAPPED, WRAPPED]),
+    (wrap_joined, (KEK, KEY + KEY), [WRAPPED, WRAPPED]),
+    (unwrap_two, (KEK, WRAPPED), [KEY, KEY]),
+    (unwrap_joined, (KEK, WRAPPED + WRAPPED), [KEY, KEY]),
+    (rewrap_listed, (KEK, KEK, WRAPPED), [WRAPPED]),
+    (rewrap_joined, (KEK, KEK, WRAPPED), [WRAPPED]),
+    (check_listed, (KEK, WRAPPED), [keywrap.Kind.PLAIN]),
+    (check_joined, (KEK, WRAPPED), [keywrap.Kind.PLAIN]),
 ]
 
 
 def with_each(given, made):
     """The arguments, with each in turn replaced by `made` of it, and with all replaced."""
     for at in range(len(given)):
-        yield (*given[:at], made(given[at]), *given[at + 1 :])
-    yield tuple(made(item) for item in given)
+        objects = list(given)
+        objects[at] = made(given[at])
+        yield objects
+    yield [made(item) for item in given]
 
 
 TAKEN = {
@@ -198,8 +202,10 @@ def test_is_a_type_error(call, given, answer, made):
 @pytest.mark.parametrize("call, given, answer", CALLS)
 def test_none_is_a_type_error_but_as_an_initial_value(call, given, answer):
     for at in range(min(len(given), 2)):
+        objects = list(given)
+        objects[at] = None
         with pytest.raises(TypeError):
-            call(*given[:at], None, *given[at + 1 :])
+            call(*objects)
 
 
 @pytest.mark.parametrize("length", range(3))
@@ -283,10 +289,12 @@ def test_eight_threads():
     def work(number):
         kek = bytes([number]) * 32
         for count in range(300):
-            key = bytes([number, count % 256]) * (8 + count % 50 * 4)
+            length = 16 + count % 50 * 8
+            key = bytes([number, count % 256]) * (length // 2)
             wrapped = keywrap.wrap(kek, bytearray(key))
-            back = keywrap.unwrap(bytearray(kek), wrapped)
-            if back != key or keywrap.check(kek, wrapped) is None:
+            unwrapped = keywrap.unwrap(bytearray(kek), wrapped)
+            kind = keywrap.check(kek, wrapped)
+            if unwrapped != key or kind is None:
                 wrong.append(number)
 
     threads = [threading.Thread(target=work, args=[number]) for number in range(8)]

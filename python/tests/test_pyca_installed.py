@@ -58,11 +58,10 @@ def jose():
     jwe = pytest.importorskip(
         "jose.jwe", reason="no python-jose (apt-get install python3-jose)"
     )
-    token = jwe.encrypt(
-        b"a message", bytes(range(32)), algorithm="A256KW", encryption="A256GCM"
-    )
+    kek = bytes(range(32))
+    token = jwe.encrypt(b"a message", kek, algorithm="A256KW", encryption="A256GCM")
     yield
-    assert jwe.decrypt(token, bytes(range(32))) == b"a message"
+    assert jwe.decrypt(token, kek) == b"a message"
 
 
 def authlib():
@@ -70,34 +69,33 @@ def authlib():
         "authlib.jose", reason="no Authlib (apt-get install python3-authlib)"
     )
     jwe = jose.JsonWebEncryption()
-    token = jwe.serialize_compact(
-        {"alg": "A256KW", "enc": "A256GCM"}, b"a message", bytes(range(32))
-    )
+    kek = bytes(range(32))
+    header = {"alg": "A256KW", "enc": "A256GCM"}
+    token = jwe.serialize_compact(header, b"a message", kek)
     yield
-    assert jwe.deserialize_compact(token, bytes(range(32)))["payload"] == b"a message"
+    read = jwe.deserialize_compact(token, kek)
+    assert read["payload"] == b"a message"
 
 
 def pgpy():
     pgp = pytest.importorskip("pgpy", reason="no PGPy (apt-get install python3-pgpy)")
     from pgpy import constants
 
-    key = pgp.PGPKey.new(
-        constants.PubKeyAlgorithm.ECDSA, constants.EllipticCurveOID.NIST_P256
-    )
-    ciphers = [constants.SymmetricKeyAlgorithm.AES256]
+    curve = constants.EllipticCurveOID.NIST_P256
+    cipher = constants.SymmetricKeyAlgorithm.AES256
+    key = pgp.PGPKey.new(constants.PubKeyAlgorithm.ECDSA, curve)
     key.add_uid(
         pgp.PGPUID.new("reader"),
         usage={constants.KeyFlags.Sign},
         hashes=[constants.HashAlgorithm.SHA256],
-        ciphers=ciphers,
+        ciphers=[cipher],
     )
-    part = pgp.PGPKey.new(
-        constants.PubKeyAlgorithm.ECDH, constants.EllipticCurveOID.NIST_P256
-    )
+    part = pgp.PGPKey.new(constants.PubKeyAlgorithm.ECDH, curve)
     key.add_subkey(part, usage={constants.KeyFlags.EncryptCommunications})
-    message = key.pubkey.encrypt(pgp.PGPMessage.new("a message"), cipher=ciphers[0])
+    message = pgp.PGPMessage.new("a message")
+    encrypted = key.pubkey.encrypt(message, cipher=cipher)
     yield
-    assert key.decrypt(message).message == "a message"
+    assert key.decrypt(encrypted).message == "a message"
 
 
 @pytest.mark.filterwarnings("ignore")
@@ -193,11 +191,14 @@ def test_loads_no_lazy_module():
 def test_functions_look_like_pycas(calls):
     for name in CALLS:
         function = getattr(theirs, name)
-        assert (function.__name__, function.__module__) == (name, "keywrap.pyca")
-        assert function.__code__.co_varnames[:3] == PYCAS[name].__code__.co_varnames[:3]
-        with pytest.raises(ours.InvalidUnwrap) if "unwrap" in name else pytest.raises(
-            ValueError
-        ):
+        pycas = PYCAS[name]
+        assert function.__name__ == name
+        assert function.__module__ == "keywrap.pyca"
+        assert function.__code__.co_varnames[:3] == pycas.__code__.co_varnames[:3]
+        error = ValueError
+        if "unwrap" in name:
+            error = ours.InvalidUnwrap
+        with pytest.raises(error):
             function(bytes(16), b"", backend=None)
 
 

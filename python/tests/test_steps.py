@@ -16,6 +16,16 @@ WRAPS = {False: pyca.aes_key_wrap, True: pyca.aes_key_wrap_with_padding}
 each_form = pytest.mark.parametrize("padded", [False, True], ids=["plain", "padded"])
 
 
+def wrapped_plain(kek, keys):
+    """The wrapped keys of pyca, in the plain form."""
+    return [pyca.aes_key_wrap(kek, key) for key in keys]
+
+
+def wrapped_padded(kek, keys):
+    """The wrapped keys of pyca, in the padded form."""
+    return [pyca.aes_key_wrap_with_padding(kek, key) for key in keys]
+
+
 class Token:
     """AES-ECB over a KEK, which counts the blocks of each call."""
 
@@ -379,27 +389,32 @@ class TestRewrapMany:
         """6 calls for each 8 bytes of a key under either KEK, each with a block of every key."""
         old = Token()
         new = Token(NEW_KEK)
-        keys = [
-            bytes((at + byte) % 256 for byte in range(length)) for at in range(count)
-        ]
-        wrapped = [pyca.aes_key_wrap(KEK, key) for key in keys]
-        for given in (wrapped,), (b"".join(wrapped), length + 8):
-            results = self.rewrapped(old, new, *given)
-            assert results == [pyca.aes_key_wrap(NEW_KEK, key) for key in keys]
-            assert old.counted() == new.counted() == [count] * (6 * length // 8)
+        keys = numbered_keys(count, length)
+        wrapped = wrapped_plain(KEK, keys)
+        joined = b"".join(wrapped)
+        due = wrapped_plain(NEW_KEK, keys)
+        calls = [count] * block_calls(length)
+        for given in (wrapped,), (joined, length + 8):
+            assert self.rewrapped(old, new, *given) == due
+            assert old.counted() == calls
+            assert new.counted() == calls
 
     def test_calls_for_five_thousand_keys(self):
         """48 calls rewrap 5,000 keys of 32 bytes, and 24 more ask which of the refused ones are new."""
         old = Token()
         new = Token(NEW_KEK)
         keys = [at.to_bytes(32, "big") for at in range(5000)]
-        wrapped = [pyca.aes_key_wrap(KEK, key) for key in keys]
-        due = [pyca.aes_key_wrap(NEW_KEK, key) for key in keys]
+        wrapped = wrapped_plain(KEK, keys)
+        due = wrapped_plain(NEW_KEK, keys)
         assert self.rewrapped(old, new, wrapped) == due
-        assert len(old.counted()) + len(new.counted()) == 48
-        mixed = [wrapped[0], *due[1:]]
-        given = {"keep_form": True, "pass_new": new.decrypt}
-        assert self.rewrapped(old, new, mixed, **given) == due
+        calls = old.counted() + new.counted()
+        assert len(calls) == 48
+
+        one_is_old = [wrapped[0], *due[1:]]
+        results = self.rewrapped(
+            old, new, one_is_old, keep_form=True, pass_new=new.decrypt
+        )
+        assert results == due
         assert old.counted() == [5000] * 24
         assert sorted(new.counted()) == [1] * 24 + [4999] * 24
 
@@ -409,42 +424,60 @@ class TestRewrapMany:
         old = Token()
         new = Token(NEW_KEK)
         keys = [bytes([at]) * length for at in range(5)]
-        wrapped = [pyca.aes_key_wrap_with_padding(KEK, key) for key in keys]
+        wrapped = wrapped_padded(KEK, keys)
         flags = {"old_padded": True, "new_padded": True}
         if keep_form:
             flags = {"keep_form": True}
-        due = [pyca.aes_key_wrap_with_padding(NEW_KEK, key) for key in keys]
-        assert self.rewrapped(old, new, wrapped, **flags) == due
+        results = self.rewrapped(old, new, wrapped, **flags)
+        assert results == wrapped_padded(NEW_KEK, keys)
 
     def test_both_forms_in_one_call(self):
         """With keep_form each key keeps its form, whatever the forms of the others are."""
-        keys = [bytes(range(32)), bytes(range(25)), bytes(32), bytes(range(31))]
-        wraps = [WRAPS[len(key) % 8 != 0] for key in keys]
-        wrapped = [wrap(KEK, key) for wrap, key in zip(wraps, keys)]
-        due = [wrap(NEW_KEK, key) for wrap, key in zip(wraps, keys)]
-        results = self.rewrapped(Token(), Token(NEW_KEK), wrapped, keep_form=True)
+        old = Token()
+        new = Token(NEW_KEK)
+        plain = pyca.aes_key_wrap
+        padded = pyca.aes_key_wrap_with_padding
+        keys = [
+            (plain, bytes(range(32))),
+            (padded, bytes(range(25))),
+            (plain, bytes(32)),
+            (padded, bytes(range(31))),
+        ]
+        wrapped = [wrap(KEK, key) for wrap, key in keys]
+        due = [wrap(NEW_KEK, key) for wrap, key in keys]
+        results = self.rewrapped(old, new, wrapped, keep_form=True)
         assert results == due
 
     def test_one_refused_key_does_not_stop_the_others(self):
         """Each refusal is in its place: under a third KEK, damaged, and a key that is not plain."""
+        old = Token()
+        new = Token(NEW_KEK)
         keys = [bytes([at]) * 32 for at in range(6)]
-        wrapped = [pyca.aes_key_wrap_with_padding(KEK, key) for key in keys]
+        due = wrapped_plain(NEW_KEK, keys)
+        wrapped = wrapped_padded(KEK, keys)
+        damaged = bytearray(wrapped[2])
+        damaged[-1] ^= 1
         wrapped[1] = pyca.aes_key_wrap_with_padding(bytes(16), keys[1])
-        wrapped[2] = wrapped[2][:-1] + bytes([wrapped[2][-1] ^ 1])
+        wrapped[2] = bytes(damaged)
         wrapped[4] = pyca.aes_key_wrap_with_padding(KEK, bytes(27))
-        results = self.rewrapped(Token(), Token(NEW_KEK), wrapped, old_padded=True)
+
+        results = self.rewrapped(old, new, wrapped, old_padded=True)
         types = [type(result) for result in results]
         failed = keywrap.IntegrityFailed
         assert types == [bytes, failed, failed, bytes, keywrap.KeyNotPlain, bytes]
         for at in 0, 3, 5:
-            assert results[at] == pyca.aes_key_wrap(NEW_KEK, keys[at])
+            assert results[at] == due[at]
 
     def test_what_is_new_stays_only_if_it_may(self):
+        old = Token()
         new = Token(NEW_KEK)
-        wrapped = [pyca.aes_key_wrap(NEW_KEK, bytes(24))] * 2
-        results = self.rewrapped(Token(), new, wrapped)
-        assert [type(result) for result in results] == [keywrap.IntegrityFailed] * 2
-        assert self.rewrapped(Token(), new, wrapped, pass_new=new.decrypt) == wrapped
+        keys = [bytes(24), bytes(24)]
+        wrapped = wrapped_plain(NEW_KEK, keys)
+        refused = self.rewrapped(old, new, wrapped)
+        types = [type(refusal) for refusal in refused]
+        assert types == [keywrap.IntegrityFailed, keywrap.IntegrityFailed]
+        results = self.rewrapped(old, new, wrapped, pass_new=new.decrypt)
+        assert results == wrapped
 
     @pytest.mark.parametrize("failing", ["decrypt", "encrypt", "pass_new"])
     @pytest.mark.parametrize("callable, error", NOT_BLOCKS)
@@ -498,13 +531,14 @@ class TestRewrapMany:
 def test_check_slots():
     """The slots of the rotation: each is found to be a wrapped key of its form, or none."""
     plain = pyca.aes_key_wrap(KEK, bytes(16))
-    padded = WRAPS[True](KEK, bytes(13))
+    padded = pyca.aes_key_wrap_with_padding(KEK, bytes(13))
     texts = bytearray(plain + padded + bytes(24))
     kept = bytes(texts)
     statuses, forms = steps.check_slots(Token().decrypt, texts, 24)
-    assert [*map(bool, statuses)] == [False, False, True]
+    refused = [bool(status) for status in statuses]
+    assert refused == [False, False, True]
     assert texts == kept
-    assert [*forms] == [0, 1, 0]
+    assert list(forms) == [0, 1, 0]
     statuses, _ = steps.check_slots(pytest.fail, bytes(50), 25)
     assert all(statuses)
     assert len(statuses) == 2
@@ -513,7 +547,7 @@ def test_check_slots():
 def test_unwrap_any_slots():
     """The key and the form of each, or the refusal."""
     plain = pyca.aes_key_wrap(KEK, bytes(16))
-    padded = WRAPS[True](KEK, bytes(13))
+    padded = pyca.aes_key_wrap_with_padding(KEK, bytes(13))
     texts = bytearray(plain + padded + bytes(24))
     results = steps.unwrap_any_slots(Token().decrypt, texts, 24)
     of_plain, of_padded, of_none = results
