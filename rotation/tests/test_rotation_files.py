@@ -9,6 +9,7 @@ import pathlib
 import random
 import stat
 import tempfile
+from typing import NamedTuple
 
 import pytest
 from rotation_help import (
@@ -36,6 +37,11 @@ BASE64 = Notation("base64")
 RAW = Notation("raw")
 
 
+def digits_of(wrapped):
+    """A wrapped key as a line has it, without the end of the line."""
+    return wrapped.hex().encode()
+
+
 def Lines(notation):
     return functools.partial(lines, notation)
 
@@ -56,7 +62,7 @@ KEYS = make_keys(12)
 EQUAL = [key[:16] + key[:16] for key in KEYS]
 OLD = lines_under(KEK, KEYS)
 NEW = lines_under(NEW_KEK, KEYS)
-FOREIGN = wrapped_under(bytes(32), KEYS[1]).hex().encode() + b"\n"
+FOREIGN = digits_of(wrapped_under(bytes(32), KEYS[1])) + b"\n"
 
 
 @pytest.fixture
@@ -143,34 +149,45 @@ def test_a_refused_line_is_named_and_stays_to_the_byte(
         assert file.read_bytes() == with_line(number, line, NEW)
 
 
+class Rotated(NamedTuple):
+    """What a rotation makes of a line: the line afterwards, whether it is refused, and whether it was new."""
+
+    line: bytes
+    is_refused: bool
+    is_new: bool
+
+
 def rotated_line(line):
-    """The line that takes the place of this one, whether it is refused, and whether it was new: only by pyca."""
+    """What must come out of a line, by pyca and without our code."""
     digits = line.strip(b" \t\r\n")
-    if len(digits) % 2 or not set(digits) <= set(b"0123456789abcdefABCDEF"):
-        return line, True, False
+    is_hex = set(digits) <= set(b"0123456789abcdefABCDEF")
+    if not is_hex or len(digits) % 2:
+        return Rotated(line, is_refused=True, is_new=False)
     wrapped = bytes.fromhex(digits.decode())
     if unwrapped(NEW_KEK, wrapped) is not None:
-        return line, False, True
+        return Rotated(line, is_refused=False, is_new=True)
     for wrap, unwrap in (
         (pyca.aes_key_wrap, pyca.aes_key_unwrap),
         (pyca.aes_key_wrap_with_padding, pyca.aes_key_unwrap_with_padding),
     ):
         try:
-            new = wrap(NEW_KEK, unwrap(KEK, wrapped)).hex().encode()
-            return line.replace(digits, new), False, False
+            key = unwrap(KEK, wrapped)
+            new = digits_of(wrap(NEW_KEK, key))
         except (pyca.InvalidUnwrap, ValueError):
             continue
-    return line, True, False
+        return Rotated(line.replace(digits, new), is_refused=False, is_new=False)
+    return Rotated(line, is_refused=True, is_new=False)
 
 
 def test_only_keys_change(file):
     """Blanks, ends of lines, and a last line without an end stay."""
-    texts = [wrapped_under(KEK, key).hex().encode() for key in make_keys(3)]
-    fresh = [wrapped_under(NEW_KEK, key).hex().encode() for key in make_keys(3)]
+    keys = make_keys(3)
+    one, two, three = [digits_of(wrapped_under(KEK, key)) for key in keys]
+    new = [digits_of(wrapped_under(NEW_KEK, key)) for key in keys]
     lines = b"%b\r\n \t%b \n%b"
-    file.write_bytes(lines % (texts[0], texts[1].upper(), texts[2]))
+    file.write_bytes(lines % (one, two.upper(), three))
     rotated(file)
-    assert file.read_bytes() == lines % tuple(fresh)
+    assert file.read_bytes() == lines % tuple(new)
 
 
 class TestLeftOut:
@@ -213,9 +230,11 @@ class TestLeftOut:
 
 def something_else(source, line, wrap, length):
     """Returns what may be in the place of a line: a key in another form or under another KEK, or no key at all."""
-    new = wrap(NEW_KEK, source.randbytes(length)).hex().encode()
-    new_upper = wrap(NEW_KEK, bytes(length)).hex().upper().encode()
-    foreign = wrap(bytes(16), bytes(length)).hex().encode()
+    key = source.randbytes(length)
+    zeros = bytes(length)
+    new = digits_of(wrap(NEW_KEK, key))
+    new_upper = digits_of(wrap(NEW_KEK, zeros)).upper()
+    foreign = digits_of(wrap(bytes(16), zeros))
     other_keys = [new + b"\n", new_upper + b"\n", foreign, line.upper()]
     text = line[:-1]
     other_ends = [text, text + b" \n", text + b"\r\n", b" " + line]
@@ -223,12 +242,21 @@ def something_else(source, line, wrap, length):
     at = source.randrange(len(text))
     before = line[:at]
     after = line[at + 1 :]
-    other_digit = b"%x" % (int(line[at : at + 1], 16) ^ 1)
+    digit = int(line[at : at + 1], 16)
+    other_digit = b"%x" % (digit ^ 1)
     wrong_digits = []
     for other in b"\n", b" ", b"g", b"\xff", other_digit:
         wrong_digits.append(before + other + after)
     choices = [*other_keys, *other_ends, *other_lengths, *wrong_digits]
     return source.choice(choices)
+
+
+def base64_without_padding(key):
+    return base64.b64encode(key).rstrip(b"=")
+
+
+def base64url(key):
+    return base64.urlsafe_b64encode(key).rstrip(b"=")
 
 
 def move_an_end(source, lines):
@@ -240,39 +268,53 @@ def move_an_end(source, lines):
     lines[at : at + 2] = source.choice([exchanged, joined])
 
 
+def random_content(source):
+    """Lines of one length, with something else in the place of some of them."""
+    wrap = source.choice([pyca.aes_key_wrap, pyca.aes_key_wrap_with_padding])
+    length = source.choice([16, 24, 32])
+    each = []
+    for _ in range(source.randrange(1, 12)):
+        wrapped = wrap(KEK, source.randbytes(length))
+        each.append(digits_of(wrapped) + b"\n")
+    count = min(len(each), source.choice([0, 1, 1, 2, 4]))
+    for at in source.sample(range(len(each)), count):
+        each[at] = something_else(source, each[at], wrap, length)
+    if len(each) > 2 and source.randrange(3) == 0:
+        move_an_end(source, each)
+    return b"".join(each)
+
+
 class TestKeys:
     @pytest.mark.parametrize("seed", range(150))
     def test_lines_with_something_else_among_them(self, file, monkeypatch, seed):
         """Lines of one length are taken at once. Each line gets its own result."""
         source = random.Random(seed)
-        monkeypatch.setattr(replacing, "BLOCK", source.choice([82, 200, 1000, 1 << 18]))
-        wrap = source.choice([pyca.aes_key_wrap, pyca.aes_key_wrap_with_padding])
-        length = source.choice([16, 24, 32])
-        each = []
-        for _ in range(source.randrange(1, 12)):
-            wrapped = wrap(KEK, source.randbytes(length))
-            each.append(wrapped.hex().encode() + b"\n")
-        count = min(len(each), source.choice([0, 1, 1, 2, 4]))
-        for at in source.sample(range(len(each)), count):
-            each[at] = something_else(source, each[at], wrap, length)
-        if len(each) > 2 and source.randrange(3) == 0:
-            move_an_end(source, each)
-        content = b"".join(each)
-        file.write_bytes(content)
+        block = source.choice([82, 200, 1000, 1 << 18])
+        monkeypatch.setattr(replacing, "BLOCK", block)
+        content = random_content(source)
         expected = [rotated_line(line) for line in io.BytesIO(content)]
-        answer = rotated(file)
-        assert file.read_bytes() == b"".join(line for line, _, _ in expected)
+        new_lines = [due.line for due in expected]
         refused = set()
         changed = {}
-        for at, (line, is_refused, is_new) in enumerate(expected):
-            if is_refused:
+        count_of_new = 0
+        for at, due in enumerate(expected):
+            if due.is_refused:
                 refused.add(f"line {at + 1}")
-            elif not is_new:
-                changed[at] = line.strip(BLANKS)
-        assert {place for place, _ in answer.named} == refused
+            elif due.is_new:
+                count_of_new += 1
+            else:
+                changed[at] = due.line.strip(BLANKS)
+
+        file.write_bytes(content)
+        answer = rotated(file)
+        assert file.read_bytes() == b"".join(new_lines)
+        named = {place for place, _ in answer.named}
+        assert named == refused
         assert answer.refused == len(refused)
         assert answer.keys == len(expected)
-        assert answer.new == sum(is_new for _, _, is_new in expected)
+        assert answer.new == count_of_new
+
+        # The same lines as texts, without a file.
         texts = [line.strip(BLANKS) for line in io.BytesIO(content)]
         also = found.Found()
         rings = rotate.challenges().rings()
@@ -299,19 +341,19 @@ class TestKeys:
     )
     def test_replaces_nothing_before_its_check(self, file, monkeypatch, wrong, plain):
         file.write_bytes(lines_under(KEK, plain))
-        under = [
-            wrapped_under(NEW_KEK, key)
-            for number, key in enumerate(plain)
-            if number != wrong
-        ]
+        right_ones = [*plain]
+        del right_ones[wrong]
+        under = [wrapped_under(NEW_KEK, key) for key in right_ones]
+        real = _many.check_slots
 
-        def check_slots(kek, texts, length, real=_many.check_slots):
+        def check_slots(kek, texts, length):
             if kek != NEW_KEK:
                 return real(kek, texts, length)
-            found = (
-                bytes(texts[at : at + length]) for at in range(0, len(texts), length)
-            )
-            return [text not in under for text in found], bytes(len(texts))
+            statuses = []
+            for at in range(0, len(texts), length):
+                wrapped = bytes(texts[at : at + length])
+                statuses.append(wrapped not in under)
+            return statuses, bytes(len(texts))
 
         monkeypatch.setattr(_many, "check_slots", check_slots)
         assert refusal(file) == "a rewrapped key is not under the new KEK"
@@ -321,16 +363,8 @@ class TestKeys:
         [
             ("base64", base64.b64encode, base64.b64encode),
             ("base64", base64.b64encode, base64.urlsafe_b64encode),
-            (
-                "base64",
-                base64.b64encode,
-                lambda key: base64.b64encode(key).rstrip(b"="),
-            ),
-            (
-                "base64url",
-                lambda key: base64.urlsafe_b64encode(key).rstrip(b"="),
-                base64.b64encode,
-            ),
+            ("base64", base64.b64encode, base64_without_padding),
+            ("base64url", base64url, base64.b64encode),
         ],
         ids=[
             "base64",
@@ -340,11 +374,12 @@ class TestKeys:
         ],
     )
     def test_rotates_base64(self, file, notation, write, read):
-        old = [read(wrapped_under(KEK, key)) for key in KEYS]
-        new = [write(wrapped_under(NEW_KEK, key)) for key in KEYS]
-        file.write_bytes(b"\n".join([*old, b""]))
-        assert rotated(file, Lines(Notation(notation))).refused == 0
-        assert file.read_bytes() == b"\n".join([*new, b""])
+        old = [read(wrapped_under(KEK, key)) + b"\n" for key in KEYS]
+        new = [write(wrapped_under(NEW_KEK, key)) + b"\n" for key in KEYS]
+        file.write_bytes(b"".join(old))
+        answer = rotated(file, Lines(Notation(notation)))
+        assert answer.refused == 0
+        assert file.read_bytes() == b"".join(new)
 
     @pytest.mark.parametrize(
         "text",
@@ -358,13 +393,13 @@ class TestKeys:
 
     def test_rotates_a_raw_key(self, file):
         # A raw key may contain the bytes of line ends and blanks, at its ends too.
-        key = next(
-            key
-            for key in make_keys(3000, 5)
-            if wrapped_under(KEK, key)[-1:] in (b"\n", b" ")
-        )
+        def ends_with_a_blank(key):
+            return wrapped_under(KEK, key)[-1:] in (b"\n", b" ")
+
+        key = next(filter(ends_with_a_blank, make_keys(3000, 5)))
         file.write_bytes(wrapped_under(KEK, key))
-        assert rotated(file, OneKey(RAW)).keys == 1
+        answer = rotated(file, OneKey(RAW))
+        assert answer.keys == 1
         assert file.read_bytes() == wrapped_under(NEW_KEK, key)
 
     @pytest.mark.parametrize("notation", ["hex", "base64"])
@@ -374,31 +409,34 @@ class TestKeys:
                 return key.hex()
             return base64.b64encode(key).decode()
 
+        format = OneKey(Notation(notation))
         text = encode(wrapped_under(KEK, KEYS[1]))
+        new = encode(wrapped_under(NEW_KEK, KEYS[1]))
         parts = [text[at : at + 20] for at in range(0, len(text), 20)]
         file.write_text("\n".join(parts))
-        assert rotated(file, OneKey(Notation(notation))).keys == 1
-        assert file.read_text() == encode(wrapped_under(NEW_KEK, KEYS[1])) + "\n"
+        answer = rotated(file, format)
+        assert answer.keys == 1
+        assert file.read_text() == f"{new}\n"
         file.write_text(" \n")
-        assert refused(file, OneKey(Notation(notation))) == ["its key: blank"]
+        assert refused(file, format) == ["its key: blank"]
 
 
 def csv_of(kek, end="\r\n"):
-    rows = [
-        f'{at};"quoted ""{at}""\nzweite Zeile";{wrapped_under(kek, key).hex()};Zoë'.replace(
-            ";", ","
-        )
-        for at, key in enumerate(KEYS)
-    ]
-    return (
-        "\ufeffid,name,key,owner" + end + end.join(rows) + end
-    ).encode() + b"\xff,,,\r\n"
+    text = "\ufeffid,name,key,owner" + end
+    for at, key in enumerate(KEYS):
+        wrapped = wrapped_under(kek, key).hex()
+        text += f'{at},"quoted ""{at}""\nzweite Zeile",{wrapped},Zoë{end}'
+    return text.encode() + b"\xff,,,\r\n"
 
 
 def json_lines(kek):
     more = '"n": 1.10, "big": 1e400, "id": 12345678901234567890, "\\u00e9": [null, {"key": "x"}]'
-    rows = [f'  {{{more}, "key" :"{wrapped_under(kek, key).hex()}"}}\n' for key in KEYS]
-    return ("".join(rows) + '\n{"key": null}\n{}').encode()
+    text = ""
+    for key in KEYS:
+        wrapped = wrapped_under(kek, key).hex()
+        text += f'  {{{more}, "key" :"{wrapped}"}}\n'
+    text += '\n{"key": null}\n{}'
+    return text.encode()
 
 
 class TestRecords:
@@ -420,7 +458,8 @@ class TestRecords:
             assert answer.refused == 0
 
     def test_a_key_that_is_twice_in_its_record_changes_in_its_column(self, file):
-        old, new = (wrapped_under(kek, KEYS[0]).hex() for kek in (KEK, NEW_KEK))
+        old = wrapped_under(KEK, KEYS[0]).hex()
+        new = wrapped_under(NEW_KEK, KEYS[0]).hex()
         file.write_text(f'a,b\n"{old}", {old} \n')
         rotated(file, Csv("b"))
         assert file.read_text() == f'a,b\n"{old}", {new} \n'
@@ -441,91 +480,96 @@ class TestRecords:
         assert refusal(file, Csv("key")) == why
 
     def test_names_refused_records_of_csv(self, file):
-        good, new = (wrapped_under(kek, KEYS[0]).hex() for kek in (KEK, NEW_KEK))
-        file.write_text(f'id,key\n1,"\n"\n2,{good}\n\n3\n4,00\n5,\n')
-        assert refused(file, Csv("key")) == [
-            "line 6: the column is missing",
-            "line 7: bad length",
-        ]
+        old = wrapped_under(KEK, KEYS[0]).hex()
+        new = wrapped_under(NEW_KEK, KEYS[0]).hex()
+        file.write_text(f'id,key\n1,"\n"\n2,{old}\n\n3\n4,00\n5,\n')
+        named = refused(file, Csv("key"))
+        assert named == ["line 6: the column is missing", "line 7: bad length"]
         assert file.read_text() == f'id,key\n1,"\n"\n2,{new}\n\n3\n4,00\n5,\n'
 
     def test_names_refused_records_of_json_lines(self, file):
         good = wrapped_under(KEK, KEYS[0]).hex()
-        wrong = [
+        new = wrapped_under(NEW_KEK, KEYS[0]).hex()
+        lines = [
             '{"key": 1}',
             '{"key": 1.5}',
             "[]",
             "{",
             f'{{"key": "{good}", "key": "{good}"}}',
             '{"key": "00"}',
+            f'{{"key": "{good}"}}',
+            "[" * 100000,
         ]
-        file.write_text("\n".join([*wrong, f'{{"key": "{good}"}}', "[" * 100000]))
-        no_string = "not a string"
-        no_json = "not a JSON object, or a member comes twice"
-        assert sorted(refused(file, Json("key"))) == [
-            f"line 1: {no_string}",
-            f"line 2: {no_string}",
-            f"line 3: {no_json}",
-            f"line 4: {no_json}",
-            f"line 5: {no_json}",
+        file.write_text("\n".join(lines))
+        named = refused(file, Json("key"))
+        assert sorted(named) == [
+            "line 1: not a string",
+            "line 2: not a string",
+            "line 3: not a JSON object, or a member comes twice",
+            "line 4: not a JSON object, or a member comes twice",
+            "line 5: not a JSON object, or a member comes twice",
             "line 6: bad length",
-            f"line 8: {no_json}",
+            "line 8: not a JSON object, or a member comes twice",
         ]
-        rotated_line = file.read_text().splitlines()[6]
-        new = wrapped_under(NEW_KEK, KEYS[0]).hex()
-        assert json.loads(rotated_line) == {"key": new}
+        line_with_key = file.read_text().splitlines()[6]
+        assert json.loads(line_with_key) == {"key": new}
 
     def test_a_key_written_with_escapes_is_refused(self, file):
         text = ""
         while "/" not in text:
             key = os.urandom(32)
             text = base64.b64encode(wrapped_under(KEK, key)).decode()
-        file.write_text('{"key": "' + text.replace("/", "\\/") + '"}\n')
-        assert refusal(file, Json("key", BASE64)).startswith(
-            "line 1: the key is written with escapes"
-        )
+        escaped = text.replace("/", "\\/")
+        file.write_text(f'{{"key": "{escaped}"}}\n')
+        why = refusal(file, Json("key", BASE64))
+        assert why.startswith("line 1: the key is written with escapes")
 
 
 class TestAccess:
     def test_refuses_links_and_what_is_no_file(self, file, tmp_path):
-        (tmp_path / "link").symlink_to(file)
-        os.mkfifo(tmp_path / "fifo")
-        assert refusal(tmp_path / "link") == "a symbolic link"
-        assert refusal(tmp_path / "fifo") == "not a regular file"
+        link = tmp_path / "link"
+        link.symlink_to(file)
+        assert refusal(link) == "a symbolic link"
+        fifo = tmp_path / "fifo"
+        os.mkfifo(fifo)
+        assert refusal(fifo) == "not a regular file"
         os.link(file, tmp_path / "other")
         assert refusal(file) == "the file has 2 hard links"
         assert rotated(tmp_path / "none").moved == 1
-        (tmp_path / "database").write_bytes(b"SQLite format 3\0" + bytes(99))
-        assert (
-            refusal(tmp_path / "database")
-            == "an SQLite database: name its table by --table"
-        )
+        database = tmp_path / "database"
+        database.write_bytes(b"SQLite format 3\0" + bytes(99))
+        assert refusal(database) == "an SQLite database: name its table by --table"
 
     def test_the_longest_name(self, tmp_path):
         """A longer one is refused by a dry run, too; to verify it is no problem."""
-        for length, refused in ((186, 0), (187, 1)):
-            path = tmp_path / ("n" * length)
-            path.write_bytes(OLD)
-            assert rotated(path).refused == refused
-            assert path.read_bytes() == (OLD if refused else NEW)
-        assert "its name is longer than 186 bytes" in refusal(path)
-        assert "its name is longer" in rotated(path, may_write=False).named[0][1]
-        path.write_bytes(NEW)
-        assert rotated(path, may_write=False, verify=True).new == 12
+        longest = tmp_path / ("n" * 186)
+        longest.write_bytes(OLD)
+        assert rotated(longest).refused == 0
+        assert longest.read_bytes() == NEW
+
+        longer = tmp_path / ("n" * 187)
+        longer.write_bytes(OLD)
+        assert rotated(longer).refused == 1
+        assert longer.read_bytes() == OLD
+        assert "its name is longer than 186 bytes" in refusal(longer)
+        dry_run = rotated(longer, may_write=False)
+        assert "its name is longer" in dry_run.named[0][1]
+        longer.write_bytes(NEW)
+        verified = rotated(longer, may_write=False, verify=True)
+        assert verified.new == 12
 
     @pytest.mark.parametrize("mode", [0o600, 0o640, 0o444, 0o666])
     def test_keeps_owner_group_and_mode(self, file, mode):
-        owner = (12, 34) if os.geteuid() == 0 else (os.geteuid(), os.getegid())
+        owner = os.geteuid(), os.getegid()
+        if os.geteuid() == 0:
+            owner = 12, 34
         os.chown(file, *owner)
         file.chmod(mode)
         rotated(file)
         status = file.stat()
-        assert (
-            file.read_bytes(),
-            status.st_uid,
-            status.st_gid,
-            stat.S_IMODE(status.st_mode),
-        ) == (NEW, *owner, mode)
+        assert file.read_bytes() == NEW
+        assert (status.st_uid, status.st_gid) == owner
+        assert stat.S_IMODE(status.st_mode) == mode
 
     @pytest.mark.skipif(os.geteuid() != 0, reason="not root")
     @pytest.mark.parametrize("owner", [(0, 0), (65534, 34)], ids=["owner", "group"])
@@ -535,11 +579,9 @@ class TestAccess:
             set_keks(directory, monkeypatch)
             file = directory / "keys.hex"
             file.write_bytes(OLD)
-            for path, mode in (
-                (directory, 0o777),
-                *((path, 0o644) for path in directory.iterdir()),
-            ):
-                path.chmod(mode)
+            directory.chmod(0o777)
+            for path in directory.iterdir():
+                path.chmod(0o644)
             os.chown(file, *owner)
             os.seteuid(65534)
             try:
@@ -559,8 +601,9 @@ def written_at(path, offset):
 
 
 def replaced(path):
-    path.with_name("other").write_bytes(lines_under(KEK, [ADDED]))
-    os.rename(path.with_name("other"), path)
+    other = path.with_name("other")
+    other.write_bytes(lines_under(KEK, [ADDED]))
+    os.rename(other, path)
 
 
 def appended(path):
@@ -568,7 +611,8 @@ def appended(path):
 
 
 def changed(path):
-    written_at(path, len(OLD) - len(lines_under(KEK, KEYS[-1:])))
+    last_line = lines_under(KEK, KEYS[-1:])
+    written_at(path, len(OLD) - len(last_line))
 
 
 def removed(path):
@@ -603,15 +647,24 @@ class TestChanges:
     def test_a_file_of_one_key_that_changes_meanwhile(self, file, meanwhile, content):
         """Emptied, changed under either KEK, removed: what is there afterwards is rotated, or stays as it is."""
         file.write_bytes(wrapped_under(KEK, KEYS[0]))
-        meanwhile(
-            lambda: file.unlink() if content is None else file.write_bytes(content)
-        )
+        is_removed = content is None
+
+        def change():
+            if is_removed:
+                file.unlink()
+            else:
+                file.write_bytes(content)
+
+        meanwhile(change)
         answer = rotated(file, OneKey(RAW))
-        assert answer.moved == (content is None) != bool(answer.digest)
+        assert answer.moved == is_removed
+        assert bool(answer.digest) != is_removed
         assert answer.refused == (content == b"")
-        assert (file.read_bytes() if file.exists() else None) == (
-            wrapped_under(NEW_KEK, ADDED) if content else content
-        )
+        assert file.exists() != is_removed
+        if content:
+            assert file.read_bytes() == wrapped_under(NEW_KEK, ADDED)
+        elif not is_removed:
+            assert file.read_bytes() == b""
 
     @pytest.mark.parametrize("change, keys", CHANGES[:2])
     @pytest.mark.parametrize("block", [100, 1 << 16])
@@ -628,11 +681,11 @@ class TestChanges:
     def test_what_is_copied_is_what_was_read(self, file, meanwhile, monkeypatch):
         """New keys at the start of a file are copied later. Here somebody changes them in place, and back again."""
         monkeypatch.setattr(replacing, "BLOCK", 100)
-        file.write_bytes(
-            content := lines_under(NEW_KEK, KEYS[:3]) + lines_under(KEK, KEYS[3:])
-        )
+        content = lines_under(NEW_KEK, KEYS[:3]) + lines_under(KEK, KEYS[3:])
+        file.write_bytes(content)
         before = file.stat()
-        contents = iter([b"0" + content[1:]] * 2)  # while the first block is rewrapped
+        changed = b"0" + content[1:]
+        contents = iter([changed, changed])  # while the first block is rewrapped
 
         def change():
             with open(file, "r+b") as opened:
@@ -645,13 +698,18 @@ class TestChanges:
 
 
 def test_rewraps_all_or_none():
-    old = {f"k{at}": wrapped_under(KEK, key) for at, key in enumerate(KEYS)}
-    new = {f"k{at}": wrapped_under(NEW_KEK, key) for at, key in enumerate(KEYS)}
+    old = {}
+    new = {}
+    for at, key in enumerate(KEYS):
+        old[f"k{at}"] = wrapped_under(KEK, key)
+        new[f"k{at}"] = wrapped_under(NEW_KEK, key)
     pair = rotate.challenges()
-    assert list(rotate.rewrap_all(old, pair).items()) == list(new.items())
-    assert rotate.rewrap_all({**old, "k3": new["k3"]}, pair) == new
-    with pytest.raises(
-        rotate.Refused,
-        match="^'k2': bad length; 'k5': blank; 'k4': under no KEK of this rotation$",
-    ):
-        rotate.rewrap_all({**old, "k2": b"no", "k4": bytes(40), "k5": b""}, pair)
+    rewrapped = rotate.rewrap_all(old, pair)
+    assert list(rewrapped.items()) == list(new.items())
+    one_is_new = {**old, "k3": new["k3"]}
+    assert rotate.rewrap_all(one_is_new, pair) == new
+
+    three_are_wrong = {**old, "k2": b"no", "k4": bytes(40), "k5": b""}
+    message = "^'k2': bad length; 'k5': blank; 'k4': under no KEK of this rotation$"
+    with pytest.raises(rotate.Refused, match=message):
+        rotate.rewrap_all(three_are_wrong, pair)
