@@ -85,8 +85,13 @@ def with_slices(call):
     line = head + ", ".join(arguments) + tail
     if len(line) < 100:
         return line
-    items = " ".join(argument.replace(" ", "~") + "," for argument in arguments)
-    return "\n".join([head, filled(items, " " * 8, " " * 8, 99), "    " + tail])
+    items = filled(unbroken(arguments), " " * 8, " " * 8, 99)
+    return f"{head}\n{items}\n    {tail}"
+
+
+def unbroken(arguments):
+    """Arguments, each with its comma, for `filled`, which breaks no line in one of them."""
+    return " ".join(argument.replace(" ", "~") + "," for argument in arguments)
 
 
 # The crate's calls as functions of C: exports.rs of the tests
@@ -103,16 +108,16 @@ def exported(argument):
 
 
 def export(call):
-    arguments = "".join(f"{exported(argument)}, " for argument in call.arguments)
+    arguments = [exported(argument) for argument in call.arguments]
     head = f"export!(keywrap_{call.name} = {call.name}("
     tail = f") -> {RUST_TYPES[call.result]});"
-    line = head + arguments.rstrip() + tail
+    # Each argument has a comma after it, also the last one.
+    with_commas = [f"{argument}," for argument in arguments]
+    line = head + " ".join(with_commas) + tail
     if len(line) <= 120:
         return line
-    items = " ".join(
-        exported(argument).replace(" ", "~") + "," for argument in call.arguments
-    )
-    return "\n".join([head, filled(items, " " * 4, " " * 4, 120), tail])
+    items = filled(unbroken(arguments), " " * 4, " " * 4, 120)
+    return f"{head}\n{items}\n{tail}"
 
 
 # The calls by JNA

@@ -142,7 +142,13 @@ ONE_STEP = {"step_wrap", "step_unwrap"}
 # The checker makes these calls in functions of other ones.
 MADE_WITH_OTHERS = {"begin_unwrap_padded", "next_rewrap_from"}
 REWRAP_STEPS = {"begin_rewrap", "next_rewrap", "next_rewrap_from"}
-IN_RUST = (ONE_KEY | MANY_KEYS | STEPS_OF_ONE) - VERSION_1_0 - OTHER_REWRAP
+# The calls that some files have.
+WHOLE_CALLS = ONE_KEY | MANY_KEYS
+ALL_CALLS = WHOLE_CALLS | STEPS_OF_ONE | STEPS_OF_MANY
+IN_RUST = (WHOLE_CALLS | STEPS_OF_ONE) - VERSION_1_0 - OTHER_REWRAP
+IN_JAVASCRIPT = WHOLE_CALLS - IN_PLACE - VERSION_1_0 - WITH_IV - KEPT_KEKS
+IN_PYTHON = ONE_KEY - IN_PLACE - VERSION_1_0 - VERSION - {"status_text"}
+IN_CHECKER = ALL_CALLS - MADE_WITH_OTHERS
 
 
 class Place(NamedTuple):
@@ -166,7 +172,7 @@ GO = r"\bC\.keywrap_{}\("
 PYTHON = r"\b_?lib\.(?:keywrap_)?{}\b"
 RATTLE = r"\bfn keywrap_{}\("
 PLACES = [
-    Place("crates/keywrap_c/src/exports.rt", RATTLE, ONE_KEY | MANY_KEYS),
+    Place("crates/keywrap_c/src/exports.rt", RATTLE, WHOLE_CALLS),
     Place("crates/keywrap_c/src/steps.rt", RATTLE, STEPS_OF_ONE),
     Place("crates/keywrap_c/src/many_steps.rt", RATTLE, STEPS_OF_MANY),
     Place("c/portable/calls.c.in", r"^\w+ keywrap_{}\(", BY_HAND_IN_C),
@@ -178,69 +184,33 @@ PLACES = [
         r"^(?:pub\(crate\) fn {0}\(|    (?:\w+, )*{0},)",
         IN_RUST,
     ),
-    Place(
-        "js/calls.js",
-        "'keywrap_{}'",
-        (ONE_KEY | MANY_KEYS)
-        - IN_PLACE
-        - VERSION_1_0
-        - WITH_IV
-        - KEPT_KEKS
-        - {"status_text"},
-    ),
+    Place("js/calls.js", "'keywrap_{}'", IN_JAVASCRIPT - {"status_text"}),
     Place(
         "js/keywrap.d.ts",
         r"^    {}\(",
-        (ONE_KEY | MANY_KEYS)
-        - IN_PLACE
-        - VERSION_1_0
-        - WITH_IV
-        - KEPT_KEKS
-        - {"status_text", "version"},
+        IN_JAVASCRIPT - VERSION - {"status_text"},
     ),
-    Place(
-        "python/src/keywrap/__init__.py",
-        PYTHON,
-        ONE_KEY - IN_PLACE - VERSION_1_0 - VERSION - {"status_text"},
-    ),
+    Place("python/src/keywrap/__init__.py", PYTHON, IN_PYTHON),
     Place("python/src/keywrap/_many.py", PYTHON, MANY_KEYS),
     Place(
         "python/src/keywrap/steps.py", PYTHON, STEPS_OF_ONE - OTHER_REWRAP - ONE_STEP
     ),
-    Place(
-        "dist/check/all_inputs/calls.py",
-        '"keywrap_{}"',
-        (ONE_KEY | MANY_KEYS | STEPS_OF_ONE | STEPS_OF_MANY) - MADE_WITH_OTHERS,
-    ),
+    Place("dist/check/all_inputs/calls.py", '"keywrap_{}"', IN_CHECKER),
     Place(
         "dist/check/all_inputs/lists.py",
         r"^(?:.*,)?{}(?: |,|$)",
-        (ONE_KEY | MANY_KEYS | STEPS_OF_ONE | STEPS_OF_MANY)
-        - MADE_WITH_OTHERS
-        - REWRAP_STEPS,
+        IN_CHECKER - REWRAP_STEPS,
     ),
-    Place("tests/rows.c", C, ONE_KEY | MANY_KEYS),
+    Place("tests/rows.c", C, WHOLE_CALLS),
     # lib/rows.py makes the other rows in place of these.
     Place(
         "tests/rows.txt",
         r"^\S+ {} ",
-        (ONE_KEY | MANY_KEYS) - UNWRAPS_IN_PLACE - VERSION_1_0 - WITHOUT_KEY,
+        WHOLE_CALLS - UNWRAPS_IN_PLACE - VERSION_1_0 - WITHOUT_KEY,
     ),
-    Place(
-        "tests/portable/fuzz_call.c",
-        C,
-        (ONE_KEY | MANY_KEYS | STEPS_OF_ONE | STEPS_OF_MANY) - WITHOUT_BUFFER,
-    ),
-    Place(
-        "tests/portable/lengths.c",
-        C,
-        (ONE_KEY | MANY_KEYS) - WITHOUT_KEY - KEPT_KEKS,
-    ),
-    Place(
-        "tests/secrets/calls.h",
-        C,
-        (ONE_KEY | MANY_KEYS) - WITHOUT_KEY - {"kek_clear"},
-    ),
+    Place("tests/portable/fuzz_call.c", C, ALL_CALLS - WITHOUT_BUFFER),
+    Place("tests/portable/lengths.c", C, WHOLE_CALLS - WITHOUT_KEY - KEPT_KEKS),
+    Place("tests/secrets/calls.h", C, WHOLE_CALLS - WITHOUT_KEY - {"kek_clear"}),
 ]
 
 

@@ -93,13 +93,14 @@ class Drawing:
     def note(self, about):
         """Below a plot: on what it was measured, next to which versions, and when."""
         run = f"{about['date']}, commit {about['commit']}"
-        for number, words in enumerate([run, about["beside"], about["processor"]]):
+        notes = [run, about["beside"], about["processor"]]
+        for number, words in enumerate(notes):
             self.text(8, self.height - 10 - 16 * number, words)
 
     def svg(self):
+        size = f'width="480" height="{self.height}" viewBox="0 0 480 {self.height}"'
         lines = [
-            f'<svg xmlns="http://www.w3.org/2000/svg" width="480" height="{self.height}" '
-            f'viewBox="0 0 480 {self.height}" role="img">',
+            f'<svg xmlns="http://www.w3.org/2000/svg" {size} role="img">',
             f"<title>{escape(self.title)}</title>",
             f"<style>\n{STYLE}\n</style>",
             *self.elements,
@@ -111,9 +112,10 @@ class Drawing:
 def read(name):
     """The comments (the processor, the date and the commit of the run, the others' versions) and the rows of a CSV."""
     lines = (PICTURES / f"{name}.csv").read_text(encoding="utf-8").splitlines()
-    about = dict(line[2:].split(": ", 1) for line in lines if line.startswith("# "))
-    rows = csv.DictReader(line for line in lines if not line.startswith("#"))
-    return about, list(rows)
+    comments = [line[2:] for line in lines if line.startswith("# ")]
+    table = [line for line in lines if not line.startswith("#")]
+    about = dict(comment.split(": ", 1) for comment in comments)
+    return about, list(csv.DictReader(table))
 
 
 def size(length):
@@ -127,12 +129,16 @@ def size(length):
 
 def apart(places, gap):
     """The same places, moved until all are a gap apart. The ones in the middle move least."""
-    order = sorted(range(len(places)), key=places.__getitem__)
+    upwards = sorted(range(len(places)), key=places.__getitem__)
+    downwards = upwards[::-1]
     moved = list(places)
-    for before, after in zip(order, order[1:]):
+    for before, after in zip(upwards, upwards[1:]):
         moved[after] = max(moved[after], moved[before] + gap)
-    moved[order[-1]] -= (max(moved) - max(places)) / 2
-    for after, before in zip(order[::-1], order[-2::-1]):
+    # The last one goes half of its way back, and pushes others back.
+    last = upwards[-1]
+    way = moved[last] - places[last]
+    moved[last] -= way / 2
+    for after, before in zip(downwards, downwards[1:]):
         moved[before] = min(moved[before], moved[after] - gap)
     return moved
 
@@ -147,7 +153,8 @@ class Axes(NamedTuple):
     high: float
 
     def x(self, length):
-        part = math.log(length / self.shortest) / math.log(self.longest / self.shortest)
+        whole = math.log(self.longest / self.shortest)
+        part = math.log(length / self.shortest) / whole
         return round(LEFT + PLOT * part, 1)
 
     def y(self, time):
@@ -173,10 +180,11 @@ def grid(drawing, axes, lengths):
             y = axes.y(tick)
             drawing.line("grid", (LEFT, y), (LEFT + PLOT, y))
             drawing.text(LEFT - 6, y + 4, str(tick), "end")
+    below = axes.top + HEIGHT + 16
     for length in lengths:
         # Its label would touch the label of 16.
         if length != 32:
-            drawing.text(axes.x(length), axes.top + HEIGHT + 16, size(length), "middle")
+            drawing.text(axes.x(length), below, size(length), "middle")
 
 
 def label_of(row):
@@ -191,27 +199,38 @@ def curve(drawing, row, points, label_y):
     """The curve of one library, and its label, with a line from its end."""
     name = NAMES[row["library"]]
     label = label_of(row)
-    is_ours = row["library"] in WITHOUT_KIT
+    line_kind = "curve"
+    text_kind = ""
+    if row["library"] in WITHOUT_KIT:
+        line_kind = "ours"
+        text_kind = "strong"
     dash = DASHES.get(label, DASHES.get(name))
-    drawing.line("ours" if is_ours else "curve", *points, dash=dash)
+    drawing.line(line_kind, *points, dash=dash)
     x, y = points[-1]
     drawing.line("leader", (x, y), (x + 12, round(label_y, 1)))
-    drawing.text(x + 15, round(label_y + 4, 1), label, "strong" if is_ours else "")
+    drawing.text(x + 15, round(label_y + 4, 1), label, text_kind)
 
 
 def curves(drawing, top, rows, call):
     """One call: nanoseconds for each block call over the key's length, on the axes of all rows."""
     axes = axes_of(rows, top)
     drawing.text(8, top - 10, call, "strong")
-    grid(drawing, axes, sorted({int(row["key"]) for row in rows}))
-    of_library = {}
+    lengths = {int(row["key"]) for row in rows}
+    grid(drawing, axes, sorted(lengths))
+    libraries = {}
     for row in rows:
         if row["call"] == call:
-            of_library.setdefault(label_of(row), []).append(row)
-    points = [[axes.point(row) for row in found] for found in of_library.values()]
-    ends = apart([of_one[-1][1] for of_one in points], 16)
-    for (first, *_), of_one, end in zip(of_library.values(), points, ends):
-        curve(drawing, first, of_one, end)
+            libraries.setdefault(label_of(row), []).append(row)
+    points_of = {}
+    ends = []
+    for label, of_library in libraries.items():
+        points = [axes.point(row) for row in of_library]
+        _, end = points[-1]
+        points_of[label] = points
+        ends.append(end)
+    label_places = apart(ends, 16)
+    for (label, of_library), label_y in zip(libraries.items(), label_places):
+        curve(drawing, of_library[0], points_of[label], label_y)
 
 
 def wrap(about, rows):
@@ -222,8 +241,9 @@ def wrap(about, rows):
         "each 8 bytes of key. Below: the length of the key, in bytes.",
         "All scales are logarithmic. KEKs of 32 bytes.",
     )
-    for top, call in ((96, "wrap"), (346, "unwrap")):
-        curves(drawing, top, [row for row in rows if row["kek"] == "32"], call)
+    shown = [row for row in rows if row["kek"] == "32"]
+    curves(drawing, 96, shown, "wrap")
+    curves(drawing, 346, shown, "unwrap")
     drawing.note(about)
     return drawing
 
@@ -232,7 +252,8 @@ def bars(about, title, below, rows):
     """A bar for each row of a group, a label and a value, all on one scale. keywrap's bars are blue."""
     most = max(value for _, _, value in rows)
     groups = {name for name, _, _ in rows}
-    drawing = Drawing(108 + 28 * len(groups) + 26 * len(rows), title, title, below)
+    height = 108 + 28 * len(groups) + 26 * len(rows)
+    drawing = Drawing(height, title, title, below)
     y = 46
     group = None
     for name, label, value in rows:
@@ -247,11 +268,15 @@ def bars(about, title, below, rows):
 
 
 def bar(drawing, y, label, value, most):
-    is_ours = label.startswith("keywrap")
+    bar_kind = "bar"
+    text_kind = ""
+    if label.startswith("keywrap"):
+        bar_kind = "ours_bar"
+        text_kind = "strong"
     width = max(1, round(188 * value / most, 1))
     drawing.text(172, y + 15, label, "end")
-    drawing.box(180, y, width, 20, "ours_bar" if is_ours else "bar")
-    drawing.text(186 + width, y + 15, f"{value:,.0f}", "strong" if is_ours else "")
+    drawing.box(180, y, width, 20, bar_kind)
+    drawing.text(186 + width, y + 15, f"{value:,.0f}", text_kind)
 
 
 def many(about, rows):
@@ -259,28 +284,29 @@ def many(about, rows):
         "0": "plain to plain",
         "12": "the form kept, keys under the new KEK passed",
     }
+    shown = []
+    for row in rows:
+        if row["key"] == "32":
+            group = groups[row["flags"]]
+            shown.append((group, row["way"], int(row["ns_per_key"])))
     return bars(
         about,
         "Nanoseconds for a rewrap of a key of 32 bytes: less is better.",
         "KEKs of 32 bytes. One core.",
-        [
-            (groups[row["flags"]], row["way"], int(row["ns_per_key"]))
-            for row in rows
-            if row["key"] == "32"
-        ],
+        shown,
     )
 
 
 def lines(about, rows):
+    shown = []
+    for row in rows:
+        if row["job"] != "check":
+            shown.append((row["job"], row["way"], int(row["keys_per_second"])))
     return bars(
         about,
         "Keys per second of processor time: more is better.",
         "From a file into a file. Keys and KEKs of 32 bytes.",
-        [
-            (row["job"], row["way"], int(row["keys_per_second"]))
-            for row in rows
-            if row["job"] != "check"
-        ],
+        shown,
     )
 
 
@@ -309,22 +335,28 @@ def terminal_lines(line):
     mark, _, words = line.partition(" ")
     if mark == "$":
         first, *rest = textwrap.wrap(words, 55, break_on_hyphens=False)
-        parts = [f"$ {first}", *(f"    {part}" for part in rest)]
-        continued = [f"{part} \\" for part in parts[:-1]]
-        return [("shown", part) for part in [*continued, parts[-1]]]
+        parts = [f"$ {first}"]
+        for part in rest:
+            parts[-1] += " \\"
+            parts.append(f"    {part}")
+        return [("shown", part) for part in parts]
     colour = "faint" if mark == "during:" else "shown"
     return [(colour, part) for part in textwrap.wrap(words, 61)]
 
 
 def rotation():
-    record = (PICTURES / "rotation.txt").read_text(encoding="utf-8").splitlines()
-    length = record[0].partition(" ")[2]
-    shown = [part for line in record[1:] for part in terminal_lines(line)]
+    record = (PICTURES / "rotation.txt").read_text(encoding="utf-8")
+    heading, *lines = record.splitlines()
+    _, _, length = heading.partition(" ")
+    shown = []
+    for line in lines:
+        shown += terminal_lines(line)
     title = (
         f"A terminal during and after a rotation of a million keys of {length} bytes"
     )
-    drawing = Drawing(28 + 20 * len(shown), title)
-    drawing.box(1, 1, 478, 26 + 20 * len(shown), "screen")
+    height = 28 + 20 * len(shown)
+    drawing = Drawing(height, title)
+    drawing.box(1, 1, 478, height - 2, "screen")
     for number, (colour, words) in enumerate(shown):
         drawing.text(14, 28 + 20 * number, words, colour)
     return drawing
