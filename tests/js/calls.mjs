@@ -128,6 +128,18 @@ test('a host without WebAssembly', async () => {
         .finally(() => { globalThis.WebAssembly = kept; });
 });
 
+test('a server without keywrap.wasm', async () => {
+    const { URL: keptURL, fetch: keptFetch } = globalThis;
+    globalThis.URL = class extends keptURL {
+        constructor(path) { super(path, 'https://example.org/'); }
+    };
+    globalThis.fetch = async () => ({
+        ok: false, status: 404, statusText: 'Not Found', arrayBuffer: async () => new ArrayBuffer(0),
+    });
+    await assert.rejects(keywrapModule.load(), { message: 'https://example.org/keywrap.wasm: 404 Not Found' })
+        .finally(() => { Object.assign(globalThis, { URL: keptURL, fetch: keptFetch }); });
+});
+
 test('the exports, and the classes of the errors', () => {
     const parents = {
         BadInitialValue: KeywrapError, BadKekLength: KeywrapError, BadLength: KeywrapError,
