@@ -3,6 +3,7 @@ fresh.sh runs if it is asked to. And scripts/evidence.sh."""
 
 import os
 import pathlib
+import re
 import shutil
 import subprocess
 
@@ -74,3 +75,33 @@ def test_status_of_packages():
         ).returncode
         == 1
     )
+
+
+def tools_of_installed_packages():
+    """The tools of packages.txt whose Debian packages are installed here, and that are looked for by their name or
+    path. Others are found by a program that has to run: that may need more than the packages.
+    """
+    query = ["dpkg-query", "-W", "-f", "${Package} ${db:Status-Status}\n"]
+    listed = subprocess.run(query, stdout=subprocess.PIPE, text=True, check=True).stdout
+    installed = {*re.findall(r"^(\S+) installed$", listed, re.M)}
+    runs = re.compile("(?:compiles|sanitizes|strace|valgrind) ")
+    found = []
+    for line in (HERE / "packages.txt").read_text().splitlines():
+        if not line or line.startswith("#"):
+            continue
+        cells = [cell.strip() for cell in line.split("|", 2)]
+        tool, packages, command = (cells + [""])[:3]
+        is_by_name = not tool.startswith(("import ", "<")) and not runs.match(command)
+        if packages and is_by_name and installed.issuperset(packages.split()):
+            found.append(tool)
+    return found
+
+
+def test_tools_of_installed_packages():
+    """They are found: with a wrong name of a tool its rows would be skipped on every machine."""
+    tools = tools_of_installed_packages()
+    assert tools
+    ended = subprocess.run(
+        ["bash", HERE / "lib/tools.sh", *tools], stdout=subprocess.PIPE, text=True
+    )
+    assert ended.stdout == ""
