@@ -221,6 +221,34 @@ class TestRepeatedFacts:
         assert trust.are_listed("aa  a.tgz\n", "aa  a.tgz\n")
         assert not trust.are_listed("", "aa  a.tgz\n")
 
+    def test_a_sentence_without_its_number(self, monkeypatch):
+        """facts.py stops if a page lost the sentence: its number would be an old one for ever."""
+        monkeypatch.syspath_prepend(ROOT / "generate")
+        facts = importlib.import_module("facts")
+        read = facts.read
+
+        def read_without(name):
+            return read(name).replace("An instance has", "It has")
+
+        monkeypatch.setattr(facts, "read", read_without)
+        lacks = "js/README.md: lacks the place of a number"
+        with pytest.raises(SystemExit, match=lacks):
+            [*facts.results()]
+
+    def test_exports_are_written(self, monkeypatch):
+        """facts.py writes and compares the exports of each crate that has those of keywrap_c over another AES."""
+        monkeypatch.syspath_prepend(ROOT / "generate")
+        facts = importlib.import_module("facts")
+        written = {name for name, _ in facts.results()}
+        copies = set()
+        for path in ROOT.glob("crates/*/src/*.rt"):
+            name = str(path.relative_to(ROOT))
+            is_original = name.startswith("crates/keywrap_c/")
+            if not is_original and re.search(r"\bfn keywrap_\w+\(", text_of(name)):
+                copies.add(name)
+        assert len(copies) >= 8
+        assert copies - written == set()
+
     @pytest.mark.parametrize(
         "file, written",
         [
