@@ -157,6 +157,14 @@ $make wheel >row.log 2>&1
 verdict 'the wheel has only the sources' "$(diff -r -x README.md -x ROTATION.md -x build -x '*.egg-info' -x '*.so' \
     library/python python |
     grep -vE '^Only in library/python: (VERSION|command|keywrap(_steps)?.h|libkeywrap_hw.a|setup.cfg)$')"
+# What Python and `pip install` leave in the sources.
+mkdir -p python/{build/lib,src/keywrap.egg-info,src/keywrap/__pycache__}
+touch python/build/lib/gone.py python/src/keywrap.egg-info/SOURCES.txt
+touch python/src/keywrap/{_ffi.abi3.so,__pycache__/gone}
+$make wheel >row.log 2>&1
+same 'the wheel has nothing that pip left' '' \
+    "$(find library/python -name build -o -name '*.egg-info' -o -name '*.so' -o -name __pycache__)"
+rm -r python/build python/src/keywrap.egg-info python/src/keywrap/{_ffi.abi3.so,__pycache__}
 for prefix in '/opt/R&D' '/opt/a|b' '/opt/a\1b' '/opt/a/b'; do
     $make install-library PREFIX="$prefix"
     same "PREFIX='$prefix'" "prefix=$prefix" "$(head -n 1 "stage/$prefix/lib/pkgconfig/keywrap.pc")"
