@@ -134,8 +134,9 @@ final class Checks {
                 check(cipher.doFinal(large, 50, in.length, large, 60) == out.length, "the length");
                 check(Arrays.equals(Arrays.copyOfRange(large, 60, 60 + out.length), out), "in one array");
                 cipher.update(in, 0, 100);
-                byte[] small = new byte[out.length - 1];
-                throwsOne(ShortBufferException.class, () -> cipher.doFinal(in, 100, in.length - 100, small, 0));
+                // It lacks one byte from the offset on.
+                byte[] small = new byte[out.length + 9];
+                throwsOne(ShortBufferException.class, () -> cipher.doFinal(in, 100, in.length - 100, small, 10));
                 check(Arrays.equals(small, new byte[small.length]), "a small array was written");
                 check(Arrays.equals(cipher.doFinal(in, 100, in.length - 100), out), "after a small array");
                 ByteBuffer given = ByteBuffer.allocateDirect(in.length).put(in).flip();
