@@ -56,6 +56,31 @@ fn kept_keks() {
     assert_eq!(bytes.iter().filter(|byte| **byte != 0).count(), 1);
 }
 
+/// A refusal says which length is wrong: that of the slots, or of a buffer, with the right one.
+#[test]
+fn refused_lengths_of_many() {
+    let kek = KekAes128::from([1; 16]);
+    let refused = |slot_len: usize, scratch_len: usize, forms: usize, lens: usize| {
+        let (mut padded, mut key_lens) = (vec![0; forms], vec![0; lens]);
+        let (slots, mut scratch) = (vec![0; 2 * slot_len], vec![0; scratch_len]);
+        let mut statuses = [Status::default(); 2];
+        let kinds = kek.kind_many(
+            &slots,
+            &mut scratch,
+            &mut padded,
+            &mut key_lens,
+            &mut statuses,
+        );
+        kinds.map(|_| ()).err()
+    };
+    let of_buffer = |expected| Some(InvalidOutputSize { expected });
+    assert_eq!(refused(40, 32, 2, 2), None);
+    assert_eq!(refused(41, 33, 2, 2), Some(Error::InvalidDataSize));
+    assert_eq!(refused(40, 31, 2, 2), of_buffer(32));
+    assert_eq!(refused(40, 32, 1, 2), of_buffer(2));
+    assert_eq!(refused(40, 32, 2, 3), of_buffer(2));
+}
+
 /// Code that is written for aes-kw.
 #[test]
 fn shape_of_aes_kw() {
