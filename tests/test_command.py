@@ -12,11 +12,11 @@ import sys
 import pytest
 
 from builds import program_in_c, run
-from commands import ANSWERS, REFUSALS
-from program import IN_C, Ended, Program, all_of, evidence, slow
+from commands import ANSWERS, REFUSALS, WRAP
+from program import IN_C, Ended, Program, all_of, evidence, refused, slow
 from test_random_arguments import Lines, make_files, state
 from tools import need
-from vectors import VECTOR_LINES
+from vectors import KEY16, NOT_FLUSHED, VECTOR_LINES, WRAPPED16
 
 ROOT = pathlib.Path(__file__).resolve().parent.parent
 DIST = ROOT / "dist"
@@ -129,7 +129,19 @@ def test_version(in_c, keywrap):
     translated = Program(in_c)
     ended_in_c = translated("--version")
     assert ended_in_c == ended._replace(stdout=first_line + IN_C)
+    assert translated("-V") == ended_in_c
     assert translated("wrap --version").stdout == first_line
+
+
+def test_version_without_room(in_c):
+    """The second line is written apart from the first, and without room for it the run fails, too."""
+    translated = Program(in_c)
+    whole = translated("--version").stdout
+    first_line = whole.removesuffix(IN_C)
+    for room in len(first_line), len(whole) - 1:
+        ended = translated("--version", stdout="out", limits={"FSIZE": room})
+        assert ended == Ended(6)
+        assert pathlib.Path("out").read_text() == whole[:room]
 
 
 def assert_rows(path, file, record_property, with_slow=True):
@@ -150,6 +162,39 @@ def test_rows(in_c, record_property, file):
 def test_rows_for_other_systems(in_c_for_others, record_property, file):
     """Linux runs what host.c has for other systems: their numbers of errors, and the names of standard streams."""
     assert_rows(in_c_for_others, file, record_property, with_slow=False)
+
+
+@slow
+def test_without_proc(in_c_for_others):
+    """Linux names the standard streams in /proc, which other systems do not have."""
+    hidden = ["unshare", "-rm", "sh", "-c", 'mount -t tmpfs none /proc; exec "$@"', "-"]
+    translated = Program(in_c_for_others)
+    lines = f"{WRAP} --lines --keep-going --verbose"
+    given = pathlib.Path("key.hex")
+
+    ended = translated(f"{lines} -o key.hex", stdin=given, prefix=hidden)
+    reason = (
+        "key.hex: is the input, whose refused lines would be lost with --keep-going"
+    )
+    assert ended == refused(6, "output: cannot be opened", reason)
+
+    output = pathlib.Path("out")
+    output.write_text("old\n")
+    ended = translated(f"{lines} -o out", stdin=given, prefix=hidden)
+    assert ended.status == 0, ended.stderr
+    assert output.read_text() == f"{WRAPPED16}\n"
+
+
+@slow
+def test_error_that_only_another_system_has(in_c_for_others, preloaded):
+    """It keeps its text. 117 is not in the table, and stands for such an error."""
+    program = preloaded("fail_call", Program(in_c_for_others))
+    ended = program(
+        f"{WRAP} -i key.hex --verbose -o out", FAIL_CALL="rename", FAIL_ERRNO="117"
+    )
+    text = os.strerror(117)
+    reason = f"out: {text} (os error {4096 + 117})"
+    assert ended == refused(6, NOT_FLUSHED, reason)
 
 
 @slow
