@@ -1,9 +1,9 @@
 /* A read for the tests of --lines, built as a shared library that LD_PRELOAD names. FAIL_READ=N makes the Nth call
    fail with EIO, and then a byte goes to the descriptor that MET names. SLOW_READ=N makes each call wait N
    milliseconds. HOLD_READ=N makes a call wait, once N bytes were read, until there is a file `go`. KEEP_READ=N keeps N
-   bytes of memory for each 33 that a call reads, and a call fails if there are none. With TICK_READ=N the clock only
-   goes on by N milliseconds in each call, whatever the machine does. No header is included, since the kit's compiler
-   has none. */
+   bytes of memory for each 33 that a call reads, and a call fails if there are none. With TICK_READ=N the clock that
+   nobody sets only goes on by N milliseconds in each call, whatever the machine does. No header is included, since the
+   kit's compiler has none. */
 
 extern char *getenv(const char *name);
 extern void *malloc(unsigned long size);
@@ -13,7 +13,7 @@ extern long write(int descriptor, const void *bytes, unsigned long count);
 extern long syscall(long number, ...);
 extern int *__errno_location(void);
 
-enum { EIO = 5, SYS_READ = 0, SYS_CLOCK_GETTIME = 228 };
+enum { EIO = 5, SYS_READ = 0, SYS_CLOCK_GETTIME = 228, MONOTONIC = 1 };
 
 static long calls;
 
@@ -46,7 +46,7 @@ struct time {
 
 int clock_gettime(int clock, struct time *now) {
     long tick = wish("TICK_READ"), milliseconds = calls * tick;
-    if (!tick) return (int)syscall(SYS_CLOCK_GETTIME, clock, now);
+    if (!tick || clock != MONOTONIC) return (int)syscall(SYS_CLOCK_GETTIME, clock, now);
     now->seconds = milliseconds / 1000;
     now->nanoseconds = milliseconds % 1000 * 1000000;
     return 0;
