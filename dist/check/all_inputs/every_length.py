@@ -9,6 +9,7 @@ from calls import (
     BAD_IV,
     BAD_KEK,
     BAD_LENGTH,
+    CALLS,
     INTEGRITY,
     KEEP_FORM,
     KEPT_KEKS,
@@ -727,6 +728,25 @@ def refuse_keks(name):
     return call
 
 
+# A padded key of one register is one block, without a loop. It has few lengths: calls.py has a call of each.
+
+TEXT_OF_ONE_REGISTER = 16
+KEYS_OF_ONE_REGISTER = {
+    "wrap_padded": range(1, 9),
+    "wrap_padded_in_place": range(1, 9),
+    "unwrap_padded": [8],
+    "unwrap_padded_in_place": [8],
+    "unwrap_any": [8],
+    "kind": [8],
+}
+
+
+def perform_known(given, name, *numbers):
+    """Proves a call of calls.py, in which the lengths are known."""
+    terms.forget()
+    CALLS[name](given, *numbers)
+
+
 # A rewrap is refused for a length, for flags or for one of its KEKs.
 
 f = unknown("f")
@@ -769,9 +789,11 @@ def accepts_one_register(flags):
 
 
 def rewrap_with_refusals(name, legal):
-    """Returns the call with all lengths, legal or not, but that of a key of one register."""
+    """Returns the call with all lengths, legal or not."""
 
     def call(given, old_len, new_len, flags):
+        if accepts_one_register(flags):
+            perform_known(given, name, old_len, new_len, TEXT_OF_ONE_REGISTER, flags)
         legal(given, old_len, new_len, flags)
         cases = NO_TEXT if accepts_one_register(flags) else NO_PLAIN_TEXT
         keks = legal_keks(old_len, new_len)
@@ -817,6 +839,8 @@ def with_refusals(name, legal):
     """Returns the call with all lengths, legal or not."""
 
     def call(given, kek_len):
+        for length in KEYS_OF_ONE_REGISTER.get(name, ()):
+            perform_known(given, name, kek_len, length)
         legal(given, kek_len)
         refuse_lengths(given, name, kek_len)
 
