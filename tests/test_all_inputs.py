@@ -2,6 +2,7 @@
 standard. The lists of one object are independent, and each is one process."""
 
 import hashlib
+import itertools
 import pathlib
 import re
 import shutil
@@ -151,6 +152,24 @@ def test_short_list():
     assert names == {*bugs.calls.CALLS}
     # The module does not have these two.
     assert branching(output) == BRANCHING - {"begin_wrap_many", "end_unwrap_many"}
+
+
+def test_short_list_has_every_kek_and_all_flags():
+    """README.md of the checker says which calls at every length a pass of the short list is about."""
+    every_kek = {16, 24, 32, 184, 216, 248}
+    listed = set(bugs.lists.short_list())
+    for name, kek in itertools.product(bugs.lists.FOR_ONE_KEY, every_kek):
+        assert (f"{name}_at_every_length", kek) in listed
+    for flags in range(16):
+        for name, is_legal in (
+            ("rewrap", flags in (0, 1, 2, 3, 4, 8, 9, 10, 11, 12)),
+            ("rewrap_in_place", flags in (0, 1, 2, 3)),
+        ):
+            is_listed = (f"{name}_at_every_length", 16, 24, flags) in listed
+            assert is_listed == is_legal
+    rewraps = [call for call in listed if call[0] == "rewrap_at_every_length"]
+    assert {old for _, old, _, _ in rewraps} == every_kek
+    assert {new for _, _, new, _ in rewraps} == every_kek
 
 
 @pytest.mark.parametrize(
@@ -580,6 +599,15 @@ def test_status_of_a_list_with_a_refusal(tmp_path, monkeypatch):
         bugs.lists.LISTS, "short", lambda: [("wrap", 16, 16), ("wrap", 16, 20)]
     )
     assert bugs.check.main([str(tmp_path / "bug.wasm")]) == 1
+
+
+@pytest.mark.needs("wasm2wat")
+def test_status_of_a_list_with_a_wrong_export(tmp_path, monkeypatch, capsys):
+    """Each call passes, but an export is in no header."""
+    bugs.planted(MODULE, "one export more", tmp_path)
+    monkeypatch.setitem(bugs.lists.LISTS, "short", lambda: [("version",)])
+    assert bugs.check.main([str(tmp_path / "bug.wasm")]) == 1
+    assert "1 of 1 calls pass" in capsys.readouterr().out
 
 
 # Arguments that are wrong, and what the checker says of them. OBJECT is the module.
