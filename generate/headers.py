@@ -209,7 +209,11 @@ PLACES = [
         WHOLE_CALLS - UNWRAPS_IN_PLACE - VERSION_1_0 - WITHOUT_KEY,
     ),
     Place("tests/portable/fuzz_call.c", C, ALL_CALLS - WITHOUT_BUFFER),
-    Place("tests/portable/lengths.c", C, WHOLE_CALLS - WITHOUT_KEY - KEPT_KEKS),
+    Place(
+        "tests/portable/lengths.c",
+        C,
+        (WHOLE_CALLS | STEPS_OF_MANY) - WITHOUT_KEY - KEPT_KEKS,
+    ),
     Place("tests/secrets/calls.h", C, WHOLE_CALLS - WITHOUT_KEY - {"kek_clear"}),
 ]
 

@@ -1,6 +1,7 @@
 /* lengths.c: the longest keys, and lengths that are legal only in their low 32 bits, over keywrap.c of dist/. */
 
 #include <keywrap.h>
+#include <keywrap_steps.h>
 #include <stdio.h>
 #include <stdlib.h>
 #include <string.h>
@@ -62,8 +63,30 @@ static void refuses_huge_lengths(void) {
           "a huge slot of a check", 18);
 }
 
+/* More than 1 GiB of wrapped keys and of blocks. */
+static void refuses_steps_of_too_many(void) {
+    const size_t count = ((size_t)1 << 26) + 1, len = 24, texts = count * len, blocks = count * 16;
+    uint64_t steps = 0;
+    check(keywrap_begin_wrap_many(iv, 8, key, texts, len, &steps, out, blocks)
+              == KEYWRAP_BAD_LENGTH,
+          "steps of too many", 0);
+    check(keywrap_step_wrap_many(out, texts, len, &steps, wrapped, blocks) == KEYWRAP_BAD_LENGTH,
+          "steps of too many", 1);
+    check(keywrap_end_wrap_many(out, texts, len, 12, key, blocks) == KEYWRAP_BAD_LENGTH,
+          "steps of too many", 2);
+    check(keywrap_begin_unwrap_many(key, texts, len, &steps, out, blocks) == KEYWRAP_BAD_LENGTH,
+          "steps of too many", 3);
+    steps = 12;
+    check(keywrap_step_unwrap_many(out, texts, len, &steps, wrapped, blocks) == KEYWRAP_BAD_LENGTH,
+          "steps of too many", 4);
+    check(keywrap_end_unwrap_many(iv, 8, out, texts, len, 0, wrapped, blocks, key, count)
+              == KEYWRAP_BAD_LENGTH,
+          "steps of too many", 5);
+}
+
 int main(void) {
     refuses_huge_lengths();
+    refuses_steps_of_too_many();
     for (int name = 0; name < CALLS; name++) {
         check(call(name, MAX) == (name < 5 ? KEYWRAP_OK : KEYWRAP_INTEGRITY), "the longest", name);
         check(call(name, MAX + 8) == (name != 11 ? KEYWRAP_BAD_LENGTH : KEYWRAP_INTEGRITY),
