@@ -473,7 +473,7 @@ ON_ARM = [
 # The programs for each processor, how they run here, and the AES that they choose.
 PROCESSORS = {
     "x86-64 with AES": ("here", ["qemu-x86_64", "-cpu", "max"], "instructions"),
-    "x86-64 without AES": ("here", ["qemu-x86_64", "-cpu", "Nehalem"], "software"),
+    "x86-64 without AES": ("here", ["qemu-x86_64", "-cpu", "max,-aes"], "software"),
     "aarch64 with AES": ("arm", ON_ARM, "instructions"),
     "aarch64 without AES": ("arm-without", ON_ARM, "software"),
 }

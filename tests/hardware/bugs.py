@@ -24,7 +24,7 @@ ROWS = "rows"
 PROGRAMS = {
     "chooses": (
         "tests/hardware/chosen.c c/aes/aes.c c/aes/x86_64.c",
-        "qemu-x86_64 -cpu max ./program && qemu-x86_64 -cpu Nehalem ./program",
+        "qemu-x86_64 -cpu max ./program && qemu-x86_64 -cpu max,-aes ./program",
         "instructions\nsoftware\n",
     ),
     "refuses_wrong_aes": (
