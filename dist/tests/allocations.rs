@@ -54,12 +54,13 @@ fn too_long() {
 /// The cipher fails before it has encrypted a block, which has half of a key.
 #[test]
 fn copies_of_keys_are_cleared() {
-    let mut slots = [0; 2 * 24];
+    // More slots than the first blocks of a vector that grows.
+    let mut slots = [0; 5 * 24];
     for slot in slots.chunks_exact_mut(24) {
         slot[8..16].copy_from_slice(&SECRET);
     }
     let fails = |_: &mut [[u8; 16]]| Err("gone");
-    let ended = many::wrap(Form::Plain, &mut slots, 16, 2, fails);
+    let ended = many::wrap(Form::Plain, &mut slots, 16, 5, fails);
     assert_eq!(ended, Err(Stopped::Cipher("gone")));
     assert_eq!(LEFT.load(SeqCst), 0);
     // The allocator sees one that is not cleared.

@@ -106,7 +106,9 @@ impl Lanes {
         mut cipher: impl FnMut(&mut [[u8; 16]]) -> core::result::Result<(), E>,
     ) -> core::result::Result<(), Stopped<E>> {
         let running = self.states.iter().filter(|state| runs(state));
-        let mut blocks = Blocks(running.map(|state| state.block).collect());
+        // A vector that grows would leave copies of the blocks in freed memory.
+        let mut blocks = Blocks(Vec::with_capacity(self.states.len()));
+        blocks.0.extend(running.map(|state| state.block));
         for _ in 0..calls::step_count(room(self.text_len)) {
             cipher(&mut blocks.0).map_err(Stopped::Cipher)?;
             let texts = self.texts.chunks_exact_mut(self.text_len);
