@@ -149,6 +149,18 @@ def test_a_refused_line_is_named_and_stays_to_the_byte(
         assert file.read_bytes() == with_line(number, line, NEW)
 
 
+@pytest.mark.parametrize("line", [b"%b0\n", b"0%b\n"], ids=["last", "first"])
+def test_lines_with_a_digit_too_many(file, line):
+    """Both lines together have an even number of digits, and neither is a key."""
+    content = b"".join(
+        line % wrapped_under(KEK, key).hex().encode() for key in EQUAL[:2]
+    )
+    file.write_bytes(content)
+    why = "not in the notation of the store"
+    assert refused(file) == [f"line 1: {why}", f"line 2: {why}"]
+    assert file.read_bytes() == content
+
+
 class Rotated(NamedTuple):
     """What a rotation makes of a line: the line afterwards, whether it is refused, and whether it was new."""
 
