@@ -230,6 +230,23 @@ class TestAnswersOfOtherKeys:
             self.rewrapped(old, new)
 
 
+@pytest.mark.parametrize(
+    "old, new",
+    [
+        (MixedUp(KEK, None), MixedUp(NEW_KEK, None)),
+        (MixedUp(KEK, None), NEW_KEK),
+        (KEK, MixedUp(NEW_KEK, None)),
+    ],
+    ids=["both in tokens", "old in a token", "new in a token"],
+)
+def test_keys_of_several_lengths_in_one_call(old, new):
+    """A key of 24 bytes is wrapped plain, and shorter ones are padded: all have wrapped keys of 32 bytes."""
+    keys = [bytes(range(length)) for length in range(17, 25)]
+    texts = bytearray().join(wrapped_under(KEK, key) for key in keys)
+    assert not any(kek_calls.rewrap_slots(old, new, texts, 32))
+    assert texts == b"".join(wrapped_under(NEW_KEK, key) for key in keys)
+
+
 PAIRS = ["both", "old", "new"]
 
 
