@@ -393,6 +393,21 @@ class TestTable:
             assert done.has("database disk image is malformed")
 
 
+class Clock:
+    """Stands for the module `time`: nobody waits, and the sleeps are noted."""
+
+    def __init__(self):
+        self.now = 0
+        self.slept = []
+
+    def monotonic(self):
+        return self.now
+
+    def sleep(self, seconds):
+        self.slept.append(seconds)
+        self.now += seconds
+
+
 class TestWriters:
     @pytest.mark.parametrize(
         "statement, values, keys",
@@ -484,6 +499,20 @@ class TestWriters:
         )
         rotated(database)
         assert run_sql(database, "SELECT owner FROM keys WHERE id = 10") == [("other",)]
+
+    def test_others_get_the_lock_for_as_long_as_the_run(self, database, monkeypatch):
+        """Each write takes three seconds of this clock. The run waits as long before the next one."""
+        clock = Clock()
+
+        def slow_write(*given, real=sqlite._Table.write):
+            real(*given)
+            clock.now += 3
+
+        monkeypatch.setattr(sqlite, "time", clock)
+        monkeypatch.setattr(sqlite._Table, "write", slow_write)
+        monkeypatch.setattr("keywrap_rotate.keys.ROWS", 5)
+        assert rotated(database).keys == 12
+        assert clock.slept == [0, 3, 3]
 
     @pytest.mark.parametrize("lock", ["BEGIN IMMEDIATE", "BEGIN EXCLUSIVE"])
     def test_a_locked_database(self, database, monkeypatch, lock):
