@@ -7,6 +7,7 @@ import sys
 
 import pytest
 
+from keywrap_rotate import options
 from rotation_help import (
     KEK,
     NEW_KEK,
@@ -133,6 +134,35 @@ class TestRun:
         assert done.has("no such column")
         assert state(stores / "store", STORE_KEYS) == ["new", "new"]
         assert kek_of_tables(stores) == ["old", "new"]
+
+
+FILES = 'files = "y"\n'
+NAMED = f'csv = "c"\nkek-name = "n"\n{FILES}'
+
+
+@needs_toml
+@pytest.mark.parametrize(
+    "key, of_run, of_store",
+    [
+        ("kek", 'kek = "x"', FILES),
+        ("new-kek", 'new-kek = "x"', FILES),
+        ("keks", 'keks = "x"', NAMED),
+        ("new-keks", 'new-keks = "x"', NAMED),
+        ("new-challenge", 'new-challenge = "x"', FILES),
+        ("report", 'report = "x"', FILES),
+        ("files", "", 'files = "x"'),
+        ("files-from", "", 'files-from = "x"'),
+        ("defaults-file", "", 'mariadb = "t"\ndefaults-file = "x"'),
+    ],
+)
+def test_a_path_begins_at_the_directory_of_the_file(tmp_path, key, of_run, of_store):
+    """The run begins in the directory above."""
+    (tmp_path / "below").mkdir()
+    path = tmp_path / "below/run.toml"
+    path.write_text(f"{of_run}\n[[store]]\n{of_store}\n")
+    (store,) = options.parse(["--config", str(path)]).stores
+    expected = str(tmp_path / "below/x")
+    assert getattr(store, key.replace("-", "_")) in (expected, [expected])
 
 
 # Somebody asks for the end of the run after the last pass of a store.
