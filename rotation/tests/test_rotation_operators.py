@@ -139,6 +139,15 @@ class TestHeadingOfAReport:
         assert rotate("--report", "report", store) == 0
         assert rotate("--verify", "--verify-record", "report", store) == 0
 
+    def test_a_name_of_an_earlier_pass_is_not_missed(self, store):
+        """The first pass had the file by another name."""
+        assert rotate("--report", "report", store) == 0
+        heading, *lines = pathlib.Path("report").read_text().splitlines(keepends=True)
+        assert f"{store}/0" in lines[0]
+        lines[0] = lines[0].replace(f"{store}/0", f"{store}/before")
+        pathlib.Path("record").write_text("".join([heading, *lines]))
+        assert rotate("--verify", "--verify-record", "record", store) == 0
+
 
 class TestRefused:
     def test_twenty_are_shown_and_the_report_has_all(self, store):
