@@ -257,6 +257,23 @@ class TestPasses:
         assert holes < 15
 
 
+class Restless(Memory):
+    """Others rename a key after each listing, before it is read."""
+
+    def seen(self):
+        found = super().seen()
+        one, other = "ab" if "a" in self.places else "ba"
+        self.move(one, other)
+        return found
+
+
+def test_a_key_that_no_pass_can_read():
+    """Two passes in a row write nothing, and the key is still there: this is no success, and its file is named."""
+    made = run(Restless({"a": "old", "c": "new"}, "abc"))
+    assert made.status() == UNFINISHED
+    assert made.left_out in (["a"], ["b"])
+
+
 def write(place, state):
     return lambda store: store.places.__setitem__(place, Key(state))
 
