@@ -5,6 +5,7 @@ usage: instructions.py DIRECTORY        (TREE names a changed copy of generate/,
 
 import os
 import pathlib
+import shutil
 import subprocess
 import sys
 
@@ -30,9 +31,9 @@ EDGES = {
         32767,
         32768,
         65535,
-        1 << 31,
-        (1 << 31) - 1,
-        (1 << 32) - 1,
+        0x80000000,
+        0x7FFFFFFF,
+        0xFFFFFFFF,
     ],
     "i64": [
         0,
@@ -43,21 +44,22 @@ EDGES = {
         65,
         128,
         32768,
-        1 << 31,
-        1 << 32,
-        (1 << 32) - 1,
-        1 << 63,
-        (1 << 63) - 1,
-        (1 << 64) - 1,
+        0x80000000,
+        0x100000000,
+        0xFFFFFFFF,
+        0x8000000000000000,
+        0x7FFFFFFFFFFFFFFF,
+        0xFFFFFFFFFFFFFFFF,
         0x0123456789ABCDEF,
     ],
     "f64": ["0", "1", "-1", "0.5", "3", "12345678.25", "-inf", "inf"],
 }
+PARTS = {"8_u": 1, "8_s": 1, "16_u": 2, "16_s": 2, "8": 1, "16": 2}
 WIDTHS = {
-    "i32": {"": 4, "8_u": 1, "8_s": 1, "16_u": 2, "16_s": 2, "8": 1, "16": 2},
+    "i32": {"": 4, **PARTS},
     "f64": {"": 8},
+    "i64": {"": 8, **PARTS, "32_u": 4, "32_s": 4, "32": 4},
 }
-WIDTHS["i64"] = {**WIDTHS["i32"], "": 8, "32_u": 4, "32_s": 4, "32": 4}
 # At 16, the top of the stack.
 STACK = bytes.fromhex("f0e1d2c3b4a5968778695a4b3c2d1e0f8f9eadbccbdae9f8")
 DATA = "".join(f"\\{byte:02x}" for byte in STACK)
@@ -91,25 +93,30 @@ def operands_of(name):
     edges = [f"({kind}.const {value})" for value in EDGES[kind]]
     if name in command.UNARY:
         return edges
-    divisors = edges
-    if kind != "f64" and ("div" in name or "rem" in name):
-        divisors = [edge for edge in edges if not edge.endswith(" 0)")]
-    return [f"{one} {other}" for one in edges for other in divisors]
+    second_operands = edges
+    is_division = "div" in name or "rem" in name
+    if is_division and kind != "f64":
+        second_operands = [edge for edge in edges if not edge.endswith(" 0)")]
+    return [f"{one} {other}" for one in edges for other in second_operands]
 
 
 def loads_and_stores(kind):
     """Each load from the stack and each store over ones, aligned and not."""
     for width, size in WIDTHS[kind].items():
+        # Only a load has a sign: "8_u" and "8_s" are loads, "8" is a store, and "" is both.
         loads = not width.isdecimal()
         stores = not width or width.isdecimal()
         if loads:
-            yield kind, f"({kind}.load{width} (i64.const 16))"
-            yield kind, f"({kind}.load{width} offset=9 align=1 (i64.const 16))"
+            load = f"{kind}.load{width}"
+            yield kind, f"({load} (i64.const 16))"
+            yield kind, f"({load} offset=9 align=1 (i64.const 16))"
         if stores:
+            aligned = f"{kind}.store{width}"
+            unaligned = f"{aligned} offset={8 - size} align=1"
             for value in EDGES[kind]:
-                for place in "", f" offset={8 - size} align=1":
-                    store = f"({kind}.store{width}{place} (i64.const 64) ({kind}.const {value}))"
-                    yield "i64", f"{ONES} {store} {READ}"
+                operands = f"(i64.const 64) ({kind}.const {value})"
+                for store in aligned, unaligned:
+                    yield "i64", f"{ONES} ({store} {operands}) {READ}"
 
 
 def cases():
@@ -152,12 +159,14 @@ def functions():
 
 def results_of_engine(here, functions):
     """Returns the results that Node computes."""
-    (here / "plain.wat").write_text(f"(module\n{MEMORY}{''.join(functions)})\n")
+    text = here / "plain.wat"
+    module = here / "plain.wasm"
+    text.write_text(f"(module\n{MEMORY}{''.join(functions)})\n")
     # Node has no 64-bit memory.
-    lowered = ["--memory64-lowering", here / "plain.wat", "-o", here / "plain.wasm"]
+    lowered = ["--memory64-lowering", text, "-o", module]
     subprocess.run([*ASSEMBLE, *lowered], check=True, capture_output=True)
     script = f"""
-const bytes = require('fs').readFileSync('{here / 'plain.wasm'}');
+const bytes = require('fs').readFileSync('{module}');
 const {{ exports }} = new WebAssembly.Instance(new WebAssembly.Module(bytes));
 let output = '';
 for (let i = 0; i < {len(functions)}; i++) {{
@@ -170,33 +179,33 @@ process.stdout.write(output);"""
 
 def results_in_c(here, functions):
     """Returns the results of the translation in C."""
-    (here / "whole.wat").write_text(
+    whole = here / "whole.wat"
+    whole.write_text(
         '(module (import "env" "unused" (func $unused))\n'
         "(global $__stack_pointer (mut i64) (i64.const 16))\n"
         f"{MEMORY}{''.join(functions)})\n"
     )
-    text = subprocess.run(
-        [*ASSEMBLE, here / "whole.wat", "-S", "-o", "-"],
-        check=True,
-        capture_output=True,
-        text=True,
-    ).stdout
-    module = command.Module(command.parsed(text))
-    (here / "program.h").write_text(module.header())
-    (here / "module.h").write_text((ROOT / "dist/command/module.h").read_text())
+    assembled = subprocess.run(
+        [*ASSEMBLE, whole, "-S", "-o", "-"], check=True, capture_output=True, text=True
+    )
+    module = command.Module(command.parsed(assembled.stdout))
     calls = ""
     for number in range(len(functions)):
         call = f"(unsigned long long)module_x{number}()"
         calls += f'    printf("%llu\\n", {call});\n'
-    (here / "program.c").write_text(
+    source = here / "program.c"
+    source.write_text(
         '#include <stdio.h>\n#include "module.h"\nstatic ALIGNED u8 memory[128];\nu8 *base = memory;\n'
         f"{module.text()}\nint main(void) {{\n    memcpy(memory + TOP, constants, sizeof constants);\n{calls}"
         "    return 0;\n}\n"
     )
+    header = here / "program.h"
+    header.write_text(module.header())
+    shutil.copy(ROOT / "dist/command/module.h", here)
+    program = here / "program"
     options = ["-O0", "-w", "-fsanitize=address"]
-    files = [here / "program.c", "-o", here / "program"]
-    subprocess.run(["cc", *options, *files], check=True)
-    return lines_of([here / "program"])
+    subprocess.run(["cc", *options, source, "-o", program], check=True)
+    return lines_of([program])
 
 
 def lines_of(command_line):

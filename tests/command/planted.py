@@ -127,12 +127,16 @@ if (is_bad) return 0u;""",
 
 def with_bug(text, bug):
     """Inserts the code of a bug before the first match in its function."""
-    start = text.index(f"/* {bug.function}") if bug.function else 0
+    start = 0
+    end = len(text)
+    if bug.function:
+        start = text.index(f"/* {bug.function}")
+        end = text.find("\n}\n", start)
     found = re.compile(bug.before).search(text, start)
-    end = text.find("\n}\n", start) if bug.function else len(text)
     if found is None or found.start() > end:
         raise SystemExit(f"planted.py: no place for: {bug.name}")
-    return f"{text[:found.start()]}{bug.inserted}\n{text[found.start():]}"
+    at = found.start()
+    return f"{text[:at]}{bug.inserted}\n{text[at:]}"
 
 
 def main(directory):
