@@ -533,8 +533,9 @@ class TestFaults:
         assert len({pid for pid, _ in sessions}) >= 4
         assert all(pid == owner for pid, owner in sessions)
         assert parent not in {pid for pid, _ in sessions + calls("C_Initialize")}
-        # A process opens one session for each KEK.
-        assert len(sessions) <= 2 * len({pid for pid, _ in sessions})
+        # A process opens one session for each KEK. It opens them again if a call failed, as SoftHSM's may on a busy
+        # machine. Then it initializes the library again, too.
+        assert len(sessions) <= 2 * len(calls("C_Initialize"))
 
     @pytest.mark.parametrize(
         "function, value",
