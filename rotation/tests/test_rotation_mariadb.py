@@ -582,6 +582,23 @@ mariadb._Pass._update = checked"""
         assert rotated() == 0
         assert mariadb.held() == NEW
 
+    def test_a_deadlock_with_another_session(self, mariadb):
+        """The server has undone the batch. The pass goes on, and writes it at its end."""
+        program = patched(
+            """import pymysql
+from keywrap_rotate import mariadb
+deadlocks = [pymysql.err.OperationalError(1213, "Deadlock found")]
+def put(*words, real=mariadb._Pass._put):
+    if deadlocks:
+        raise deadlocks.pop()
+    real(*words)
+mariadb._Pass._put = put"""
+        )
+        done = rotated(program=program)
+        assert done.status == 0, done
+        assert done.counts["pass"] == 2, done
+        assert mariadb.held() == NEW
+
     @pytest.mark.parametrize("words", [[], ["--verify"]], ids=["rotate", "verify"])
     def test_a_schema_change_waits_for_no_pass(self, mariadb, words):
         """The change does not wait, also if the pass writes nothing. Its end is reported once, and nothing else."""
