@@ -9,6 +9,10 @@ import socket
 import time
 
 import pytest
+
+from keywrap_rotate import challenges
+from keywrap_rotate.found import Refused, found_by
+from keywrap_rotate.keys import Notation
 from rotation_help import (
     KEK,
     NEW_KEK,
@@ -554,6 +558,28 @@ class TestSessions:
                 done = end(running, timeout=60)
         assert done.status == 130, done
         assert done.has("interrupted"), done
+
+    def test_a_worker_after_a_unit_that_failed(self, server, monkeypatch):
+        """A worker of Dask keeps its connection for later units and passes. It has no cursor of the failed one."""
+        postgresql = importlib.import_module("keywrap_rotate.postgresql")
+        store = postgresql.Postgresql("keys", "key", Notation(), None)
+        rings = challenges().rings()
+
+        def done(unit):
+            return found_by(lambda found: store.do(unit, rings, False, found))
+
+        def failing(*given):
+            raise Refused("a unit that fails")
+
+        with store.listed(may_write=False) as listing:
+            (unit,) = listing.units
+            with monkeypatch.context() as patch:
+                patch.setattr(postgresql, "rewrapped_rows", failing)
+                assert done(unit).named == [("", "a unit that fails")]
+            later = done(unit)
+        postgresql._kept.connection.close()
+        assert later.named == []
+        assert sum(later.old.values()) == 60
 
     @pytest.mark.parametrize("is_prepared", [False, True])
     def test_a_transaction_that_is_older_than_the_run(self, server, is_prepared):
