@@ -64,6 +64,14 @@ def test_proofs(proved):
 
 @slow
 @needs_coq
+def test_theorems_say_what_the_readme_says(proved, tmp_path):
+    """Coq derives each sentence of "What is proved" from the theorems, which say no less."""
+    claims = shutil.copy(ROOT / "tests/theory_claims.v", tmp_path)
+    run("coqc", "-noglob", "-Q", proved / "out", "", claims)
+
+
+@slow
+@needs_coq
 def test_values_of_the_checkers_standard(proved):
     """As make -C theory compare does, with fewer cases."""
     sys.path.insert(0, str(compare.CHECKER))
