@@ -291,7 +291,9 @@ def documented_secrets(name):
 @pytest.mark.parametrize(
     "name",
     all_of(
-        [*NATIVE, "gcc, tables", "clang, tables"], [], ["gcc", "clang", "gcc, tables"]
+        [*NATIVE, "gcc, tables", "clang, tables", "aarch64"],
+        [],
+        ["gcc", "clang", "gcc, tables"],
     ),
 )
 @pytest.mark.parametrize(
